@@ -1,0 +1,102 @@
+-- A call's outcome from its refusal: the code's chain of tests against the definition's, and the two ways in which a call ends.
+use Prim.Native.Nat.{ℕ, zero, suc, _+_, _*_, _<_, _≤_}
+use mathlib.Core.Path.{_≡_, refl, sym, _∙_, ap, subst}
+use mathlib.Core.Bool.{Bool, true, false, cond}
+use mathlib.Core.Logic.{⊎-elim}
+use mathlib.Core.List.{List}
+use native.Mathlib.Omega.{arith}
+use lib.ListN.{length}
+use borrow.Author.Tests.{lt-ltb, le-ltb}
+use Rattle.graph.specs.declared.Command.{Command}
+use Rattle.graph.specs.declared.Command.the-variants.{NewTd, NewEdge, Release, Transfer, Start, Stop}
+use Rattle.graph.specs.declared.Done.{Done}
+use Rattle.graph.specs.declared.Tally.{Tally}
+use Rattle.graph.specs.Tables.{Lent, lent, usableLimit, vertexWords, edgeWords, vertexRows, edgeRows, RELEASED, FINISHED, status, setStatus, clear}
+use Rattle.graph.specs.Answers.{Said, said, Outcome, outcome, unless, decided, no-vertex-rows}
+use Rattle.graph.specs.Sound.{sound}
+use Rattle.graph.specs.Commands.{openingRefusal, openedTables, newTdRefusal, newEdgeRefusal, releaseRefusal, transferRefusal, startRefusal, stopRefusal, command}
+use Rattle.graph.proofs.SoundChecks.{sound-rows}
+use Rattle.graph.proofs.TakenLaws.{taken}
+use Rattle.graph.proofs.RefusalLaws.{unless-pass, unless-stop, decided-is}
+
+due : (s : Lent) (k : ℕ) (a : Said) (s' : Lent) → (k ≡ 0 → ⊥) → _≡_ {A = Outcome} (record { answer = Said.refused k 0; after = s }) (decided s k a s')
+unfolding decided
+due s zero a s' z = absurd (z refl)
+due s (suc k) a s' z = refl
+
+-- a refused call
+pub refused-outcome : (r : Done) (v e : List ℕ) (t : Tally) {m n : ℕ} (a : Said) (s' : Lent) → m ≡ n → (m ≡ 0 → ⊥) → (said (r .answer) ≡ Said.refused m 0) × (r .tally ≡ t) → outcome r v e ≡ decided (lent v e t) n a s'
+refused-outcome r v e t {m} {n} a s' p q h =
+    (λ i. record { answer = h .0 i; after = lent v e (h .1 i) }) ∙ due (lent v e t) m a s' q ∙ ap (λ (k : ℕ). decided (lent v e t) k a s') p
+
+-- a chain of tests, test by test
+pub pass : {b : Bool} (n : ℕ) {m rest : ℕ} → b ≡ true → m ≡ rest → m ≡ unless b n rest
+pass n p q = q ∙ sym (unless-pass n _ p)
+
+pub halt : {b : Bool} (n rest : ℕ) → b ≡ false → n ≡ unless b n rest
+halt n rest p = sym (unless-stop n rest p)
+
+pub pass-over : {b : Bool} (n : ℕ) {m rest : ℕ} → b ≡ false → m ≡ rest → m ≡ cond b n rest
+pass-over n {rest = rest} p q = q ∙ ap (λ (x : Bool). cond x n rest) (sym p)
+
+pub settle : {b : Bool} (n rest : ℕ) → b ≡ true → n ≡ cond b n rest
+settle n rest p = ap (λ (x : Bool). cond x n rest) (sym p)
+
+-- an accepted one
+pub accepted-outcome : {o : Outcome} (s : Lent) {m n : ℕ} (a : Said) (s' : Lent) → m ≡ n → m ≡ 0 → o ≡ record { answer = a; after = s' } → o ≡ decided s n a s'
+accepted-outcome s {n = n} a s' p q h = h ∙ sym (decided-is s n a s' (sym p ∙ q))
+
+-- what a callee found, in the definition's words
+pub at-most : {a b c : ℕ} → a ≡ b → a ≤ c → b ≤ c
+at-most {c = c} p h = subst (λ (x : ℕ). x ≤ c) p h
+
+pub below : {a b c : ℕ} → a ≡ b → c < a → c < b
+below {c = c} p h = subst (λ (x : ℕ). c < x) p h
+
+-- the room that an accepted command has for what it stores
+pub row-room : (s : Lent) (t : ℕ) → sound s ≡ true → t < s .made → vertexWords * t + vertexWords ≤ length (s .vertices)
+row-room s t h lt = omega (arith, sound-rows s h)
+
+pub newTd-room : (s : Lent) (t : ℕ) → newTdRefusal s t ≡ 0 → (vertexWords * s .made + vertexWords ≤ length (s .vertices)) × (s .made < usableLimit)
+newTd-room s t h =
+    let free : s .made < vertexRows (s .vertices) = taken (NewTd t 0 0) s .0 h .1 in
+    omega arith
+
+pub newEdge-source : (s : Lent) (t t1 t2 : ℕ) → newEdgeRefusal s t t1 t2 ≡ 0 → vertexWords * t1 + vertexWords ≤ length (s .vertices)
+newEdge-source s t t1 t2 h = let k = taken (NewEdge t t1 t2) s .0 h in row-room s t1 (k .0 .known) (k .1 .source-made)
+
+pub newEdge-room : (s : Lent) (t t1 t2 : ℕ) → newEdgeRefusal s t t1 t2 ≡ 0 → (status (s .vertices) t1 ≡ FINISHED → ⊥) → (edgeWords * s .held + edgeWords ≤ length (s .edges)) × (s .held < usableLimit)
+newEdge-room s t t1 t2 h p =
+    let free : s .held < edgeRows (s .edges) = ⊎-elim (λ q. absurd (p q)) (λ q. q .row-free) (taken (NewEdge t t1 t2) s .0 h .1 .adds) in
+    omega arith
+
+pub transfer-room : (s : Lent) (t t' : ℕ) → transferRefusal s t t' ≡ 0 → edgeWords * s .held ≤ length (s .edges)
+transfer-room s t t' h = sound-rows s (taken (Transfer t t') s .0 h .0 .known) .1 .0
+
+pub release-room : (s : Lent) (t t' : ℕ) → releaseRefusal s t t' ≡ 0 → vertexWords * t' + vertexWords ≤ length (s .vertices)
+release-room s t t' h = let k = taken (Release t t') s .0 h in row-room s t' (k .0 .known) (k .1)
+
+pub start-room : (s : Lent) (t : ℕ) → startRefusal s t ≡ 0 → vertexWords * t + vertexWords ≤ length (s .vertices)
+start-room s t h = let k = taken (Start t) s .0 h in row-room s t (k .0) (k .1)
+
+pub stop-room : (s : Lent) (t : ℕ) → stopRefusal s t ≡ 0 → (vertexWords * t + vertexWords ≤ length (s .vertices)) × ((edgeWords * s .held ≤ length (s .edges)) × (s .held ≤ usableLimit))
+stop-room s t h =
+    let k = taken (Stop t) s .0 h in
+    (row-room s t (k .known) (k .is-made), let r = sound-rows s (k .known) in (r .1 .0, r .1 .1 .1))
+
+-- the opening
+pub opening-refused : (s : Lent) {rows : ℕ} → rows ≡ vertexRows (s .vertices) → rows ≡ 0 → no-vertex-rows ≡ openingRefusal s
+unfolding openingRefusal
+opening-refused s p q = halt _ _ (le-ltb 0 (vertexRows (s .vertices)) (omega arith))
+
+pub opening-accepted : (s : Lent) {rows : ℕ} → rows ≡ vertexRows (s .vertices) → (rows ≡ 0 → ⊥) → 0 ≡ openingRefusal s
+unfolding openingRefusal
+opening-accepted s p q = pass _ (lt-ltb 0 (vertexRows (s .vertices)) (omega arith)) refl
+
+pub opened-is : (s : Lent) {v v' e : List ℕ} {rows rows' : ℕ} → rows ≡ vertexRows (s .vertices) → rows' ≡ edgeRows (s .edges) → v ≡ clear (s .vertices) 0 (vertexWords * rows) → v' ≡ setStatus v 0 RELEASED → e ≡ clear (s .edges) 0 (edgeWords * rows') → _≡_ {A = Outcome} (record { answer = Said.opened; after = record { vertices = v'; edges = e; made = 1; held = 0; steps = 0 } }) (record { answer = Said.opened; after = openedTables s })
+unfolding openedTables
+opened-is s p q h h' k = rw (h', h, k, p, q) refl
+
+-- a command by its case
+pub command-case : {o : Outcome} (s : Lent) {given c : Command} → given ≡ c → o ≡ command c s → o ≡ command given s
+command-case s p h = h ∙ ap (λ (x : Command). command x s) (sym p)

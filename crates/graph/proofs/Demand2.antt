@@ -1,0 +1,78 @@
+-- Demand 2 of a single command, in the words of specs/Demand2.antt. A command that is accepted passed its tests (`Taken`) and leaves
+-- what its definition says (`leaves`); the laws of these two give each theorem.
+use Prim.Native.Nat.{ℕ}
+use mathlib.Core.Path.{_≡_, sym, subst}
+use mathlib.Core.Logic.{_↔_}
+use mathlib.Core.Bool.{true, false}
+use mathlib.Core.List.{List}
+use Rattle.graph.specs.declared.Command.{Command}
+use Rattle.graph.specs.Tables.{Lent}
+use Rattle.graph.specs.Answers.{accepted}
+use Rattle.graph.specs.Sound.{sound}
+use Rattle.graph.specs.Paths.{CycleFree, reaches}
+use Rattle.graph.specs.Rules.{Graph, Printed}
+use Rattle.graph.specs.Commands.{command, targetReaches}
+use Rattle.graph.specs.Demand2.{graph, RowFree, NoneTwice, Effect}
+use Rattle.graph.proofs.SoundLaws.{sound-fits, fits-sound}
+use Rattle.graph.proofs.TakenLaws.{leaves, Taken, taken, not-refused, is-accepted, after-is, after-refused, after-either, row-free-of}
+use Rattle.graph.proofs.WordLaws.{vertex-words-of, edge-words-of, new-row-of, steps-kept-of}
+use Rattle.graph.proofs.EffectLaws.{rule-of}
+use Rattle.graph.proofs.KeepLaws.{leaves-fits, leaves-once}
+use Rattle.graph.proofs.CycleLaws.{target-reaches}
+use Rattle.graph.proofs.AcceptLaws.{leaves-acyclic, rule-taken}
+
+taken-of : (c : Command) (s : Lent) → accepted (command c s .answer) ≡ true → Taken c s
+taken-of c s h = taken c s .0 (not-refused c s h)
+
+-- "A refusal gives its number and place, and every lent table and the tally hold what they held."
+pub refused-keeps : (c : Command) (s : Lent) → accepted (command c s .answer) ≡ false → command c s .after ≡ s
+refused-keeps = after-refused
+
+-- "Each command changes vertices, statuses and edges exactly by its published dag-calculus rule", and no other word, on any sound
+-- tables, those that hold a cycle too: there the rule is without its premise "E' cycle-free".
+pub effect : (c : Command) (s : Lent) → sound s ≡ true → accepted (command c s .answer) ≡ true → Effect c s (command c s .after)
+effect c s known h =
+    subst (λ (s' : Lent). Effect c s s') (sym (after-is c s (not-refused c s h)))
+    (record {
+      rule = rule-of (λ E. Unit {0}) c s (taken-of c s h) tt;
+      vertex-words = vertex-words-of c s;
+      edge-words = edge-words-of c s (sound-fits s known .edges-fit);
+      new-row = new-row-of c s (taken-of c s h);
+      steps-kept = steps-kept-of c s;
+    })
+
+-- On a graph without a cycle a command is accepted exactly where its rule, as it is printed, has a step and any row that it needs is
+-- free.
+pub acceptance : (c : Command) (s : Lent) → sound s ≡ true → CycleFree (graph s .edge) → (accepted (command c s .answer) ≡ true) ↔ (((G' : Graph) × Printed c (graph s) G') × RowFree c s)
+acceptance c s known free = (
+  λ h.
+      let t = taken-of c s h in
+      ((graph (leaves c s), rule-of CycleFree c s t (leaves-acyclic c s t free)), row-free-of c s t),
+  λ h. is-accepted c s (taken c s .1 (rule-taken c s (h .0 .0) known (h .0 .1) (h .1))),
+)
+
+-- There the accepted command's step is the rule's.
+pub by-the-rule : (c : Command) (s : Lent) → sound s ≡ true → CycleFree (graph s .edge) → accepted (command c s .answer) ≡ true → Printed c (graph s) (graph (command c s .after))
+by-the-rule c s known free h =
+    let t = taken-of c s h in
+    subst (λ (s' : Lent). Printed c (graph s) (graph s')) (sym (after-is c s (not-refused c s h)))
+    (rule-of CycleFree c s t (leaves-acyclic c s t free))
+
+-- No command closes a cycle.
+pub stays-acyclic : (c : Command) (s : Lent) → sound s ≡ true → CycleFree (graph s .edge) → CycleFree (graph (command c s .after) .edge)
+stays-acyclic c s known free =
+    after-either (λ s'. CycleFree (graph s' .edge)) c s free (λ h. leaves-acyclic c s (taken c s .0 h) free)
+
+-- No command makes an edge be held twice.
+pub none-held-twice : (c : Command) (s : Lent) → sound s ≡ true → NoneTwice (s .edges) (s .held) → NoneTwice (command c s .after .edges) (command c s .after .held)
+none-held-twice c s known none =
+    after-either (λ s'. NoneTwice (s' .edges) (s' .held)) c s none (λ h. leaves-once c s (taken c s .0 h) none)
+
+-- Sound tables stay sound.
+pub stays-sound : (c : Command) (s : Lent) → sound s ≡ true → sound (command c s .after) ≡ true
+stays-sound c s known =
+    after-either (λ s'. sound s' ≡ true) c s known (λ h. fits-sound (leaves c s) (leaves-fits c s (taken c s .0 h)))
+
+-- Document 01's words for transfer's cycle, "some target of t is t' or reaches t'", are one search: t reaches t'.
+pub transfer-test : (e : List ℕ) (n t t' : ℕ) → targetReaches e n t t' ≡ reaches e n t t'
+transfer-test = target-reaches

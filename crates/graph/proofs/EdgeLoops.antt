@@ -1,0 +1,172 @@
+-- What a loop over the held edges has done after each row: looked for an edge, moved sources, gathered the rows that a stop keeps.
+use Prim.Native.Nat.{ℕ, zero, suc, _+_, _-_, _*_, _<_, _≤_}
+use mathlib.Core.Path.{_≡_, refl, sym, _∙_, ap, subst}
+use mathlib.Core.Bool.{Bool, true, false, cond}
+use mathlib.Core.List.{List, [], _∷_, _++_, append-nil, append-assoc}
+use native.Mathlib.Numerals.{add-one}
+use native.Mathlib.Omega.{arith}
+use lib.ListN.{length, getD, take, drop, set, replicate, length-set, length-append, length-replicate}
+use lib.Seq.{take-suc-set, drop-set-lt, take-set-le, drop-drop, getD-drop, drop-cons, set-at, length-take-le}
+use lib.Dec.{eqb}
+use borrow.Author.Tests.{eq-eqb, ne-eqb}
+use Rattle.graph.specs.Tests.{any, both}
+use Rattle.graph.specs.Tables.{usableLimit, edgeWords, sourceWord, targetWord, source, target, setEdgeWord, clear}
+use Rattle.graph.specs.Paths.{holds}
+use Rattle.graph.specs.Commands.{movedRow, moved, kept, keptRows, withoutEdgesOf}
+use Rattle.graph.specs.Gather.{Gathered}
+use Rattle.graph.proofs.ClearLaws.{clear-is}
+use Rattle.graph.proofs.TestLaws.{any-empty, any-more, any-at, at-end, both-true, both-false-left, both-false-right}
+
+-- looking for an edge
+pub held-none : (e : List ℕ) (a b : ℕ) → holds e 0 a b ≡ false
+unfolding holds
+held-none e a b = any-empty _
+
+pub held-other-source : (e : List ℕ) (i a b : ℕ) → holds e i a b ≡ false → (source e i ≡ a → ⊥) → holds e (i + 1) a b ≡ false
+unfolding holds
+held-other-source e i a b h p = any-more _ i h (both-false-left _ (ne-eqb (source e i) a p))
+
+pub held-other-target : (e : List ℕ) (i a b : ℕ) → holds e i a b ≡ false → (target e i ≡ b → ⊥) → holds e (i + 1) a b ≡ false
+unfolding holds
+held-other-target e i a b h p = any-more _ i h (both-false-right _ (ne-eqb (target e i) b p))
+
+pub held-found : (e : List ℕ) (n i a b : ℕ) → i < n → source e i ≡ a → target e i ≡ b → true ≡ holds e n a b
+unfolding holds
+held-found e n i a b lt p q = sym (any-at _ n i lt (both-true (eq-eqb (source e i) a p) (eq-eqb (target e i) b q)))
+
+pub held-nowhere : (e : List ℕ) (n i a b : ℕ) → i ≤ n → n ≤ i → holds e i a b ≡ false → false ≡ holds e n a b
+held-nowhere e n i a b p q h = sym (at-end (λ k. holds e k a b ≡ false) p q h)
+
+-- moving sources
+pub moved-none : (t t' : ℕ) (e : List ℕ) → e ≡ moved t t' e 0
+unfolding moved
+moved-none t t' e = refl
+
+pub moved-skips : (t t' : ℕ) (e : List ℕ) {l : List ℕ} (i : ℕ) → l ≡ moved t t' e i → (source l i ≡ t → ⊥) → l ≡ moved t t' e (i + 1)
+unfolding moved movedRow
+moved-skips t t' e {l} i h p = rw (add-one, ← h) (rw (ne-eqb (source l i) t p) refl)
+
+pub moved-sets : (t t' : ℕ) (e : List ℕ) {l : List ℕ} (i : ℕ) → l ≡ moved t t' e i → source l i ≡ t → setEdgeWord l i sourceWord t' ≡ moved t t' e (i + 1)
+unfolding moved movedRow
+moved-sets t t' e {l} i h p = rw (add-one, ← h) (rw (eq-eqb (source l i) t p) refl)
+
+pub moved-all : (t t' : ℕ) (e : List ℕ) {l : List ℕ} (n i : ℕ) → i ≤ n → n ≤ i → l ≡ moved t t' e i → l ≡ moved t t' e n
+moved-all t t' e {l} n i p q h = at-end (λ k. l ≡ moved t t' e k) p q h
+
+length-moved-row : (t t' : ℕ) (e : List ℕ) (i : ℕ) (b : Bool) → length (cond b (setEdgeWord e i sourceWord t') e) ≡ length e
+length-moved-row t t' e i true = length-set e (edgeWords * i + sourceWord) t'
+length-moved-row t t' e i false = refl
+
+pub length-moved : (t t' : ℕ) (e : List ℕ) (n : ℕ) → length (moved t t' e n) ≡ length e
+unfolding moved movedRow
+length-moved t t' e zero = refl
+length-moved t t' e (suc n) = length-moved-row t t' (moved t t' e n) n (eqb (source (moved t t' e n) n) t) ∙ length-moved t t' e n
+
+-- gathering
+pub gathered-none : (t : ℕ) (e : List ℕ) → (0 ≡ keptRows t e 0) × Gathered t e e 0
+unfolding keptRows kept
+gathered-none t e = (refl, record { front = refl; rest = refl; same-length = refl; within = omega arith })
+
+-- row i is read where it stood at entry
+row-kept : (t : ℕ) (e : List ℕ) {e' : List ℕ} (i w : ℕ) → Gathered t e e' i → getD e' (edgeWords * i + w) 0 ≡ getD e (edgeWords * i + w) 0
+row-kept t e {e'} i w h =
+    sym (getD-drop (edgeWords * i) e' w 0) ∙ ap (λ (l : List ℕ). getD l w 0) (h .rest) ∙ getD-drop (edgeWords * i) e w 0
+
+keptRows-skip : (t : ℕ) (e : List ℕ) (i : ℕ) → source e i ≡ t → keptRows t e (suc i) ≡ keptRows t e i
+unfolding keptRows
+keptRows-skip t e i p = rw (eq-eqb (source e i) t p) (omega arith)
+
+keptRows-keep : (t : ℕ) (e : List ℕ) (i : ℕ) → (source e i ≡ t → ⊥) → keptRows t e (suc i) ≡ keptRows t e i + 1
+unfolding keptRows
+keptRows-keep t e i p = rw (ne-eqb (source e i) t p) refl
+
+kept-skip : (t : ℕ) (e : List ℕ) (i : ℕ) → source e i ≡ t → kept t e (suc i) ≡ kept t e i
+unfolding kept
+kept-skip t e i p = rw (eq-eqb (source e i) t p) (append-nil (kept t e i))
+
+kept-keep : (t : ℕ) (e : List ℕ) (i : ℕ) → (source e i ≡ t → ⊥) → kept t e (suc i) ≡ kept t e i ++ (source e i ∷ target e i ∷ [])
+unfolding kept
+kept-keep t e i p = rw (ne-eqb (source e i) t p) refl
+
+rest-more : (t : ℕ) (e : List ℕ) {e' : List ℕ} (i : ℕ) → Gathered t e e' i → drop (edgeWords * (i + 1)) e' ≡ drop (edgeWords * (i + 1)) e
+rest-more t e {e'} i h =
+    let split : edgeWords * (i + 1) ≡ edgeWords * i + edgeWords = omega arith in
+    rw split (sym (drop-drop edgeWords (edgeWords * i) e') ∙ ap (drop edgeWords) (h .rest) ∙ drop-drop edgeWords (edgeWords * i) e)
+
+pub gathered-skips : (t : ℕ) (e : List ℕ) {e' : List ℕ} {k : ℕ} (i : ℕ) → k ≡ keptRows t e i → Gathered t e e' i → source e' i ≡ t → (k ≡ keptRows t e (i + 1)) × Gathered t e e' (i + 1)
+gathered-skips t e {e'} i r h p =
+    let q : source e i ≡ t = sym (row-kept t e i sourceWord h) ∙ p in
+    let n : keptRows t e (i + 1) ≡ keptRows t e i = ap (keptRows t e) (add-one i) ∙ keptRows-skip t e i q in (
+      r ∙ sym n,
+      record {
+        front = rw n (h .front ∙ sym (ap (kept t e) (add-one i) ∙ kept-skip t e i q));
+        rest = rest-more t e i h;
+        same-length = h .same-length;
+        within = rw n (let w = h .within in omega arith);
+      },
+    )
+
+take-two : (l : List ℕ) (k a b : ℕ) → edgeWords * k + edgeWords ≤ length l → take (edgeWords * (k + 1)) (set (set l (edgeWords * k + sourceWord) a) (edgeWords * k + targetWord) b) ≡ take (edgeWords * k) l ++ (a ∷ b ∷ [])
+take-two l k a b h =
+    let n : edgeWords * (k + 1) ≡ suc (edgeWords * k + targetWord) = omega arith in
+    let m : edgeWords * k + targetWord ≡ suc (edgeWords * k + sourceWord) = omega arith in
+    let z : edgeWords * k + sourceWord ≡ edgeWords * k = omega arith in
+    ap (λ (x : ℕ). take x (set (set l (edgeWords * k + sourceWord) a) (edgeWords * k + targetWord) b)) n
+    ∙ take-suc-set (set l (edgeWords * k + sourceWord) a) (edgeWords * k + targetWord) b (rw length-set (omega arith))
+    ∙ ap (λ (x : ℕ). take x (set l (edgeWords * k + sourceWord) a) ++ (b ∷ [])) m
+    ∙ ap (λ (x : List ℕ). x ++ (b ∷ [])) (take-suc-set l (edgeWords * k + sourceWord) a (omega arith))
+    ∙ append-assoc (take (edgeWords * k + sourceWord) l) (a ∷ []) (b ∷ [])
+    ∙ ap (λ (x : ℕ). take x l ++ (a ∷ b ∷ [])) z
+
+pub gathered-keeps : (t : ℕ) (e : List ℕ) {e' : List ℕ} {k : ℕ} (i : ℕ) → k ≡ keptRows t e i → Gathered t e e' i → edgeWords * i + edgeWords ≤ length e' → (source e' i ≡ t → ⊥) → (k + 1 ≡ keptRows t e (i + 1)) × Gathered t e (set (set e' (edgeWords * k + sourceWord) (source e' i)) (edgeWords * k + targetWord) (target e' i)) (i + 1)
+gathered-keeps t e {e'} {k} i r h room p =
+    let q : source e i ≡ t → ⊥ = λ eq. p (row-kept t e i sourceWord h ∙ eq) in
+    let n : keptRows t e (i + 1) ≡ keptRows t e i + 1 = ap (keptRows t e) (add-one i) ∙ keptRows-keep t e i q in
+    let m : keptRows t e (i + 1) ≡ k + 1 = n ∙ ap (λ (x : ℕ). x + 1) (sym r) in
+    let w : k ≤ i = subst (λ (x : ℕ). x ≤ i) (sym r) (h .within) in (
+      sym m,
+      record {
+        front =
+            ap (λ (x : ℕ). take (edgeWords * x) (set (set e' (edgeWords * k + sourceWord) (source e' i)) (edgeWords * k + targetWord) (target e' i))) m
+            ∙ take-two e' k (source e' i) (target e' i) (omega arith)
+            ∙ ap (λ (x : ℕ). take (edgeWords * x) e' ++ (source e' i ∷ target e' i ∷ [])) r
+            ∙ ap (λ (x : List ℕ). x ++ (source e' i ∷ target e' i ∷ [])) (h .front)
+            ∙ ap (λ (x : ℕ). kept t e i ++ (x ∷ target e' i ∷ [])) (row-kept t e i sourceWord h)
+            ∙ ap (λ (x : ℕ). kept t e i ++ (source e i ∷ x ∷ [])) (row-kept t e i targetWord h)
+            ∙ sym (ap (kept t e) (add-one i) ∙ kept-keep t e i q);
+        rest =
+            drop-set-lt (edgeWords * (i + 1)) (set e' (edgeWords * k + sourceWord) (source e' i)) (edgeWords * k + targetWord) (target e' i) (omega arith)
+            ∙ drop-set-lt (edgeWords * (i + 1)) e' (edgeWords * k + sourceWord) (source e' i) (omega arith)
+            ∙ rest-more t e i h;
+        same-length = length-set (set e' (edgeWords * k + sourceWord) (source e' i)) (edgeWords * k + targetWord) (target e' i) ∙ length-set e' (edgeWords * k + sourceWord) (source e' i) ∙ h .same-length;
+        within = rw m (omega arith);
+      },
+    )
+
+pub gathered-all : (t : ℕ) (e : List ℕ) {e' : List ℕ} {k : ℕ} (n i : ℕ) → i ≤ n → n ≤ i → (k ≡ keptRows t e i) × Gathered t e e' i → (k ≡ keptRows t e n) × Gathered t e e' n
+gathered-all t e {e'} {k} n i p q h = at-end (λ j. (k ≡ keptRows t e j) × Gathered t e e' j) p q h
+
+-- with the freed rows cleared, the gathered table is what a stop leaves
+pub gathered-cleared : (t : ℕ) (e : List ℕ) {e' : List ℕ} {k : ℕ} (n : ℕ) → edgeWords * n ≤ length e → k ≡ keptRows t e n → Gathered t e e' n → clear e' (edgeWords * k) (edgeWords * n - edgeWords * k) ≡ withoutEdgesOf t e n
+unfolding withoutEdgesOf
+gathered-cleared t e {e'} {k} n room r h =
+    let w : k ≤ n = subst (λ (x : ℕ). x ≤ n) (sym r) (h .within) in
+    let l = h .same-length in
+    let back : edgeWords * k + (edgeWords * n - edgeWords * k) ≡ edgeWords * n = omega arith in
+    clear-is e' (edgeWords * k) (edgeWords * n - edgeWords * k) (omega arith)
+    ∙ ap (λ (x : List ℕ). x ++ (replicate (edgeWords * n - edgeWords * k) 0 ++ drop (edgeWords * k + (edgeWords * n - edgeWords * k)) e')) (ap (λ (x : ℕ). take (edgeWords * x) e') r ∙ h .front)
+    ∙ ap (λ (x : ℕ). kept t e n ++ (replicate (edgeWords * n - edgeWords * k) 0 ++ drop x e')) back
+    ∙ ap (λ (x : List ℕ). kept t e n ++ (replicate (edgeWords * n - edgeWords * k) 0 ++ x)) (h .rest)
+    ∙ ap (λ (x : ℕ). kept t e n ++ (replicate (edgeWords * n - edgeWords * x) 0 ++ drop (edgeWords * n) e)) r
+
+pub keptRows-within : (t : ℕ) (e : List ℕ) (n : ℕ) → keptRows t e n ≤ n
+unfolding keptRows
+keptRows-within t e zero = omega arith
+keptRows-within t e (suc n) = one-more (eqb (source e n) t) (keptRows-within t e n)
+  where
+    one-more : (b : Bool) → keptRows t e n ≤ n → keptRows t e n + cond b 0 1 ≤ suc n
+    one-more true h = omega arith
+    one-more false h = omega arith
+
+pub kept-fits : (t : ℕ) (e : List ℕ) (n : ℕ) {k : ℕ} → k ≡ keptRows t e n → n ≤ usableLimit → k ≤ usableLimit
+kept-fits t e n p h = omega (arith, keptRows-within t e n)

@@ -1,0 +1,135 @@
+-- What a command that is taken does to the graph that the tables hold: its rule.
+use Prim.Native.Nat.{ℕ, _<_}
+use mathlib.Core.Path.{_≡_, refl, sym, _∙_, ap}
+use mathlib.Core.Logic.{inl, inr, ⊎-elim}
+use mathlib.Core.Bool.{Bool, cond}
+use native.Mathlib.Omega.{arith}
+use borrow.Author.Tests.{eq-eqb, ne-eqb}
+use Rattle.graph.specs.declared.Command.{Command}
+use Rattle.graph.specs.declared.Command.the-variants.{NewTd, NewEdge, Release, Transfer, Start, Stop}
+use Rattle.graph.specs.Tables.{Lent, NEW, RELEASED, EXECUTING, FINISHED, edgeRows, status}
+use Rattle.graph.specs.Rules.{X, NEWTD, RELEASE, START, STOP, NEWEDGE, TRANSFER, Rule, Disjoint, added, _∪_}
+use Rattle.graph.specs.Commands.{withStatus, withVertex, withEdge, withMoved, stopped}
+use Rattle.graph.specs.Demand2.{graph}
+use Rattle.graph.proofs.EdgeLaws.{Is, OneMore, Moved, none-into, none-out-of, is-same, appended-is, moved-is, without-is}
+use Rattle.graph.proofs.SoundLaws.{Fits, sound-fits}
+use Rattle.graph.proofs.TakenLaws.{leaves, Runs, TakenNewEdge, Taken}
+use Rattle.graph.proofs.RuleLaws.{same-graph, Inside, added-disjoint, transferred-disjoint, added-none, added-is, minus-is, transferred-is}
+use Rattle.graph.proofs.GraphLaws.{shown-as, shown-not, shown-domain, shown-over, shown-live, shown-set, shown-new}
+
+-- the caller's status in the graph
+runs-shown : (s : Lent) (t : ℕ) → Runs s t → graph s .status t ≡ X
+runs-shown s t r = shown-as (s .vertices) (s .made) t EXECUTING (r .is-made) (r .executing)
+
+-- held edges lead into the graph
+pub inside : (s : Lent) (t : ℕ) → Fits s → Inside (graph s) t
+inside s t f b h = shown-domain (s .vertices) (s .made) b (f .ends-made t b h .1)
+
+newTd-rule : (s : Lent) (t place scope : ℕ) → Taken (NewTd t place scope) s → NEWTD (graph s) t (s .made) (graph (withVertex s place scope))
+unfolding withVertex
+newTd-rule s t place scope h =
+    record {
+      caller = runs-shown s t (h .0);
+      fresh = shown-not (s .vertices) (s .made) (s .made) (omega arith);
+      after = same-graph (shown-new (s .vertices) (s .made) place scope (h .1)) (λ a b. refl);
+    }
+
+release-rule : (s : Lent) (t t' : ℕ) → Taken (Release t t') s → RELEASE (graph s) t t' (graph (withStatus s t' RELEASED))
+release-rule s t t' h =
+    record {
+      caller = runs-shown s t (h .0);
+      is-new = shown-as (s .vertices) (s .made) t' NEW (h .1) (h .2);
+      after = same-graph (shown-set (s .vertices) (s .made) t' RELEASED (h .1) (sound-fits s (h .0 .known) .vertices-fit)) (λ a b. refl);
+    }
+
+start-rule : (s : Lent) (t : ℕ) → Taken (Start t) s → START (graph s) t (graph (withStatus s t EXECUTING))
+start-rule s t h =
+    record {
+      is-released = shown-as (s .vertices) (s .made) t RELEASED (h .1) (h .2);
+      no-edge-in = none-into (s .edges) (s .held) t .0 (h .3);
+      after = same-graph (shown-set (s .vertices) (s .made) t EXECUTING (h .1) (sound-fits s (h .0) .vertices-fit)) (λ a b. refl);
+    }
+
+stop-rule : (s : Lent) (t : ℕ) → Taken (Stop t) s → STOP (graph s) t (graph (stopped s t))
+unfolding stopped
+stop-rule s t h =
+    let f = sound-fits s (h .known) in
+    record {
+      caller = runs-shown s t h;
+      after = same-graph (shown-set (s .vertices) (s .made) t FINISHED (h .is-made) (f .vertices-fit)) (is-same (without-is t (s .edges) (s .held)) (minus-is (graph s) t (inside s t f)));
+    }
+
+-- newEdge out of a finished vertex leaves everything, any other appends its edge
+pub leaves-all : (s : Lent) (t t1 t2 : ℕ) → status (s .vertices) t1 ≡ FINISHED → leaves (NewEdge t t1 t2) s ≡ s
+leaves-all s t t1 t2 p = ap (λ (b : Bool). cond b s (withEdge s t1 t2)) (eq-eqb (status (s .vertices) t1) FINISHED p)
+
+pub leaves-edge : (s : Lent) (t t1 t2 : ℕ) → (status (s .vertices) t1 ≡ FINISHED → ⊥) → leaves (NewEdge t t1 t2) s ≡ withEdge s t1 t2
+leaves-edge s t t1 t2 ne = ap (λ (b : Bool). cond b s (withEdge s t1 t2)) (ne-eqb (status (s .vertices) t1) FINISHED ne)
+
+pub withEdge-is : (s : Lent) (t1 t2 : ℕ) → s .held < edgeRows (s .edges) → Is (graph (withEdge s t1 t2) .edge) (OneMore (graph s .edge) t1 t2)
+unfolding withEdge
+withEdge-is s t1 t2 lt = appended-is (s .edges) (s .held) t1 t2 lt
+
+pub withMoved-is : (s : Lent) (t t' : ℕ) → Fits s → Is (graph (withMoved s t t') .edge) (Moved (graph s .edge) t t')
+unfolding withMoved
+withMoved-is s t t' f = moved-is (s .edges) (s .held) t t' (f .edges-fit)
+
+-- the edges that newEdge leaves are the rule's
+newEdge-after : (s : Lent) (t t1 t2 : ℕ) → TakenNewEdge s t1 t2 → graph (leaves (NewEdge t t1 t2) s) ≡ record { status = graph s .status; edge = graph s .edge ∪ added (graph s) t1 t2 }
+unfolding withEdge
+newEdge-after s t t1 t2 h =
+    ⊎-elim
+    (λ p.
+    ap graph (leaves-all s t t1 t2 p)
+    ∙ same-graph (λ x. refl) (λ a b. sym (added-none (graph s) t1 t2 (shown-over (s .vertices) (s .made) t1 (h .source-made) p) a b)))
+    (λ p.
+    ap graph (leaves-edge s t t1 t2 (p .not-finished))
+    ∙ same-graph (λ x. refl) (is-same (withEdge-is s t1 t2 (p .row-free)) (added-is (graph s) t1 t2 (shown-live (s .vertices) (s .made) t1 (h .source-made) (p .not-finished)))))
+    (h .adds)
+
+newEdge-disjoint : (s : Lent) (t1 t2 : ℕ) → TakenNewEdge s t1 t2 → Disjoint (graph s .edge) (added (graph s) t1 t2)
+newEdge-disjoint s t1 t2 h =
+    added-disjoint (graph s) t1 t2
+    (⊎-elim
+    (λ p. inl (shown-over (s .vertices) (s .made) t1 (h .source-made) p))
+    (λ p. inr (p .not-held))
+    (h .adds))
+
+module _ (Free : (ℕ → ℕ → Bool) → Type 0) where
+  newEdge-rule : (s : Lent) (t t1 t2 : ℕ) → Taken (NewEdge t t1 t2) s → Free (graph (leaves (NewEdge t t1 t2) s) .edge) → NEWEDGE Free (graph s) t t1 t2 (graph (leaves (NewEdge t t1 t2) s))
+  newEdge-rule s t t1 t2 h free =
+      record {
+        caller = runs-shown s t (h .0);
+        source-in = shown-domain (s .vertices) (s .made) t1 (h .1 .source-made);
+        target-in = shown-domain (s .vertices) (s .made) t2 (h .1 .target-made);
+        target-waits =
+            ⊎-elim
+            (λ p. inl (shown-as (s .vertices) (s .made) t2 NEW (h .1 .target-made) p))
+            (λ p. inr (shown-as (s .vertices) (s .made) t2 RELEASED (h .1 .target-made) p))
+            (h .1 .waits);
+        disjoint = newEdge-disjoint s t1 t2 (h .1);
+        after = newEdge-after s t t1 t2 (h .1);
+        cycle-free = free;
+      }
+
+  transfer-rule : (s : Lent) (t t' : ℕ) → Taken (Transfer t t') s → Free (graph (withMoved s t t') .edge) → TRANSFER Free (graph s) t t' (graph (withMoved s t t'))
+  unfolding withMoved
+  transfer-rule s t t' h free =
+      let f = sound-fits s (h .0 .known) in
+      record {
+        caller = runs-shown s t (h .0);
+        is-new = shown-as (s .vertices) (s .made) t' NEW (h .1 .is-made) (h .1 .is-new);
+        no-edge-out = none-out-of (s .edges) (s .held) t' .0 (h .1 .no-edge-out);
+        disjoint = transferred-disjoint (graph s) t t' (none-out-of (s .edges) (s .held) t' .0 (h .1 .no-edge-out));
+        after = same-graph (λ x. refl) (is-same (withMoved-is s t t' f) (transferred-is (graph s) t t' (inside s t f)));
+        cycle-free = free;
+      }
+
+  -- the rule of a command that is taken, with "cycle-free" left open
+  pub rule-of : (c : Command) (s : Lent) → Taken c s → Free (graph (leaves c s) .edge) → Rule Free c (graph s) (graph (leaves c s))
+  rule-of (NewTd t place scope) s h free = (s .made, newTd-rule s t place scope h)
+  rule-of (NewEdge t t1 t2) s h free = newEdge-rule s t t1 t2 h free
+  rule-of (Release t t') s h free = release-rule s t t' h
+  rule-of (Transfer t t') s h free = transfer-rule s t t' h free
+  rule-of (Start t) s h free = start-rule s t h
+  rule-of (Stop t) s h free = stop-rule s t h

@@ -1,0 +1,109 @@
+-- Refusal 12: what each look at the tables tells of it, and the room that sound tables have.
+use Prim.Native.Nat.{ℕ, _+_, _*_, _/_, _<_, _≤_, min}
+use mathlib.Core.Path.{_≡_, sym}
+use mathlib.Core.Bool.{Bool, true, false}
+use mathlib.Core.List.{List}
+use native.Mathlib.Omega.{arith}
+use lib.ListN.{length}
+use borrow.Author.Tests.{lt-ltb, le-ltb, le-leb, lt-leb, leb-true}
+use Rattle.graph.specs.Tests.{both, every}
+use Rattle.graph.specs.Tables.{Lent, NEW, FINISHED, usableLimit, vertexWords, edgeWords, vertexRows, edgeRows, status, source, target}
+use Rattle.graph.specs.Sound.{tallyFits, statusKnown, statusesKnown, endsMade, edgesMade, sound}
+use Rattle.graph.specs.Search.{Searchable}
+use Rattle.graph.proofs.PathLaws.{holds-at}
+use Rattle.graph.proofs.SoundLaws.{sound-fits}
+use Rattle.graph.proofs.TestLaws.{both-true, both-left, both-right, both-false-left, both-false-right, every-all, every-more, every-stop, at-end}
+
+-- the tally
+pub tally-fits : (v e : List ℕ) (made held : ℕ) → made ≤ vertexRows v → held ≤ edgeRows e → true ≡ tallyFits v e made held
+unfolding tallyFits
+tally-fits v e made held p q = sym (both-true (le-leb made (vertexRows v) p) (le-leb held (edgeRows e) q))
+
+pub made-over : (v e : List ℕ) (made held : ℕ) → vertexRows v < made → false ≡ tallyFits v e made held
+unfolding tallyFits
+made-over v e made held p = sym (both-false-left _ (lt-leb made (vertexRows v) p))
+
+pub held-over : (v e : List ℕ) (made held : ℕ) → edgeRows e < held → false ≡ tallyFits v e made held
+unfolding tallyFits
+held-over v e made held p = sym (both-false-right _ (lt-leb held (edgeRows e) p))
+
+-- the statuses
+pub statuses-more : (v : List ℕ) (k : ℕ) → every (statusKnown v) k ≡ true → NEW ≤ status v k → status v k ≤ FINISHED → every (statusKnown v) (k + 1) ≡ true
+unfolding statusKnown
+statuses-more v k h p q =
+    every-more (statusKnown v) k h (both-true (le-leb NEW (status v k) p) (le-leb (status v k) FINISHED q))
+
+pub status-low : (v : List ℕ) (made k : ℕ) → k < made → status v k < NEW → false ≡ statusesKnown v made
+unfolding statusesKnown statusKnown
+status-low v made k lt p = sym (every-stop (statusKnown v) made k lt (both-false-left _ (lt-leb NEW (status v k) p)))
+
+pub status-high : (v : List ℕ) (made k : ℕ) → k < made → FINISHED < status v k → false ≡ statusesKnown v made
+unfolding statusesKnown statusKnown
+status-high v made k lt p =
+    sym (every-stop (statusKnown v) made k lt (both-false-right _ (lt-leb (status v k) FINISHED p)))
+
+pub statuses-all : (v : List ℕ) (made k : ℕ) → k ≤ made → made ≤ k → every (statusKnown v) k ≡ true → true ≡ statusesKnown v made
+unfolding statusesKnown
+statuses-all v made k p q h = sym (at-end (λ n. every (statusKnown v) n ≡ true) p q h)
+
+-- the edges' ends
+pub edges-more : (e : List ℕ) (made i : ℕ) → every (endsMade e made) i ≡ true → source e i < made → target e i < made → every (endsMade e made) (i + 1) ≡ true
+unfolding endsMade
+edges-more e made i h p q =
+    every-more (endsMade e made) i h (both-true (lt-ltb (source e i) made p) (lt-ltb (target e i) made q))
+
+pub source-over : (e : List ℕ) (made held i : ℕ) → i < held → made ≤ source e i → false ≡ edgesMade e made held
+unfolding edgesMade endsMade
+source-over e made held i lt p = sym (every-stop (endsMade e made) held i lt (both-false-left _ (le-ltb (source e i) made p)))
+
+pub target-over : (e : List ℕ) (made held i : ℕ) → i < held → made ≤ target e i → false ≡ edgesMade e made held
+unfolding edgesMade endsMade
+target-over e made held i lt p =
+    sym (every-stop (endsMade e made) held i lt (both-false-right _ (le-ltb (target e i) made p)))
+
+pub edges-all : (e : List ℕ) (made held i : ℕ) → i ≤ held → held ≤ i → every (endsMade e made) i ≡ true → true ≡ edgesMade e made held
+unfolding edgesMade
+edges-all e made held i p q h = sym (at-end (λ n. every (endsMade e made) n ≡ true) p q h)
+
+-- the three together
+pub unsound-tally : (s : Lent) → tallyFits (s .vertices) (s .edges) (s .made) (s .held) ≡ false → false ≡ sound s
+unfolding sound
+unsound-tally s h = sym (both-false-left _ h)
+
+pub unsound-statuses : (s : Lent) → statusesKnown (s .vertices) (s .made) ≡ false → false ≡ sound s
+unfolding sound
+unsound-statuses s h = sym (both-false-right _ (both-false-left _ h))
+
+pub sound-by-edges : (s : Lent) {b : Bool} → tallyFits (s .vertices) (s .edges) (s .made) (s .held) ≡ true → statusesKnown (s .vertices) (s .made) ≡ true → b ≡ edgesMade (s .edges) (s .made) (s .held) → b ≡ sound s
+unfolding sound both
+sound-by-edges s p q r = rw (p, q) r
+
+-- what the code needs of sound tables
+pub fits-rows : (v e : List ℕ) (made held : ℕ) → tallyFits v e made held ≡ true → (made ≤ vertexRows v) × (held ≤ edgeRows e)
+unfolding tallyFits
+fits-rows v e made held h = (leb-true made (vertexRows v) (both-left _ _ h), leb-true held (edgeRows e) (both-right _ _ h))
+
+pub sound-rows : (s : Lent) → sound s ≡ true → (vertexWords * s .made ≤ length (s .vertices)) × ((edgeWords * s .held ≤ length (s .edges)) × ((s .made ≤ usableLimit) × (s .held ≤ usableLimit)))
+sound-rows s h =
+    let p : s .made ≤ vertexRows (s .vertices) = sound-fits s h .vertices-fit in
+    let q : s .held ≤ edgeRows (s .edges) = sound-fits s h .edges-fit in
+    omega arith
+
+pub searchable : (s : Lent) (a b : ℕ) → sound s ≡ true → a < s .made → b < s .made → Searchable (s .edges) (s .held) a b
+unfolding edgesMade endsMade
+searchable s a b h p q =
+    let r = sound-rows s h in
+    record {
+      rows =
+          record {
+            full = r .1 .0;
+            few = r .1 .1 .1;
+            ends =
+                every-all _ (s .held)
+                (λ i lt.
+                let m : (source (s .edges) i < s .made) × (target (s .edges) i < s .made) = sound-fits s h .ends-made _ _ (holds-at (s .edges) (s .held) i lt) in
+                both-true (lt-ltb (source (s .edges) i) usableLimit (omega arith)) (lt-ltb (target (s .edges) i) usableLimit (omega arith)));
+          };
+      from-usable = omega arith;
+      to-usable = omega arith;
+    }

@@ -1,0 +1,286 @@
+-- When a command is taken. Each of the six is decided by its chain of refusals, and the chain gives 0 exactly if the facts of
+-- `Taken` hold, which say what the tests find in words of numbers and paths.
+use Prim.Native.Nat.{ℕ, _<_}
+use mathlib.Core.Path.{_≡_, refl}
+use mathlib.Core.Logic.{_⊎_, inl, inr, ⊎-elim, _↔_}
+use mathlib.Core.Bool.{Bool, true, false, cond}
+use native.Mathlib.Omega.{arith}
+use lib.Dec.{eqb}
+use borrow.Author.Tests.{lt-ltb, ltb-true, eq-eqb, ne-eqb, eqb-true, eqb-false, not-true}
+use Rattle.graph.specs.declared.Command.{Command}
+use Rattle.graph.specs.declared.Command.the-variants.{NewTd, NewEdge, Release, Transfer, Start, Stop}
+use Rattle.graph.specs.Tables.{Lent, NEW, RELEASED, EXECUTING, FINISHED, vertexRows, edgeRows, status}
+use Rattle.graph.specs.Answers.{Said, accepted, decided}
+use Rattle.graph.specs.Sound.{sound}
+use Rattle.graph.specs.Paths.{holds, leadsInto, leadsOutOf, reaches}
+use Rattle.graph.specs.Commands.{hasStatus, withStatus, withVertex, withEdge, withMoved, stopped, newTdRefusal, newEdgeRefusal, releaseRefusal, transferRefusal, startRefusal, stopRefusal, targetReaches, newTd, newEdge, release, transfer, start, stop, command}
+use Rattle.graph.specs.Demand2.{RowFree}
+use Rattle.graph.proofs.TestLaws.{both-true, both-left, both-right, either-cases, either-left, either-right, either-false, either-false-left, either-false-right, not-of-false}
+use Rattle.graph.proofs.SoundLaws.{Known, sound-fits}
+use Rattle.graph.proofs.RefusalLaws.{unless-none, unless-all, decided-taken, decided-is, decided-keeps, decided-either}
+
+-- a command in its three parts: the refusal due, what it says and what it leaves if none is due
+abbrev pub refusal : Command → Lent → ℕ
+refusal (NewTd t place scope) s = newTdRefusal s t
+refusal (NewEdge t t1 t2) s = newEdgeRefusal s t t1 t2
+refusal (Release t t') s = releaseRefusal s t t'
+refusal (Transfer t t') s = transferRefusal s t t'
+refusal (Start t) s = startRefusal s t
+refusal (Stop t) s = stopRefusal s t
+
+abbrev says : Command → Lent → Said
+says (NewTd t place scope) s = Said.new (s .made)
+says (NewEdge t t1 t2) s = Said.edge t1 t2
+says (Release t t') s = Said.release t'
+says (Transfer t t') s = Said.transfer t'
+says (Start t) s = Said.start
+says (Stop t) s = Said.stop
+
+abbrev pub leaves : Command → Lent → Lent
+leaves (NewTd t place scope) s = withVertex s place scope
+leaves (NewEdge t t1 t2) s = cond (hasStatus s t1 FINISHED) s (withEdge s t1 t2)
+leaves (Release t t') s = withStatus s t' RELEASED
+leaves (Transfer t t') s = withMoved s t t'
+leaves (Start t) s = withStatus s t EXECUTING
+leaves (Stop t) s = stopped s t
+
+command-is : (c : Command) (s : Lent) → command c s ≡ decided s (refusal c s) (says c s) (leaves c s)
+unfolding command newTd newEdge release transfer start stop
+command-is (NewTd t place scope) s = refl
+command-is (NewEdge t t1 t2) s = refl
+command-is (Release t t') s = refl
+command-is (Transfer t t') s = refl
+command-is (Start t) s = refl
+command-is (Stop t) s = refl
+
+says-accepted : (c : Command) (s : Lent) → accepted (says c s) ≡ true
+says-accepted (NewTd t place scope) s = refl
+says-accepted (NewEdge t t1 t2) s = refl
+says-accepted (Release t t') s = refl
+says-accepted (Transfer t t') s = refl
+says-accepted (Start t) s = refl
+says-accepted (Stop t) s = refl
+
+-- a command is accepted exactly if no refusal is due, and then leaves what it is to leave
+pub not-refused : (c : Command) (s : Lent) → accepted (command c s .answer) ≡ true → refusal c s ≡ 0
+not-refused c s h = decided-taken s (refusal c s) (says c s) (leaves c s) (rw (command-is c s) at h)
+
+pub is-accepted : (c : Command) (s : Lent) → refusal c s ≡ 0 → accepted (command c s .answer) ≡ true
+is-accepted c s h = rw (command-is c s, decided-is s (refusal c s) (says c s) (leaves c s) h) (says-accepted c s)
+
+pub after-is : (c : Command) (s : Lent) → refusal c s ≡ 0 → command c s .after ≡ leaves c s
+after-is c s h = rw (command-is c s, decided-is s (refusal c s) (says c s) (leaves c s) h)
+
+pub after-refused : (c : Command) (s : Lent) → accepted (command c s .answer) ≡ false → command c s .after ≡ s
+after-refused c s h = rw (command-is c s) (decided-keeps s (refusal c s) (says c s) (leaves c s) (says-accepted c s) (rw (command-is c s) at h))
+
+-- what holds before, and of what an accepted command leaves, holds afterwards
+pub after-either : (P : Lent → Type 0) (c : Command) (s : Lent) → P s → (refusal c s ≡ 0 → P (leaves c s)) → P (command c s .after)
+after-either P c s p q = rw (command-is c s) (decided-either P s (refusal c s) (says c s) (leaves c s) p q)
+
+-- the caller is a made vertex that is executing
+pub record Runs (s : Lent) (t : ℕ) : Type 0 where
+  pub known : sound s ≡ true
+  pub is-made : t < s .made
+  pub executing : status (s .vertices) t ≡ EXECUTING
+
+-- newEdge appends its edge
+pub record Adds (s : Lent) (t1 t2 : ℕ) : Type 0 where
+  pub not-finished : status (s .vertices) t1 ≡ FINISHED → ⊥
+  pub not-held : holds (s .edges) (s .held) t1 t2 ≡ false
+  pub not-same : t1 ≡ t2 → ⊥
+  pub no-path : reaches (s .edges) (s .held) t2 t1 ≡ false
+  pub row-free : s .held < edgeRows (s .edges)
+
+pub record TakenNewEdge (s : Lent) (t1 t2 : ℕ) : Type 0 where
+  pub source-made : t1 < s .made
+  pub target-made : t2 < s .made
+  pub waits : (status (s .vertices) t2 ≡ NEW) ⊎ (status (s .vertices) t2 ≡ RELEASED)
+  pub adds : (status (s .vertices) t1 ≡ FINISHED) ⊎ Adds s t1 t2
+
+pub record TakenTransfer (s : Lent) (t t' : ℕ) : Type 0 where
+  pub is-made : t' < s .made
+  pub is-new : status (s .vertices) t' ≡ NEW
+  pub no-edge-out : leadsOutOf (s .edges) (s .held) t' ≡ false
+  pub no-path : targetReaches (s .edges) (s .held) t t' ≡ false
+
+abbrev pub Taken : Command → Lent → Type 0
+Taken (NewTd t place scope) s = Runs s t × (s .made < vertexRows (s .vertices))
+Taken (NewEdge t t1 t2) s = Runs s t × TakenNewEdge s t1 t2
+Taken (Release t t') s = Runs s t × (t' < s .made) × (status (s .vertices) t' ≡ NEW)
+Taken (Transfer t t') s = Runs s t × TakenTransfer s t t'
+Taken (Start t) s = (sound s ≡ true) × (t < s .made) × (status (s .vertices) t ≡ RELEASED) × (leadsInto (s .edges) (s .held) t ≡ false)
+Taken (Stop t) s = Runs s t
+
+-- each chain, taken apart into its tests and put together again
+taken-newTd : (s : Lent) (t : ℕ) → (newTdRefusal s t ≡ 0) ↔ (Runs s t × (s .made < vertexRows (s .vertices)))
+unfolding newTdRefusal
+taken-newTd s t = (
+  λ h.
+      let (known, h1) = unless-none _ _ _ h in
+      let (made, h2) = unless-none _ _ _ h1 in
+      let (runs, h3) = unless-none _ _ _ h2 in
+      let (free, h4) = unless-none _ _ _ h3 in
+      (record { known = known; is-made = ltb-true _ _ made; executing = eqb-true _ _ runs }, ltb-true _ _ free),
+  λ h.
+      unless-all _ (h .0 .known)
+      (unless-all _ (lt-ltb _ _ (h .0 .is-made))
+      (unless-all _ (eq-eqb _ _ (h .0 .executing)) (unless-all _ (lt-ltb _ _ (h .1)) refl))),
+)
+
+-- the last part of newEdge's chain, by whether the source is finished
+cond-cases : (b : Bool) (m : ℕ) → cond b 0 m ≡ 0 → (b ≡ true) ⊎ ((b ≡ false) × (m ≡ 0))
+cond-cases true m h = inl refl
+cond-cases false m h = inr (refl, h)
+
+cond-left : {b : Bool} (m : ℕ) → b ≡ true → cond b 0 m ≡ 0
+cond-left m p = rw p
+
+cond-right : (b : Bool) {m : ℕ} → m ≡ 0 → cond b 0 m ≡ 0
+cond-right true p = refl
+cond-right false p = p
+
+taken-newEdge : (s : Lent) (t t1 t2 : ℕ) → (newEdgeRefusal s t t1 t2 ≡ 0) ↔ (Runs s t × TakenNewEdge s t1 t2)
+unfolding newEdgeRefusal
+taken-newEdge s t t1 t2 = (
+  λ h.
+      let (known, h1) = unless-none _ _ _ h in
+      let (made, h2) = unless-none _ _ _ h1 in
+      let (runs, h3) = unless-none _ _ _ h2 in
+      let (waits, h4) = unless-none _ _ _ h3 in (
+        record { known = known; is-made = ltb-true _ _ (both-left _ _ made); executing = eqb-true _ _ runs },
+        record {
+          source-made = ltb-true _ _ (both-left _ _ (both-right _ _ made));
+          target-made = ltb-true _ _ (both-right _ _ (both-right _ _ made));
+          waits = ⊎-elim (λ p. inl (eqb-true _ _ p)) (λ p. inr (eqb-true _ _ p)) (either-cases _ _ waits);
+          adds =
+              ⊎-elim (λ p. inl (eqb-true _ _ p))
+              (λ p.
+              let (held, h5) = unless-none _ _ _ (p .1) in
+              let (cycle, h6) = unless-none _ _ _ h5 in
+              let (free, h7) = unless-none _ _ _ h6 in
+              inr
+              (record {
+                not-finished = eqb-false _ _ (p .0);
+                not-held = not-true _ held;
+                not-same = eqb-false _ _ (either-false-left _ _ (not-true _ cycle));
+                no-path = either-false-right _ _ (not-true _ cycle);
+                row-free = ltb-true _ _ free;
+              }))
+              (cond-cases _ _ h4);
+        },
+      ),
+  λ h.
+      unless-all _ (h .0 .known)
+      (unless-all _ (both-true (lt-ltb _ _ (h .0 .is-made)) (both-true (lt-ltb _ _ (h .1 .source-made)) (lt-ltb _ _ (h .1 .target-made))))
+      (unless-all _ (eq-eqb _ _ (h .0 .executing))
+      (unless-all _
+      (⊎-elim (λ p. either-left _ (eq-eqb _ _ p)) (λ p. either-right _ (eq-eqb _ _ p)) (h .1 .waits))
+      (⊎-elim (λ p. cond-left _ (eq-eqb _ _ p))
+      (λ p.
+      cond-right (hasStatus s t1 FINISHED)
+      (unless-all _ (not-of-false (p .not-held))
+      (unless-all _ (not-of-false (either-false (ne-eqb _ _ (p .not-same)) (p .no-path)))
+      (unless-all _ (lt-ltb _ _ (p .row-free)) refl))))
+      (h .1 .adds))))),
+)
+
+taken-release : (s : Lent) (t t' : ℕ) → (releaseRefusal s t t' ≡ 0) ↔ (Runs s t × (t' < s .made) × (status (s .vertices) t' ≡ NEW))
+unfolding releaseRefusal
+taken-release s t t' = (
+  λ h.
+      let (known, h1) = unless-none _ _ _ h in
+      let (made, h2) = unless-none _ _ _ h1 in
+      let (runs, h3) = unless-none _ _ _ h2 in
+      let (new, h4) = unless-none _ _ _ h3 in (
+        record { known = known; is-made = ltb-true _ _ (both-left _ _ made); executing = eqb-true _ _ runs },
+        ltb-true _ _ (both-right _ _ made),
+        eqb-true _ _ new,
+      ),
+  λ h.
+      unless-all _ (h .0 .known)
+      (unless-all _ (both-true (lt-ltb _ _ (h .0 .is-made)) (lt-ltb _ _ (h .1)))
+      (unless-all _ (eq-eqb _ _ (h .0 .executing)) (unless-all _ (eq-eqb _ _ (h .2)) refl))),
+)
+
+taken-transfer : (s : Lent) (t t' : ℕ) → (transferRefusal s t t' ≡ 0) ↔ (Runs s t × TakenTransfer s t t')
+unfolding transferRefusal
+taken-transfer s t t' = (
+  λ h.
+      let (known, h1) = unless-none _ _ _ h in
+      let (made, h2) = unless-none _ _ _ h1 in
+      let (runs, h3) = unless-none _ _ _ h2 in
+      let (new, h4) = unless-none _ _ _ h3 in
+      let (out, h5) = unless-none _ _ _ h4 in
+      let (path, h6) = unless-none _ _ _ h5 in (
+        record { known = known; is-made = ltb-true _ _ (both-left _ _ made); executing = eqb-true _ _ runs },
+        record {
+          is-made = ltb-true _ _ (both-right _ _ made);
+          is-new = eqb-true _ _ new;
+          no-edge-out = not-true _ out;
+          no-path = not-true _ path;
+        },
+      ),
+  λ h.
+      unless-all _ (h .0 .known)
+      (unless-all _ (both-true (lt-ltb _ _ (h .0 .is-made)) (lt-ltb _ _ (h .1 .is-made)))
+      (unless-all _ (eq-eqb _ _ (h .0 .executing))
+      (unless-all _ (eq-eqb _ _ (h .1 .is-new))
+      (unless-all _ (not-of-false (h .1 .no-edge-out)) (unless-all _ (not-of-false (h .1 .no-path)) refl))))),
+)
+
+-- a known status that is none of the three others
+only-released : (x : ℕ) → Known x → eqb x NEW ≡ false → eqb x EXECUTING ≡ false → eqb x FINISHED ≡ false → x ≡ RELEASED
+only-released x known new runs over = omega (arith, eqb-false x NEW new, eqb-false x EXECUTING runs, eqb-false x FINISHED over)
+
+taken-start : (s : Lent) (t : ℕ) → (startRefusal s t ≡ 0) ↔ ((sound s ≡ true) × (t < s .made) × (status (s .vertices) t ≡ RELEASED) × (leadsInto (s .edges) (s .held) t ≡ false))
+unfolding startRefusal
+taken-start s t = (
+  λ h.
+      let (known, h1) = unless-none _ _ _ h in
+      let (made, h2) = unless-none _ _ _ h1 in
+      let (new, h3) = unless-none _ _ _ h2 in
+      let (runs, h4) = unless-none _ _ _ h3 in
+      let (over, h5) = unless-none _ _ _ h4 in
+      let (into, h6) = unless-none _ _ _ h5 in
+      let is-made : t < s .made = ltb-true _ _ made in (
+        known,
+        is-made,
+        only-released _ (sound-fits s known .statuses-known t is-made) (not-true _ new) (not-true _ runs) (not-true _ over),
+        not-true _ into,
+      ),
+  λ h.
+      unless-all _ (h .0)
+      (unless-all _ (lt-ltb _ _ (h .1))
+      (unless-all _ (not-of-false (ne-eqb (status (s .vertices) t) NEW (omega (arith, h .2))))
+      (unless-all _ (not-of-false (ne-eqb (status (s .vertices) t) EXECUTING (omega (arith, h .2))))
+      (unless-all _ (not-of-false (ne-eqb (status (s .vertices) t) FINISHED (omega (arith, h .2)))) (unless-all _ (not-of-false (h .3)) refl))))),
+)
+
+taken-stop : (s : Lent) (t : ℕ) → (stopRefusal s t ≡ 0) ↔ Runs s t
+unfolding stopRefusal
+taken-stop s t = (
+  λ h.
+      let (known, h1) = unless-none _ _ _ h in
+      let (made, h2) = unless-none _ _ _ h1 in
+      let (runs, h3) = unless-none _ _ _ h2 in
+      record { known = known; is-made = ltb-true _ _ made; executing = eqb-true _ _ runs },
+  λ h. unless-all _ (h .known) (unless-all _ (lt-ltb _ _ (h .is-made)) (unless-all _ (eq-eqb _ _ (h .executing)) refl)),
+)
+
+pub taken : (c : Command) (s : Lent) → (refusal c s ≡ 0) ↔ Taken c s
+taken (NewTd t place scope) s = taken-newTd s t
+taken (NewEdge t t1 t2) s = taken-newEdge s t t1 t2
+taken (Release t t') s = taken-release s t t'
+taken (Transfer t t') s = taken-transfer s t t'
+taken (Start t) s = taken-start s t
+taken (Stop t) s = taken-stop s t
+
+-- the row that a command needs was free
+pub row-free-of : (c : Command) (s : Lent) → Taken c s → RowFree c s
+row-free-of (NewTd t place scope) s h = h .1
+row-free-of (NewEdge t t1 t2) s h = ⊎-elim inl (λ p. inr (p .row-free)) (h .1 .adds)
+row-free-of (Release t t') s h = tt
+row-free-of (Transfer t t') s h = tt
+row-free-of (Start t) s h = tt
+row-free-of (Stop t) s h = tt

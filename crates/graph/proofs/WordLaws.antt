@@ -1,0 +1,79 @@
+-- No other word: outside the words that a command may change, both tables and the count of steps are what they were.
+use Prim.Native.Nat.{ℕ, _+_, _*_, _<_, _≤_}
+use mathlib.Core.Path.{_≡_, refl}
+use mathlib.Core.Bool.{Bool, true, false, cond}
+use mathlib.Core.List.{List}
+use native.Mathlib.Omega.{arith}
+use lib.ListN.{length-set}
+use lib.Seq.{getD-set-other}
+use Rattle.graph.specs.declared.Command.{Command}
+use Rattle.graph.specs.declared.Command.the-variants.{NewTd, NewEdge, Release, Transfer, Start, Stop}
+use Rattle.graph.specs.Tables.{Lent, RELEASED, EXECUTING, FINISHED, vertexWords, statusWord, edgeRows, setStatus}
+use Rattle.graph.specs.Commands.{hasStatus, withVertex, withEdge, withMoved, stopped}
+use Rattle.graph.specs.Demand2.{VertexWordOf, EdgeWordOf, SameBut, NewRowOf}
+use Rattle.graph.proofs.TableLaws.{length-newRow, newRow-out, newRow-status, newRow-place, newRow-scope, newRow-zero, length-appended, appended-out, length-moved, moved-out, length-without, without-later}
+use Rattle.graph.proofs.TakenLaws.{leaves, Taken}
+
+same-all : (P : ℕ → Type 0) (l : List ℕ) → SameBut P l l
+same-all P l = (refl, λ i f. refl)
+
+same-but-status : (v : List ℕ) (k x : ℕ) → SameBut (λ i. i ≡ vertexWords * k + statusWord) v (setStatus v k x)
+same-but-status v k x = (length-set v (vertexWords * k + statusWord) x, λ i f. getD-set-other v (vertexWords * k + statusWord) i x 0 f)
+
+pub vertex-words-of : (c : Command) (s : Lent) → SameBut (VertexWordOf c s) (s .vertices) (leaves c s .vertices)
+unfolding withVertex withEdge withMoved stopped
+vertex-words-of (NewTd t place scope) s = (length-newRow (s .vertices) (s .made) place scope, newRow-out (s .vertices) (s .made) place scope)
+vertex-words-of (NewEdge t t1 t2) s = go (hasStatus s t1 FINISHED)
+  where
+    go : (b : Bool) → SameBut (λ i. ⊥) (s .vertices) (cond b s (withEdge s t1 t2) .vertices)
+    go true = same-all (λ i. ⊥) (s .vertices)
+    go false = same-all (λ i. ⊥) (s .vertices)
+vertex-words-of (Release t t') s = same-but-status (s .vertices) t' RELEASED
+vertex-words-of (Transfer t t') s = same-all (λ i. ⊥) (s .vertices)
+vertex-words-of (Start t) s = same-but-status (s .vertices) t EXECUTING
+vertex-words-of (Stop t) s = same-but-status (s .vertices) t FINISHED
+
+pub edge-words-of : (c : Command) (s : Lent) → s .held ≤ edgeRows (s .edges) → SameBut (EdgeWordOf c s) (s .edges) (leaves c s .edges)
+unfolding withVertex withEdge withMoved stopped
+edge-words-of (NewTd t place scope) s le = same-all (λ i. ⊥) (s .edges)
+edge-words-of (NewEdge t t1 t2) s le = go (hasStatus s t1 FINISHED)
+  where
+    go : (b : Bool) → SameBut (EdgeWordOf (NewEdge t t1 t2) s) (s .edges) (cond b s (withEdge s t1 t2) .edges)
+    go true = same-all (EdgeWordOf (NewEdge t t1 t2) s) (s .edges)
+    go false = (length-appended (s .edges) (s .held) t1 t2, appended-out (s .edges) (s .held) t1 t2)
+edge-words-of (Release t t') s le = same-all (λ i. ⊥) (s .edges)
+edge-words-of (Transfer t t') s le = (length-moved t t' (s .edges) (s .held), moved-out t t' (s .edges) (s .held))
+edge-words-of (Start t) s le = same-all (λ i. ⊥) (s .edges)
+edge-words-of (Stop t) s le =
+    (length-without t (s .edges) (s .held) le, λ i f. without-later t (s .edges) (s .held) i (not-below f))
+  where
+    not-below : {i k : ℕ} → (i < k → ⊥) → k ≤ i
+    not-below f = omega arith
+
+pub new-row-of : (c : Command) (s : Lent) → Taken c s → NewRowOf c s (leaves c s)
+unfolding withVertex
+new-row-of (NewTd t place scope) s h =
+    record {
+      is-new = newRow-status (s .vertices) (s .made) place scope (h .1);
+      has-place = newRow-place (s .vertices) (s .made) place scope (h .1);
+      has-scope = newRow-scope (s .vertices) (s .made) place scope (h .1);
+      others-zero = newRow-zero (s .vertices) (s .made) place scope;
+    }
+new-row-of (NewEdge t t1 t2) s h = tt
+new-row-of (Release t t') s h = tt
+new-row-of (Transfer t t') s h = tt
+new-row-of (Start t) s h = tt
+new-row-of (Stop t) s h = tt
+
+pub steps-kept-of : (c : Command) (s : Lent) → leaves c s .steps ≡ s .steps
+unfolding withVertex withEdge withMoved stopped
+steps-kept-of (NewTd t place scope) s = refl
+steps-kept-of (NewEdge t t1 t2) s = go (hasStatus s t1 FINISHED)
+  where
+    go : (b : Bool) → cond b s (withEdge s t1 t2) .steps ≡ s .steps
+    go true = refl
+    go false = refl
+steps-kept-of (Release t t') s = refl
+steps-kept-of (Transfer t t') s = refl
+steps-kept-of (Start t) s = refl
+steps-kept-of (Stop t) s = refl

@@ -1,0 +1,110 @@
+-- What a call answers, and the outcome of a call: its answer and what is lent afterwards.
+use Prim.Native.Nat.{ℕ, zero, suc}
+use mathlib.Core.Bool.{Bool, true, false}
+use mathlib.Core.List.{List}
+use Rattle.graph.specs.declared.Answer.{Answer}
+use Rattle.graph.specs.declared.Answer.the-variants.{Opened, Start, New, Edge, Release, Transfer, Stop, Refused}
+use Rattle.graph.specs.declared.Done.{Done}
+use Rattle.graph.specs.Tables.{Lent, lent}
+
+-- "Refusals by who causes them". The lender:
+abbrev pub no-vertex-rows : ℕ
+no-vertex-rows = 10
+
+abbrev pub unsound-tables : ℕ
+unsound-tables = 12
+
+-- the host, choosing:
+abbrev pub no-such-vertex : ℕ
+no-such-vertex = 20
+
+abbrev pub edge-leads-in : ℕ
+edge-leads-in = 21
+
+abbrev pub vertex-new : ℕ
+vertex-new = 22
+
+abbrev pub vertex-finished : ℕ
+vertex-finished = 23
+
+abbrev pub vertex-executing : ℕ
+vertex-executing = 39
+
+-- the caller of single commands:
+abbrev pub caller-not-executing : ℕ
+caller-not-executing = 30
+
+abbrev pub no-vertex-row : ℕ
+no-vertex-row = 31
+
+abbrev pub no-edge-row : ℕ
+no-edge-row = 32
+
+abbrev pub target-not-waiting : ℕ
+target-not-waiting = 33
+
+abbrev pub edge-held : ℕ
+edge-held = 34
+
+abbrev pub closes-cycle : ℕ
+closes-cycle = 35
+
+abbrev pub release-not-new : ℕ
+release-not-new = 36
+
+abbrev pub transfer-not-new : ℕ
+transfer-not-new = 37
+
+abbrev pub transfer-has-edge-out : ℕ
+transfer-has-edge-out = 38
+
+-- What the paper has a call say. A refusal has its number and its place.
+pub data Said : Type 0 where
+  opened : Said
+  start : Said
+  new : ℕ → Said
+  edge : ℕ → ℕ → Said
+  release : ℕ → Said
+  transfer : ℕ → Said
+  stop : Said
+  refused : ℕ → ℕ → Said
+
+-- "Where an answer is an enum, a definition gives this paper's number and values for each of its cases"
+abbrev pub said : Answer → Said
+said Opened = Said.opened
+said Start = Said.start
+said (New v) = Said.new v
+said (Edge a b) = Said.edge a b
+said (Release v) = Said.release v
+said (Transfer v) = Said.transfer v
+said Stop = Said.stop
+said (Refused r) = Said.refused (r .number) (r .place)
+
+abbrev pub accepted : Said → Bool
+accepted opened = true
+accepted start = true
+accepted (new v) = true
+accepted (edge a b) = true
+accepted (release v) = true
+accepted (transfer v) = true
+accepted stop = true
+accepted (refused n p) = false
+
+pub record Outcome : Type 0 where
+  pub answer : Said
+  pub after : Lent
+
+-- the outcome that the code gives: its result, and the tables at exit
+abbrev pub outcome : Done → List ℕ → List ℕ → Outcome
+outcome r v e = record { answer = said (r .answer); after = lent v e (r .tally) }
+
+-- The first refusal of a chain of tests, 0 where none is due: n where the test fails, else what the later tests give.
+unfoldable pub unless : Bool → ℕ → ℕ → ℕ
+unless true n rest = rest
+unless false n rest = n
+
+-- "A refusal gives its number and place, and every lent table and the tally hold what they held." With no refusal due
+-- the call says `answer` and leaves `after`. The refusals of commands and of the opening have the place 0.
+unfoldable pub decided : Lent → ℕ → Said → Lent → Outcome
+decided s zero answer after = record { answer = answer; after = after }
+decided s (suc n) answer after = record { answer = refused (suc n) 0; after = s }

@@ -1,0 +1,200 @@
+-- The opening and the six commands: for each the refusals in the paper's order, and what an accepted call leaves.
+use Prim.Native.Nat.{ℕ, zero, suc, _+_, _-_, _*_}
+use mathlib.Core.Bool.{Bool, not, cond}
+use mathlib.Core.List.{List, [], _∷_, _++_}
+use lib.ListN.{length, drop, replicate}
+use lib.Dec.{eqb, ltb}
+use Rattle.graph.specs.declared.Command.{Command}
+use Rattle.graph.specs.declared.Command.the-variants.{NewTd, NewEdge, Release, Transfer, Start, Stop}
+use Rattle.graph.specs.Tests.{both, either, any}
+use Rattle.graph.specs.Tables.{Lent, NEW, RELEASED, EXECUTING, FINISHED, vertexWords, edgeWords, placeWord, scopeWord, sourceWord, targetWord, vertexRows, edgeRows, status, setStatus, setVertexWord, setEdgeWord, source, target, clear}
+use Rattle.graph.specs.Answers.{Said, Outcome, unless, decided, no-vertex-rows, unsound-tables, no-such-vertex, edge-leads-in, vertex-new, vertex-finished, vertex-executing, caller-not-executing, no-vertex-row, no-edge-row, target-not-waiting, edge-held, closes-cycle, release-not-new, transfer-not-new, transfer-has-edge-out}
+use Rattle.graph.specs.Sound.{sound}
+use Rattle.graph.specs.Paths.{holds, leadsInto, leadsOutOf, reaches}
+
+abbrev pub isMade : Lent → ℕ → Bool
+isMade s t = ltb t (s .made)
+
+abbrev pub hasStatus : Lent → ℕ → ℕ → Bool
+hasStatus s t x = eqb (status (s .vertices) t) x
+
+abbrev pub withStatus : Lent → ℕ → ℕ → Lent
+withStatus s t x =
+    record { vertices = setStatus (s .vertices) t x; edges = s .edges; made = s .made; held = s .held; steps = s .steps }
+
+-- "Opening the bare machine clears the used rows and tally and makes vertex 0, released, other words 0."
+unfoldable pub openingRefusal : Lent → ℕ
+openingRefusal s = unless (ltb 0 (vertexRows (s .vertices))) no-vertex-rows 0
+
+unfoldable pub openedTables : Lent → Lent
+openedTables s =
+    record {
+      vertices = setStatus (clear (s .vertices) 0 (vertexWords * vertexRows (s .vertices))) 0 RELEASED;
+      edges = clear (s .edges) 0 (edgeWords * edgeRows (s .edges));
+      made = 1;
+      held = 0;
+      steps = 0;
+    }
+
+unfoldable pub opening : Lent → Outcome
+opening s = decided s (openingRefusal s) Said.opened (openedTables s)
+
+-- "newTd makes the next vertex, new, with the place and scope handed in and its other words 0."
+unfoldable pub newTdRefusal : Lent → ℕ → ℕ
+newTdRefusal s t =
+    unless (sound s) unsound-tables
+    (unless (isMade s t) no-such-vertex
+    (unless (hasStatus s t EXECUTING) caller-not-executing
+    (unless (ltb (s .made) (vertexRows (s .vertices))) no-vertex-row 0)))
+
+unfoldable pub newRow : List ℕ → ℕ → ℕ → ℕ → List ℕ
+newRow v k place scope =
+    setVertexWord
+    (setVertexWord (setStatus (clear v (vertexWords * k) vertexWords) k NEW) k placeWord place)
+    k
+    scopeWord
+    scope
+
+unfoldable pub withVertex : Lent → ℕ → ℕ → Lent
+withVertex s place scope =
+    record {
+      vertices = newRow (s .vertices) (s .made) place scope;
+      edges = s .edges;
+      made = s .made + 1;
+      held = s .held;
+      steps = s .steps;
+    }
+
+unfoldable pub newTd : Lent → ℕ → ℕ → ℕ → Outcome
+newTd s t place scope = decided s (newTdRefusal s t) (Said.new (s .made)) (withVertex s place scope)
+
+-- "newEdge t1 to t2: t2 is new or released. A finished t1 adds nothing and is accepted. Otherwise the edge must not be held
+-- already, and is appended." "Cycle for newEdge: t1 is t2 or t2 reaches t1."
+unfoldable pub newEdgeRefusal : Lent → ℕ → ℕ → ℕ → ℕ
+newEdgeRefusal s t t1 t2 =
+    unless (sound s) unsound-tables
+    (unless (both (isMade s t) (both (isMade s t1) (isMade s t2))) no-such-vertex
+    (unless (hasStatus s t EXECUTING) caller-not-executing
+    (unless (either (hasStatus s t2 NEW) (hasStatus s t2 RELEASED)) target-not-waiting
+    (cond (hasStatus s t1 FINISHED) 0
+    (unless (not (holds (s .edges) (s .held) t1 t2)) edge-held
+    (unless (not (either (eqb t1 t2) (reaches (s .edges) (s .held) t2 t1))) closes-cycle
+    (unless (ltb (s .held) (edgeRows (s .edges))) no-edge-row 0)))))))
+
+unfoldable pub appended : List ℕ → ℕ → ℕ → ℕ → List ℕ
+appended e n t1 t2 = setEdgeWord (setEdgeWord e n sourceWord t1) n targetWord t2
+
+unfoldable pub withEdge : Lent → ℕ → ℕ → Lent
+withEdge s t1 t2 =
+    record {
+      vertices = s .vertices;
+      edges = appended (s .edges) (s .held) t1 t2;
+      made = s .made;
+      held = s .held + 1;
+      steps = s .steps;
+    }
+
+unfoldable pub newEdge : Lent → ℕ → ℕ → ℕ → Outcome
+newEdge s t t1 t2 =
+    decided s (newEdgeRefusal s t t1 t2) (Said.edge t1 t2) (cond (hasStatus s t1 FINISHED) s (withEdge s t1 t2))
+
+-- "release turns a new vertex released."
+unfoldable pub releaseRefusal : Lent → ℕ → ℕ → ℕ
+releaseRefusal s t t' =
+    unless (sound s) unsound-tables
+    (unless (both (isMade s t) (isMade s t')) no-such-vertex
+    (unless (hasStatus s t EXECUTING) caller-not-executing (unless (hasStatus s t' NEW) release-not-new 0)))
+
+unfoldable pub release : Lent → ℕ → ℕ → Outcome
+release s t t' = decided s (releaseRefusal s t t') (Said.release t') (withStatus s t' RELEASED)
+
+-- "Cycle for transfer: some target of t is t' or reaches t'."
+unfoldable pub targetReaches : List ℕ → ℕ → ℕ → ℕ → Bool
+targetReaches e n t t' =
+    any (λ i. both (eqb (source e i) t) (either (eqb (target e i) t') (reaches e n (target e i) t'))) n
+
+-- "transfer to t': t' is new with no edge out; each edge out of t gets t' as its source, in its row."
+unfoldable pub transferRefusal : Lent → ℕ → ℕ → ℕ
+transferRefusal s t t' =
+    unless (sound s) unsound-tables
+    (unless (both (isMade s t) (isMade s t')) no-such-vertex
+    (unless (hasStatus s t EXECUTING) caller-not-executing
+    (unless (hasStatus s t' NEW) transfer-not-new
+    (unless (not (leadsOutOf (s .edges) (s .held) t')) transfer-has-edge-out
+    (unless (not (targetReaches (s .edges) (s .held) t t')) closes-cycle 0)))))
+
+-- row i, with t' as its source where that was t
+unfoldable pub movedRow : ℕ → ℕ → List ℕ → ℕ → List ℕ
+movedRow t t' e i = cond (eqb (source e i) t) (setEdgeWord e i sourceWord t') e
+
+unfoldable pub moved : ℕ → ℕ → List ℕ → ℕ → List ℕ
+moved t t' e zero = e
+moved t t' e (suc n) = movedRow t t' (moved t t' e n) n
+
+unfoldable pub withMoved : Lent → ℕ → ℕ → Lent
+withMoved s t t' =
+    record {
+      vertices = s .vertices;
+      edges = moved t t' (s .edges) (s .held);
+      made = s .made;
+      held = s .held;
+      steps = s .steps;
+    }
+
+unfoldable pub transfer : Lent → ℕ → ℕ → Outcome
+transfer s t t' = decided s (transferRefusal s t t') (Said.transfer t') (withMoved s t t')
+
+-- "start turns a released vertex with no edge into it executing."
+unfoldable pub startRefusal : Lent → ℕ → ℕ
+startRefusal s t =
+    unless (sound s) unsound-tables
+    (unless (isMade s t) no-such-vertex
+    (unless (not (hasStatus s t NEW)) vertex-new
+    (unless (not (hasStatus s t EXECUTING)) vertex-executing
+    (unless (not (hasStatus s t FINISHED)) vertex-finished
+    (unless (not (leadsInto (s .edges) (s .held) t)) edge-leads-in 0)))))
+
+unfoldable pub start : Lent → ℕ → Outcome
+start s t = decided s (startRefusal s t) Said.start (withStatus s t EXECUTING)
+
+-- "stop finishes t and drops its edges out."
+unfoldable pub stopRefusal : Lent → ℕ → ℕ
+stopRefusal s t =
+    unless (sound s) unsound-tables
+    (unless (isMade s t) no-such-vertex (unless (hasStatus s t EXECUTING) caller-not-executing 0))
+
+-- how many of the first n rows have another source than t, and their words, in order
+unfoldable pub keptRows : ℕ → List ℕ → ℕ → ℕ
+keptRows t e zero = 0
+keptRows t e (suc n) = keptRows t e n + cond (eqb (source e n) t) 0 1
+
+unfoldable pub kept : ℕ → List ℕ → ℕ → List ℕ
+kept t e zero = []
+kept t e (suc n) = kept t e n ++ cond (eqb (source e n) t) [] (source e n ∷ target e n ∷ [])
+
+-- "a stop closes the gaps, keeps the order and zeroes freed rows"
+unfoldable pub withoutEdgesOf : ℕ → List ℕ → ℕ → List ℕ
+withoutEdgesOf t e n =
+    kept t e n ++ (replicate (edgeWords * n - edgeWords * keptRows t e n) 0 ++ drop (edgeWords * n) e)
+
+unfoldable pub stopped : Lent → ℕ → Lent
+stopped s t =
+    record {
+      vertices = setStatus (s .vertices) t FINISHED;
+      edges = withoutEdgesOf t (s .edges) (s .held);
+      made = s .made;
+      held = keptRows t (s .edges) (s .held);
+      steps = s .steps;
+    }
+
+unfoldable pub stop : Lent → ℕ → Outcome
+stop s t = decided s (stopRefusal s t) Said.stop (stopped s t)
+
+-- the six commands as one
+unfoldable pub command : Command → Lent → Outcome
+command (NewTd t place scope) s = newTd s t place scope
+command (NewEdge t t1 t2) s = newEdge s t t1 t2
+command (Release t t') s = release s t t'
+command (Transfer t t') s = transfer s t t'
+command (Start t) s = start s t
+command (Stop t) s = stop s t

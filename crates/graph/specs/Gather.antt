@@ -1,0 +1,14 @@
+-- What gathering the edges that a stop keeps leaves behind: it serves the proof of the code, and nobody has to believe it.
+use Prim.Native.Nat.{ℕ, _*_, _≤_}
+use mathlib.Core.Path.{_≡_}
+use mathlib.Core.List.{List}
+use lib.ListN.{length, take, drop}
+use Rattle.graph.specs.Tables.{edgeWords}
+use Rattle.graph.specs.Commands.{kept, keptRows}
+
+-- e' has the rows of the first n of e that are not out of t at its front, and is e from row n on
+pub record Gathered (t : ℕ) (e e' : List ℕ) (n : ℕ) : Type 0 where
+  pub front : take (edgeWords * keptRows t e n) e' ≡ kept t e n
+  pub rest : drop (edgeWords * n) e' ≡ drop (edgeWords * n) e
+  pub same-length : length e' ≡ length e
+  pub within : keptRows t e n ≤ n

@@ -1,0 +1,210 @@
+// The opening and the six commands, with the tally by value. Each looks for the first refusal that is due, and stores only where there
+// is none.
+use crate::Answer;
+use crate::Command;
+use crate::Done;
+use crate::Refusal;
+use crate::Tally;
+use crate::edges::drop_edges;
+use crate::edges::move_sources;
+use crate::refusals::ACCEPTED;
+use crate::refusals::NO_VERTEX_ROWS;
+use crate::refusals::new_edge_refusal;
+use crate::refusals::new_td_refusal;
+use crate::refusals::release_refusal;
+use crate::refusals::start_refusal;
+use crate::refusals::stop_refusal;
+use crate::refusals::transfer_refusal;
+use crate::rows::EDGE_WORDS;
+use crate::rows::EXECUTING;
+use crate::rows::FINISHED;
+use crate::rows::RELEASED;
+use crate::rows::STATUS;
+use crate::rows::VERTEX_WORDS;
+use crate::rows::append_edge;
+use crate::rows::clear;
+use crate::rows::edge_rows;
+use crate::rows::make_row;
+use crate::rows::set_status;
+use crate::rows::vertex_rows;
+ghost use mathlib.Core.Path.{_≡_};
+ghost use Rattle.graph.specs.Tables.{lent};
+ghost use Rattle.graph.specs.Answers.{Said, said, outcome};
+ghost use Rattle.graph.specs.Commands.{opening, newTd, newEdge, release, transfer, start, stop, command};
+
+fn refused(number: u32, tally: Tally) -> Done
+    ensures { λ r. ⌜ (said (r .answer) ≡ Said.refused number 0) × (r .tally ≡ tally) ⌝ }
+{
+    Done {
+        answer: Answer::Refused(Refusal { number, place: 0 }),
+        tally,
+    }
+}
+
+// Opens the bare machine: clears the usable rows and the tally, and makes vertex 0, released.
+pub fn open_by_value(vertices: &mut [u32], edges: &mut [u32], tally: Tally) -> Done
+    ensures { λ r. ⌜ outcome r (now (vertices .exit)) (now (edges .exit)) ≡ opening (lent (now (vertices .entry)) (now (edges .entry)) tally) ⌝ }
+{
+    let rows = vertex_rows(vertices);
+    if rows == 0 {
+        return refused(NO_VERTEX_ROWS, tally);
+    }
+    clear(vertices, 0, VERTEX_WORDS * rows);
+    set_status(vertices, 0, RELEASED);
+    let edge_rows = edge_rows(edges);
+    clear(edges, 0, EDGE_WORDS * edge_rows);
+    Done {
+        answer: Answer::Opened,
+        tally: Tally {
+            made: 1,
+            held: 0,
+            steps: 0,
+        },
+    }
+}
+
+pub fn new_td(
+    vertices: &mut [u32],
+    edges: &[u32],
+    tally: Tally,
+    caller: u32,
+    place: u32,
+    scope: u32,
+) -> Done
+    ensures { λ r. ⌜ outcome r (now (vertices .exit)) (now (edges .entry)) ≡ newTd (lent (now (vertices .entry)) (now (edges .entry)) tally) caller place scope ⌝ }
+{
+    let refusal = new_td_refusal(vertices, edges, tally, caller);
+    if refusal != ACCEPTED {
+        return refused(refusal, tally);
+    }
+    let made = tally.made;
+    make_row(vertices, made as usize, place, scope);
+    Done {
+        answer: Answer::New(made),
+        tally: Tally {
+            made: made + 1,
+            held: tally.held,
+            steps: tally.steps,
+        },
+    }
+}
+
+pub fn new_edge(
+    vertices: &[u32],
+    edges: &mut [u32],
+    tally: Tally,
+    caller: u32,
+    source: u32,
+    target: u32,
+) -> Done
+    ensures { λ r. ⌜ outcome r (now (vertices .entry)) (now (edges .exit)) ≡ newEdge (lent (now (vertices .entry)) (now (edges .entry)) tally) caller source target ⌝ }
+{
+    let refusal = new_edge_refusal(vertices, edges, tally, caller, source, target);
+    if refusal != ACCEPTED {
+        return refused(refusal, tally);
+    }
+    if vertices[VERTEX_WORDS * (source as usize) + STATUS] == FINISHED {
+        return Done {
+            answer: Answer::Edge(source, target),
+            tally,
+        };
+    }
+    let held = tally.held;
+    append_edge(edges, held as usize, source, target);
+    Done {
+        answer: Answer::Edge(source, target),
+        tally: Tally {
+            made: tally.made,
+            held: held + 1,
+            steps: tally.steps,
+        },
+    }
+}
+
+pub fn release(vertices: &mut [u32], edges: &[u32], tally: Tally, caller: u32, vertex: u32) -> Done
+    ensures { λ r. ⌜ outcome r (now (vertices .exit)) (now (edges .entry)) ≡ release (lent (now (vertices .entry)) (now (edges .entry)) tally) caller vertex ⌝ }
+{
+    let refusal = release_refusal(vertices, edges, tally, caller, vertex);
+    if refusal != ACCEPTED {
+        return refused(refusal, tally);
+    }
+    set_status(vertices, vertex as usize, RELEASED);
+    Done {
+        answer: Answer::Release(vertex),
+        tally,
+    }
+}
+
+pub fn transfer(vertices: &[u32], edges: &mut [u32], tally: Tally, caller: u32, vertex: u32) -> Done
+    ensures { λ r. ⌜ outcome r (now (vertices .entry)) (now (edges .exit)) ≡ transfer (lent (now (vertices .entry)) (now (edges .entry)) tally) caller vertex ⌝ }
+{
+    let refusal = transfer_refusal(vertices, edges, tally, caller, vertex);
+    if refusal != ACCEPTED {
+        return refused(refusal, tally);
+    }
+    move_sources(edges, tally.held as usize, caller, vertex);
+    Done {
+        answer: Answer::Transfer(vertex),
+        tally,
+    }
+}
+
+pub fn start(vertices: &mut [u32], edges: &[u32], tally: Tally, vertex: u32) -> Done
+    ensures { λ r. ⌜ outcome r (now (vertices .exit)) (now (edges .entry)) ≡ start (lent (now (vertices .entry)) (now (edges .entry)) tally) vertex ⌝ }
+{
+    let refusal = start_refusal(vertices, edges, tally, vertex);
+    if refusal != ACCEPTED {
+        return refused(refusal, tally);
+    }
+    set_status(vertices, vertex as usize, EXECUTING);
+    Done {
+        answer: Answer::Start,
+        tally,
+    }
+}
+
+pub fn stop(vertices: &mut [u32], edges: &mut [u32], tally: Tally, caller: u32) -> Done
+    ensures { λ r. ⌜ outcome r (now (vertices .exit)) (now (edges .exit)) ≡ stop (lent (now (vertices .entry)) (now (edges .entry)) tally) caller ⌝ }
+{
+    let refusal = stop_refusal(vertices, edges, tally, caller);
+    if refusal != ACCEPTED {
+        return refused(refusal, tally);
+    }
+    set_status(vertices, caller as usize, FINISHED);
+    let kept = drop_edges(edges, tally.held as usize, caller);
+    Done {
+        answer: Answer::Stop,
+        tally: Tally {
+            made: tally.made,
+            held: kept as u32,
+            steps: tally.steps,
+        },
+    }
+}
+
+// Any single command.
+pub fn command_by_value(
+    vertices: &mut [u32],
+    edges: &mut [u32],
+    tally: Tally,
+    given: Command,
+) -> Done
+    ensures { λ r. ⌜ outcome r (now (vertices .exit)) (now (edges .exit)) ≡ command given (lent (now (vertices .entry)) (now (edges .entry)) tally) ⌝ }
+{
+    match given {
+        Command::NewTd {
+            caller,
+            place,
+            scope,
+        } => new_td(vertices, edges, tally, caller, place, scope),
+        Command::NewEdge {
+            caller,
+            source,
+            target,
+        } => new_edge(vertices, edges, tally, caller, source, target),
+        Command::Release { caller, vertex } => release(vertices, edges, tally, caller, vertex),
+        Command::Transfer { caller, vertex } => transfer(vertices, edges, tally, caller, vertex),
+        Command::Start { vertex } => start(vertices, edges, tally, vertex),
+        Command::Stop { caller } => stop(vertices, edges, tally, caller),
+    }
+}

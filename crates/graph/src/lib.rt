@@ -1,0 +1,70 @@
+// The task graph of the dag-calculus in lent tables: the opening and the six commands.
+//
+// Everything that is kept between calls is lent by the caller: a table of vertex rows, a table of edge rows and the tally. Each call
+// ends in an accepted command or in a numbered refusal that changed nothing. What each function does is an equation with a
+// definition of specs/.
+mod commands;
+mod edges;
+mod paths;
+mod refusals;
+mod rows;
+mod sound;
+
+// The tally: how much of the tables is in use. Single commands leave `steps` alone.
+pub struct Tally {
+    pub made: u32,
+    pub held: u32,
+    pub steps: u32,
+}
+
+// A single command, with the vertices that it names.
+pub enum Command {
+    NewTd {
+        caller: u32,
+        place: u32,
+        scope: u32,
+    },
+    NewEdge {
+        caller: u32,
+        source: u32,
+        target: u32,
+    },
+    Release {
+        caller: u32,
+        vertex: u32,
+    },
+    Transfer {
+        caller: u32,
+        vertex: u32,
+    },
+    Start {
+        vertex: u32,
+    },
+    Stop {
+        caller: u32,
+    },
+}
+
+// A refusal's number, and its place: an offset in the program where the writer of the program caused it, else 0.
+pub struct Refusal {
+    pub number: u32,
+    pub place: u32,
+}
+
+// What a call answers.
+pub enum Answer {
+    Opened,
+    Start,
+    New(u32),
+    Edge(u32, u32),
+    Release(u32),
+    Transfer(u32),
+    Stop,
+    Refused(Refusal),
+}
+
+// The result of a call: its answer, and the tally afterwards.
+pub struct Done {
+    pub answer: Answer,
+    pub tally: Tally,
+}

@@ -1,0 +1,108 @@
+// Whether a path of held edges leads from one vertex to another: a breadth-first search backwards from the vertex to be reached.
+// Linear in the vertices and the held edges: the edge rows into each vertex are chained in one pass, and each vertex is looked at
+// once, or twice where it is the one to be reached. It takes four words of stack for each usable row, 16 KiB.
+use crate::rows::EDGE_WORDS;
+use crate::rows::SOURCE;
+use crate::rows::TARGET;
+use crate::rows::USABLE_LIMIT;
+ghost use mathlib.Core.Path.{_≡_};
+ghost use Prim.Native.Nat.{_*_, _≤_, _<_};
+ghost use lib.ListN.{length};
+ghost use Rattle.graph.specs.Tables.{edgeWords, usableLimit};
+ghost use Rattle.graph.specs.Paths.{reaches};
+ghost use Rattle.graph.specs.Search.{Rows, Searchable, Chained, blank, Chain, Room, Scanned};
+
+// Chains the held rows by their targets: `next` has a word for each of them. A row is counted from 1, so that 0 ends a chain.
+fn chain_rows(edges: &[u32], first: &mut [u32], next: &mut [u32])
+    requires { ⌜ Rows (now edges) (length (now next)) ⌝ }
+    requires { ⌜ now first ≡ blank ⌝ }
+    ensures { λ _. ⌜ Chained (now (edges .entry)) (length (now (next .entry))) (now (first .exit)) (now (next .exit)) ⌝ }
+{
+    for i in 0..next.len() {
+        let target = edges[EDGE_WORDS * i + TARGET] as usize;
+        next[i] = first[target];
+        first[target] = (i + 1) as u32;
+    }
+}
+
+// Follows the chain that starts at `row`. Each source that is not marked yet is marked and put into the queue, whose new end is
+// the result.
+fn scan(
+    edges: &[u32],
+    next: &[u32],
+    row: u32,
+    marked: &mut [u32],
+    queue: &mut [u32],
+    tail: usize,
+) -> usize
+    requires { ⌜ Chain (now edges) (now next) row ⌝ }
+    requires { ⌜ Room (now marked) (now queue) tail ⌝ }
+    ensures { λ r. ⌜ Scanned (now (edges .entry)) row (now (marked .entry)) (now (queue .entry)) tail 0 (now (marked .exit)) (now (queue .exit)) r ⌝ }
+{
+    let mut left = row;
+    let mut end = tail;
+    while left != 0 {
+        let i = (left - 1) as usize;
+        let source = edges[EDGE_WORDS * i + SOURCE];
+        let mark = source as usize;
+        left = next[i];
+        if marked[mark] == 0 {
+            marked[mark] = 1;
+            queue[end] = source;
+            end += 1;
+        }
+    }
+    end
+}
+
+// Looks at the vertex to be reached and then at each vertex of the queue, until `from` is marked or the queue is at its end.
+fn search_back(
+    edges: &[u32],
+    first: &[u32],
+    next: &[u32],
+    from: u32,
+    to: u32,
+    marked: &mut [u32],
+    queue: &mut [u32],
+) -> bool
+    requires { ⌜ Rows (now edges) (length (now next)) ⌝ }
+    requires { ⌜ Chained (now edges) (length (now next)) (now first) (now next) ⌝ }
+    requires { ⌜ (from < usableLimit) × (to < usableLimit) ⌝ }
+    requires { ⌜ (now marked ≡ blank) × (length (now queue) ≡ usableLimit) ⌝ }
+    ensures { λ r. ⌜ r ≡ reaches (now (edges .entry)) (length (now (next .entry))) from to ⌝ }
+{
+    let mut vertex = to as usize;
+    let mut head = 0;
+    let mut tail = 0;
+    loop {
+        tail = scan(edges, next, first[vertex], marked, queue, tail);
+        if marked[from as usize] != 0 {
+            return true;
+        }
+        if head == tail {
+            return false;
+        }
+        vertex = queue[head] as usize;
+        head += 1;
+    }
+}
+
+pub(crate) fn reaches(edges: &[u32], held: usize, from: u32, to: u32) -> bool
+    requires { ⌜ Searchable (now edges) held from to ⌝ }
+    ensures { λ r. ⌜ r ≡ reaches (now (edges .entry)) held from to ⌝ }
+{
+    let mut first = [0; USABLE_LIMIT];
+    let mut next = [0; USABLE_LIMIT];
+    let mut marked = [0; USABLE_LIMIT];
+    let mut queue = [0; USABLE_LIMIT];
+    chain_rows(edges, &mut first, &mut next[..held]);
+    search_back(
+        edges,
+        &first,
+        &next[..held],
+        from,
+        to,
+        &mut marked,
+        &mut queue,
+    )
+}

@@ -1,0 +1,252 @@
+// The refusals: their numbers, and for each call the first one that is due. `specs/Answers.antt` has the same list of numbers for the
+// definitions; the contracts hold the two together.
+use crate::Tally;
+use crate::edges::is_held;
+use crate::edges::leads;
+use crate::paths::reaches;
+use crate::rows::EXECUTING;
+use crate::rows::FINISHED;
+use crate::rows::NEW;
+use crate::rows::RELEASED;
+use crate::rows::SOURCE;
+use crate::rows::STATUS;
+use crate::rows::TARGET;
+use crate::rows::VERTEX_WORDS;
+use crate::rows::edge_rows;
+use crate::rows::vertex_rows;
+use crate::sound::is_sound;
+ghost use mathlib.Core.Path.{_≡_};
+ghost use lib.Dec.{eqb};
+ghost use Rattle.graph.specs.Tests.{either};
+ghost use Rattle.graph.specs.Tables.{lent, NEW, RELEASED};
+ghost use Rattle.graph.specs.Paths.{reaches};
+ghost use Rattle.graph.specs.Search.{Searchable};
+ghost use Rattle.graph.specs.Commands.{newTdRefusal, newEdgeRefusal, releaseRefusal, transferRefusal, startRefusal, stopRefusal};
+
+// No refusal is due.
+pub const ACCEPTED: u32 = 0;
+
+// The lender.
+pub const NO_VERTEX_ROWS: u32 = 10;
+
+pub const UNSOUND_TABLES: u32 = 12;
+
+// The host, choosing.
+pub const NO_SUCH_VERTEX: u32 = 20;
+
+pub const EDGE_LEADS_IN: u32 = 21;
+
+pub const VERTEX_NEW: u32 = 22;
+
+pub const VERTEX_FINISHED: u32 = 23;
+
+pub const VERTEX_EXECUTING: u32 = 39;
+
+// The caller of single commands.
+pub const CALLER_NOT_EXECUTING: u32 = 30;
+
+pub const NO_VERTEX_ROW: u32 = 31;
+
+pub const NO_EDGE_ROW: u32 = 32;
+
+pub const TARGET_NOT_WAITING: u32 = 33;
+
+pub const EDGE_HELD: u32 = 34;
+
+pub const CLOSES_CYCLE: u32 = 35;
+
+pub const RELEASE_NOT_NEW: u32 = 36;
+
+pub const TRANSFER_NOT_NEW: u32 = 37;
+
+pub const TRANSFER_HAS_EDGE_OUT: u32 = 38;
+
+pub fn new_td_refusal(vertices: &[u32], edges: &[u32], tally: Tally, caller: u32) -> u32
+    ensures { λ r. ⌜ r ≡ newTdRefusal (lent (now (vertices .entry)) (now (edges .entry)) tally) caller ⌝ }
+{
+    let made = tally.made;
+    if !is_sound(vertices, edges, tally) {
+        return UNSOUND_TABLES;
+    }
+    if made <= caller {
+        return NO_SUCH_VERTEX;
+    }
+    if vertices[VERTEX_WORDS * (caller as usize) + STATUS] != EXECUTING {
+        return CALLER_NOT_EXECUTING;
+    }
+    if vertex_rows(vertices) <= made as usize {
+        return NO_VERTEX_ROW;
+    }
+    ACCEPTED
+}
+
+// A vertex of this status may still get an edge in.
+fn waits(status: u32) -> bool
+    ensures { λ r. ⌜ r ≡ either (eqb status NEW) (eqb status RELEASED) ⌝ }
+{
+    if status == NEW {
+        return true;
+    }
+    status == RELEASED
+}
+
+// An edge from `source` to `target` would close a cycle.
+fn closes_cycle(edges: &[u32], held: usize, source: u32, target: u32) -> bool
+    requires { ⌜ Searchable (now edges) held target source ⌝ }
+    ensures { λ r. ⌜ r ≡ either (eqb source target) (reaches (now (edges .entry)) held target source) ⌝ }
+{
+    if source == target {
+        return true;
+    }
+    reaches(edges, held, target, source)
+}
+
+pub fn new_edge_refusal(
+    vertices: &[u32],
+    edges: &[u32],
+    tally: Tally,
+    caller: u32,
+    source: u32,
+    target: u32,
+) -> u32
+    ensures { λ r. ⌜ r ≡ newEdgeRefusal (lent (now (vertices .entry)) (now (edges .entry)) tally) caller source target ⌝ }
+{
+    let made = tally.made;
+    let held = tally.held;
+    if !is_sound(vertices, edges, tally) {
+        return UNSOUND_TABLES;
+    }
+    if made <= caller {
+        return NO_SUCH_VERTEX;
+    }
+    if made <= source {
+        return NO_SUCH_VERTEX;
+    }
+    if made <= target {
+        return NO_SUCH_VERTEX;
+    }
+    if vertices[VERTEX_WORDS * (caller as usize) + STATUS] != EXECUTING {
+        return CALLER_NOT_EXECUTING;
+    }
+    if !waits(vertices[VERTEX_WORDS * (target as usize) + STATUS]) {
+        return TARGET_NOT_WAITING;
+    }
+    if vertices[VERTEX_WORDS * (source as usize) + STATUS] == FINISHED {
+        return ACCEPTED;
+    }
+    if is_held(edges, held as usize, source, target) {
+        return EDGE_HELD;
+    }
+    if closes_cycle(edges, held as usize, source, target) {
+        return CLOSES_CYCLE;
+    }
+    if edge_rows(edges) <= held as usize {
+        return NO_EDGE_ROW;
+    }
+    ACCEPTED
+}
+
+pub fn release_refusal(
+    vertices: &[u32],
+    edges: &[u32],
+    tally: Tally,
+    caller: u32,
+    vertex: u32,
+) -> u32
+    ensures { λ r. ⌜ r ≡ releaseRefusal (lent (now (vertices .entry)) (now (edges .entry)) tally) caller vertex ⌝ }
+{
+    let made = tally.made;
+    if !is_sound(vertices, edges, tally) {
+        return UNSOUND_TABLES;
+    }
+    if made <= caller {
+        return NO_SUCH_VERTEX;
+    }
+    if made <= vertex {
+        return NO_SUCH_VERTEX;
+    }
+    if vertices[VERTEX_WORDS * (caller as usize) + STATUS] != EXECUTING {
+        return CALLER_NOT_EXECUTING;
+    }
+    if vertices[VERTEX_WORDS * (vertex as usize) + STATUS] != NEW {
+        return RELEASE_NOT_NEW;
+    }
+    ACCEPTED
+}
+
+pub fn transfer_refusal(
+    vertices: &[u32],
+    edges: &[u32],
+    tally: Tally,
+    caller: u32,
+    vertex: u32,
+) -> u32
+    ensures { λ r. ⌜ r ≡ transferRefusal (lent (now (vertices .entry)) (now (edges .entry)) tally) caller vertex ⌝ }
+{
+    let made = tally.made;
+    let held = tally.held;
+    if !is_sound(vertices, edges, tally) {
+        return UNSOUND_TABLES;
+    }
+    if made <= caller {
+        return NO_SUCH_VERTEX;
+    }
+    if made <= vertex {
+        return NO_SUCH_VERTEX;
+    }
+    if vertices[VERTEX_WORDS * (caller as usize) + STATUS] != EXECUTING {
+        return CALLER_NOT_EXECUTING;
+    }
+    if vertices[VERTEX_WORDS * (vertex as usize) + STATUS] != NEW {
+        return TRANSFER_NOT_NEW;
+    }
+    if leads(edges, held as usize, SOURCE, vertex) {
+        return TRANSFER_HAS_EDGE_OUT;
+    }
+    if reaches(edges, held as usize, caller, vertex) {
+        return CLOSES_CYCLE;
+    }
+    ACCEPTED
+}
+
+pub fn start_refusal(vertices: &[u32], edges: &[u32], tally: Tally, vertex: u32) -> u32
+    ensures { λ r. ⌜ r ≡ startRefusal (lent (now (vertices .entry)) (now (edges .entry)) tally) vertex ⌝ }
+{
+    let made = tally.made;
+    let held = tally.held;
+    if !is_sound(vertices, edges, tally) {
+        return UNSOUND_TABLES;
+    }
+    if made <= vertex {
+        return NO_SUCH_VERTEX;
+    }
+    if vertices[VERTEX_WORDS * (vertex as usize) + STATUS] == NEW {
+        return VERTEX_NEW;
+    }
+    if vertices[VERTEX_WORDS * (vertex as usize) + STATUS] == EXECUTING {
+        return VERTEX_EXECUTING;
+    }
+    if vertices[VERTEX_WORDS * (vertex as usize) + STATUS] == FINISHED {
+        return VERTEX_FINISHED;
+    }
+    if leads(edges, held as usize, TARGET, vertex) {
+        return EDGE_LEADS_IN;
+    }
+    ACCEPTED
+}
+
+pub fn stop_refusal(vertices: &[u32], edges: &[u32], tally: Tally, caller: u32) -> u32
+    ensures { λ r. ⌜ r ≡ stopRefusal (lent (now (vertices .entry)) (now (edges .entry)) tally) caller ⌝ }
+{
+    let made = tally.made;
+    if !is_sound(vertices, edges, tally) {
+        return UNSOUND_TABLES;
+    }
+    if made <= caller {
+        return NO_SUCH_VERTEX;
+    }
+    if vertices[VERTEX_WORDS * (caller as usize) + STATUS] != EXECUTING {
+        return CALLER_NOT_EXECUTING;
+    }
+    ACCEPTED
+}

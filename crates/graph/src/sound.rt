@@ -1,0 +1,78 @@
+// Refusal 12: whether lent tables and tally can be those of a task graph at all.
+use crate::Tally;
+use crate::rows::EDGE_WORDS;
+use crate::rows::FINISHED;
+use crate::rows::NEW;
+use crate::rows::SOURCE;
+use crate::rows::STATUS;
+use crate::rows::TARGET;
+use crate::rows::VERTEX_WORDS;
+use crate::rows::edge_rows;
+use crate::rows::vertex_rows;
+ghost use mathlib.Core.Path.{_≡_};
+ghost use Prim.Native.Nat.{_*_, _≤_};
+ghost use lib.ListN.{length};
+ghost use Rattle.graph.specs.Tables.{vertexWords, edgeWords, lent};
+ghost use Rattle.graph.specs.Sound.{tallyFits, statusesKnown, edgesMade, sound};
+
+// The tally against the usable rows.
+pub fn tally_fits(vertices: &[u32], edges: &[u32], made: u32, held: u32) -> bool
+    ensures { λ r. ⌜ r ≡ tallyFits (now (vertices .entry)) (now (edges .entry)) made held ⌝ }
+{
+    if vertex_rows(vertices) < made as usize {
+        return false;
+    }
+    if edge_rows(edges) < held as usize {
+        return false;
+    }
+    true
+}
+
+// Each made vertex has one of the four statuses.
+pub(crate) fn statuses_known(vertices: &[u32], made: usize) -> bool
+    requires { ⌜ vertexWords * made ≤ length (now vertices) ⌝ }
+    ensures { λ r. ⌜ r ≡ statusesKnown (now (vertices .entry)) made ⌝ }
+{
+    for k in 0..made {
+        let status = vertices[VERTEX_WORDS * k + STATUS];
+        if status < NEW {
+            return false;
+        }
+        if FINISHED < status {
+            return false;
+        }
+    }
+    true
+}
+
+// Each held edge has made vertices for its ends.
+pub(crate) fn edges_made(edges: &[u32], made: u32, held: usize) -> bool
+    requires { ⌜ edgeWords * held ≤ length (now edges) ⌝ }
+    ensures { λ r. ⌜ r ≡ edgesMade (now (edges .entry)) made held ⌝ }
+{
+    for i in 0..held {
+        let source = edges[EDGE_WORDS * i + SOURCE];
+        if made <= source {
+            return false;
+        }
+        let target = edges[EDGE_WORDS * i + TARGET];
+        if made <= target {
+            return false;
+        }
+    }
+    true
+}
+
+pub fn is_sound(vertices: &[u32], edges: &[u32], tally: Tally) -> bool
+    ensures { λ r. ⌜ r ≡ sound (lent (now (vertices .entry)) (now (edges .entry)) tally) ⌝ }
+{
+    let made = tally.made;
+    let held = tally.held;
+    if !tally_fits(vertices, edges, made, held) {
+        return false;
+    }
+    if !statuses_known(vertices, made as usize) {
+        return false;
+    }
+    edges_made(edges, made, held as usize)
+}
