@@ -22,6 +22,8 @@
 --     Chains       the edge rows chained by their targets
 --     Frontier     the path search, turn by turn
 --     CallLaws     a call's outcome from its refusal
+--     Thin         the law of the thin entries, whose tally is lent too, and its parts
+--     Results      what the cores return, for that law
 pub mod TestLaws
 pub mod PathLaws
 pub mod RefusalLaws
@@ -43,3 +45,5 @@ pub mod EdgeLoops
 pub mod Chains
 pub mod Frontier
 pub mod CallLaws
+pub mod Thin
+pub mod Results

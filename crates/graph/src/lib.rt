@@ -4,6 +4,7 @@
 // ends in an accepted command or in a numbered refusal that changed nothing. What each function does is an equation with a
 // definition of specs/.
 mod commands;
+mod entry;
 mod edges;
 mod paths;
 mod refusals;
