@@ -3,13 +3,13 @@
 // Everything that is kept between calls is lent by the caller: a table of vertex rows, a table of edge rows and the tally. Each call
 // ends in an accepted command or in a numbered refusal that changed nothing. What each function does is an equation with a
 // definition of specs/.
-mod commands;
-mod entry;
+pub mod commands;
 mod edges;
+pub mod entry;
 mod paths;
-mod refusals;
-mod rows;
-mod sound;
+pub mod refusals;
+pub mod rows;
+pub mod sound;
 
 // The tally: how much of the tables is in use. Single commands leave `steps` alone.
 pub struct Tally {

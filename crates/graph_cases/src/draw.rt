@@ -1,0 +1,116 @@
+// Draws words: the same for the same seed.
+use graph::Command;
+use graph::Tally;
+ghost use Prim.Native.Nat.{_≤_};
+
+pub struct Draw {
+    pub state: u64,
+}
+
+pub fn begin(seed: u32) -> Draw {
+    Draw { state: seed as u64 }
+}
+
+impl Draw {
+    pub fn next(self) -> Draw {
+        Draw {
+            state: (self.state % 2147483648 * 1103515245 + 12345) % 2147483648,
+        }
+    }
+
+    // A number below `limit`, or 0 where that is 0.
+    pub fn below(self, limit: u32) -> u32
+        ensures { λ r. ⌜ r ≤ limit ⌝ }
+    {
+        if limit == 0 {
+            return 0;
+        }
+        (self.state / 4096 % (limit as u64)) as u32
+    }
+}
+
+// Mostly one of the four numbers from `low` on.
+fn word(d: Draw, low: u32) -> u32
+    requires { ⌜ low ≤ 1 ⌝ }
+{
+    if d.below(100) == 0 {
+        return d.next().below(7);
+    }
+    d.next().below(4) + low
+}
+
+pub fn words(table: &mut [u32], d: Draw, low: u32) -> Draw
+    requires { ⌜ low ≤ 1 ⌝ }
+{
+    let mut now = d.next();
+    for i in 0..table.len() {
+        table[i] = word(now, low);
+        now = now.next().next();
+    }
+    now
+}
+
+// Vertex 0 is mostly executing.
+pub fn mostly_executing(vertices: &mut [u32], seed: u32) {
+    if seed % 4 != 0 && 0 < vertices.len() {
+        vertices[0] = 3;
+    }
+}
+
+// Mostly all of them.
+pub fn length(d: Draw, most: usize, limit: u32) -> usize
+    ensures { λ r. ⌜ r ≤ most ⌝ }
+{
+    let n = d.below(limit) as usize;
+    if n < most { n } else { most }
+}
+
+pub fn tally(d: Draw) -> Tally {
+    let made = d.next().below(7);
+    Tally {
+        made: if made < 4 { 4 } else { made - 1 },
+        held: d.next().next().below(6),
+        steps: d.below(9000),
+    }
+}
+
+// The caller is mostly vertex 0, and the others mostly vertices of the first four.
+pub fn command(d: Draw) -> Command {
+    let kind = d.next().below(12);
+    let c = d.next().next().below(9);
+    let v = d.next().next().next().below(17);
+    let target = d.next().next().next().next().below(4);
+    let caller = if c < 4 { 0 } else { c - 4 };
+    let vertex = if v < 16 { v % 4 } else { 4 };
+    if kind == 0 {
+        return Command::NewTd {
+            caller,
+            place: vertex,
+            scope: target,
+        };
+    }
+    if kind < 5 {
+        return Command::NewEdge {
+            caller,
+            source: vertex,
+            target,
+        };
+    }
+    if kind == 5 {
+        return Command::Release { caller, vertex };
+    }
+    if kind < 9 {
+        return Command::Transfer { caller, vertex };
+    }
+    if kind < 11 {
+        return Command::Start { vertex };
+    }
+    Command::Stop { caller }
+}
+
+// The edges 1 → 2, 2 → 3, .. in as many rows as there are.
+pub fn path(edges: &mut [u32]) {
+    for i in 0..edges.len() {
+        edges[i] = ((i / 2 + i % 2 + 1) % 1024) as u32;
+    }
+}

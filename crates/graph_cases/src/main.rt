@@ -1,0 +1,90 @@
+// Runs the opening and the commands on many tables, and writes what each call answers and leaves: document 01's bare example, full
+// and freed tables, tables shorter than a row and longer than 1,024 rows, a long path, and some hundred tables of drawn words.
+// tests/graph_cases.py computes the same lines from a model of its own; `stdout` holds them.
+mod draw;
+mod script;
+mod show;
+
+use graph::Tally;
+
+fn none() -> Tally {
+    Tally {
+        made: 0,
+        held: 0,
+        steps: 0,
+    }
+}
+
+fn main() {
+    bare();
+    full();
+    short();
+    long();
+    path();
+    all_drawn();
+}
+
+fn bare() {
+    let mut vertices = [77u32; 23];
+    let mut edges = [77u32; 9];
+    show::text(b"bare\n");
+    script::run(&mut vertices, &mut edges, none(), &script::BARE);
+}
+
+fn full() {
+    let mut vertices = [77u32; 30];
+    let mut edges = [77u32; 7];
+    show::text(b"full\n");
+    script::run(&mut vertices, &mut edges, none(), &script::FULL);
+}
+
+fn short() {
+    let mut vertices = [2u32; 6];
+    let mut edges = [2u32; 1];
+    show::text(b"short\n");
+    script::run(&mut vertices, &mut edges, none(), &script::SHORT);
+}
+
+fn long() {
+    let mut vertices = [3u32; 7190];
+    let mut edges = [1u32; 2055];
+    show::text(b"long\n");
+    script::run(&mut vertices, &mut edges, none(), &script::LONG);
+}
+
+// 1,024 vertices, the first executing, with the edges 1 → 2 → .. → 1,023.
+fn path() {
+    let mut vertices = [1u32; 7168];
+    let mut edges = [0u32; 2048];
+    vertices[0] = 3;
+    draw::path(&mut edges);
+    show::text(b"path\n");
+    script::run(&mut vertices, &mut edges, none(), &script::PATH);
+}
+
+fn all_drawn() {
+    show::text(b"drawn\n");
+    for seed in 0..600 {
+        drawn(seed);
+    }
+}
+
+// Small tables of drawn words and lengths, a drawn tally and a drawn command.
+fn drawn(seed: u32) {
+    let mut vertices = [0u32; 32];
+    let mut edges = [0u32; 10];
+    let d = draw::words(&mut vertices, draw::begin(seed), 1);
+    draw::mostly_executing(&mut vertices, seed);
+    let d = draw::words(&mut edges, d, 0);
+    drawn_call(&mut vertices, &mut edges, d);
+}
+
+fn drawn_call(vertices: &mut [u32], edges: &mut [u32], d: draw::Draw) {
+    let n = draw::length(d, vertices.len(), 600);
+    let d = d.next();
+    let m = draw::length(d, edges.len(), 200);
+    let d = d.next();
+    let tally = draw::tally(d);
+    let command = draw::command(d.next());
+    script::call(&mut vertices[..n], &mut edges[..m], tally, command);
+}

@@ -1,0 +1,258 @@
+#!/usr/bin/env python3
+"""The lines that the program `graph_cases` must write, from a model of document 01's commands that shares no code with the engine.
+
+    tests/graph_cases.py > crates/graph_cases/stdout
+
+The model keeps vertices and edges as Python lists, and looks for paths by plain depth-first search."""
+
+NEW, RELEASED, EXECUTING, FINISHED = 1, 2, 3, 4
+WIDTH, USABLE = 7, 1024
+
+
+class Refused(Exception):
+    pass
+
+
+class Machine:
+    def __init__(self, vertices, edges, made=0, held=0, steps=0):
+        self.v, self.e, self.made, self.held, self.steps = list(vertices), list(edges), made, held, steps
+
+    def vertex_rows(self):
+        return min(USABLE, len(self.v) // WIDTH)
+
+    def edge_rows(self):
+        return min(USABLE, len(self.e) // 2)
+
+    def status(self, k):
+        return self.v[WIDTH * k]
+
+    def edges(self):
+        return [(self.e[2 * i], self.e[2 * i + 1]) for i in range(self.held)]
+
+    def sound(self):
+        return (
+            self.made <= self.vertex_rows()
+            and self.held <= self.edge_rows()
+            and all(self.status(k) in (1, 2, 3, 4) for k in range(self.made))
+            and all(a < self.made and b < self.made for a, b in self.edges())
+        )
+
+    def reaches(self, a, b):
+        after, seen, todo = {}, set(), [a]
+        for s, t in self.edges():
+            after.setdefault(s, []).append(t)
+        while todo:
+            for t in after.get(todo.pop(), []):
+                if t not in seen:
+                    seen.add(t)
+                    todo.append(t)
+        return b in seen
+
+    def need(self, test, number):
+        if not test:
+            raise Refused(number)
+
+    def begin(self, *named):
+        self.need(self.sound(), 12)
+        self.need(all(k < self.made for k in named), 20)
+
+    def open(self):
+        self.need(self.vertex_rows() > 0, 10)
+        self.v[: WIDTH * self.vertex_rows()] = [0] * (WIDTH * self.vertex_rows())
+        self.e[: 2 * self.edge_rows()] = [0] * (2 * self.edge_rows())
+        self.v[0], self.made, self.held, self.steps = RELEASED, 1, 0, 0
+        return "opened"
+
+    def new(self, t, place, scope):
+        self.begin(t)
+        self.need(self.status(t) == EXECUTING, 30)
+        self.need(self.made < self.vertex_rows(), 31)
+        self.v[WIDTH * self.made : WIDTH * (self.made + 1)] = [NEW, place, scope] + [0] * (WIDTH - 3)
+        self.made += 1
+        return f"new {self.made - 1}"
+
+    def edge(self, t, a, b):
+        self.begin(t, a, b)
+        self.need(self.status(t) == EXECUTING, 30)
+        self.need(self.status(b) in (NEW, RELEASED), 33)
+        if self.status(a) != FINISHED:
+            self.need((a, b) not in self.edges(), 34)
+            self.need(a != b and not self.reaches(b, a), 35)
+            self.need(self.held < self.edge_rows(), 32)
+            self.e[2 * self.held : 2 * self.held + 2] = [a, b]
+            self.held += 1
+        return f"edge {a} {b}"
+
+    def release(self, t, k):
+        self.begin(t, k)
+        self.need(self.status(t) == EXECUTING, 30)
+        self.need(self.status(k) == NEW, 36)
+        self.v[WIDTH * k] = RELEASED
+        return f"release {k}"
+
+    def transfer(self, t, k):
+        self.begin(t, k)
+        self.need(self.status(t) == EXECUTING, 30)
+        self.need(self.status(k) == NEW, 37)
+        self.need(all(a != k for a, b in self.edges()), 38)
+        self.need(not any(a == t and (b == k or self.reaches(b, k)) for a, b in self.edges()), 35)
+        for i, (a, b) in enumerate(self.edges()):
+            if a == t:
+                self.e[2 * i] = k
+        return f"transfer {k}"
+
+    def start(self, k):
+        self.begin(k)
+        self.need(self.status(k) != NEW, 22)
+        self.need(self.status(k) != EXECUTING, 39)
+        self.need(self.status(k) != FINISHED, 23)
+        self.need(all(b != k for a, b in self.edges()), 21)
+        self.v[WIDTH * k] = EXECUTING
+        return "start"
+
+    def stop(self, t):
+        self.begin(t)
+        self.need(self.status(t) == EXECUTING, 30)
+        self.v[WIDTH * t] = FINISHED
+        kept = [x for a, b in self.edges() if a != t for x in (a, b)]
+        self.e[: 2 * self.held] = kept + [0] * (2 * self.held - len(kept))
+        self.held = len(kept) // 2
+        return "stop"
+
+    def call(self, command, *words):
+        try:
+            answer = getattr(self, command)(*words)
+        except Refused as refusal:
+            answer = f"refused {refusal} 0"
+        print(f"{answer} | {self.made} {self.held} {self.steps} | {total(self.v)} {total(self.e)}")
+
+
+def total(words):
+    sum = 0
+    for w in words:
+        sum = (sum * 31 + w + 1) % 1000003
+    return sum
+
+
+class Draw:
+    def __init__(self, state):
+        self.state = state
+
+    def next(self, times=1):
+        state = self.state
+        for _ in range(times):
+            state = (state % 2**31 * 1103515245 + 12345) % 2**31
+        return Draw(state)
+
+    def below(self, limit):
+        return self.state // 4096 % limit
+
+
+def words(count, draw, low):
+    drawn, now = [], draw.next()
+    for _ in range(count):
+        kind = now.below(100)
+        now = now.next()
+        drawn.append(now.below(7) if kind == 0 else now.below(4) + low)
+        now = now.next()
+    return drawn, now
+
+
+def drawn(seed):
+    vertices, d = words(32, Draw(seed), 1)
+    if seed % 4 != 0:
+        vertices[0] = EXECUTING
+    edges, d = words(10, d, 0)
+    n = min(d.below(600), 32)
+    d = d.next()
+    m = min(d.below(200), 10)
+    d = d.next()
+    made = d.next().below(7)
+    machine = Machine(vertices[:n], edges[:m], 4 if made < 4 else made - 1, d.next(2).below(6), d.below(9000))
+    d = d.next()
+    kind, caller, a, b = d.next().below(12), d.next(2).below(9), d.next(3).below(17), d.next(4).below(4)
+    caller, a = max(caller - 4, 0), a % 4 if a < 16 else 4
+    if kind == 0:
+        machine.call("new", caller, a, b)
+    elif kind < 5:
+        machine.call("edge", caller, a, b)
+    elif kind == 5:
+        machine.call("release", caller, a)
+    elif kind < 9:
+        machine.call("transfer", caller, a)
+    elif kind < 11:
+        machine.call("start", a)
+    else:
+        machine.call("stop", caller)
+
+
+def run(machine, calls):
+    for line in calls.strip().split("\n"):
+        word, *numbers = line.split()
+        if word == "tally":
+            machine.made, machine.held, machine.steps = map(int, numbers)
+        else:
+            machine.call(word, *map(int, numbers))
+
+
+print("bare")
+run(Machine([77] * 23, [77] * 9, 9, 9, 9), """open
+start 0
+new 0 5 0
+new 0 6 1
+edge 0 1 2
+edge 0 2 1
+edge 0 1 1
+edge 0 1 2
+edge 0 0 1
+transfer 0 1
+transfer 0 2""")
+print("full")
+run(Machine([77] * 30, [77] * 7), """open
+start 0
+new 0 1 0
+new 0 2 0
+new 0 3 0
+new 0 4 0
+edge 0 1 3
+edge 0 2 3
+edge 0 1 2
+edge 0 0 1
+release 0 1
+release 0 1
+start 1
+start 1
+start 2
+stop 1
+stop 1
+start 1
+edge 0 1 3
+edge 0 0 3
+edge 0 0 2
+edge 0 3 2
+stop 0""")
+print("short")
+run(Machine([2] * 6, [2]), """open
+start 0
+tally 1 0 0
+start 0""")
+print("long")
+run(Machine([3] * 7190, [1] * 2055, 1023, 1024, 7), """new 0 8 9
+edge 0 0 2
+new 0 8 9
+stop 0
+tally 1025 0 0
+start 0
+tally 3 1025 0
+start 0
+open""")
+print("path")
+run(Machine([3] + [1] * 7167, [(i // 2 + i % 2 + 1) % 1024 for i in range(2048)], 1024, 1022, 0), """edge 0 1023 1
+edge 0 1 1023
+edge 0 0 1
+edge 0 1 1023
+transfer 0 1023
+transfer 0 1024""")
+print("drawn")
+for seed in range(600):
+    drawn(seed)
