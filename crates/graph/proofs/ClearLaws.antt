@@ -17,11 +17,6 @@ pub clear-more : (l : List ℕ) {t : List ℕ} (from n : ℕ) → t ≡ clear l 
 unfolding clear
 clear-more l from n h = rw (add-one, h)
 
-pub length-clear : (l : List ℕ) (from n : ℕ) → length (clear l from n) ≡ length l
-unfolding clear
-length-clear l from zero = refl
-length-clear l from (suc n) = length-set (clear l from n) (from + n) 0 ∙ length-clear l from n
-
 pub clear-all : (l : List ℕ) {t : List ℕ} (from n i : ℕ) → i ≤ n → n ≤ i → t ≡ clear l from i → t ≡ clear l from n
 clear-all l {t} from n i p q h = at-end (λ k. t ≡ clear l from k) p q h
 

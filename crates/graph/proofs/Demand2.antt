@@ -14,7 +14,7 @@ use Rattle.graph.specs.Rules.{Graph, Printed}
 use Rattle.graph.specs.Commands.{command, targetReaches}
 use Rattle.graph.specs.Demand2.{graph, RowFree, NoneTwice, Effect}
 use Rattle.graph.proofs.SoundLaws.{sound-fits, fits-sound}
-use Rattle.graph.proofs.TakenLaws.{leaves, Taken, taken, not-refused, is-accepted, after-is, after-refused, after-either, row-free-of}
+use Rattle.graph.proofs.TakenLaws.{leaves, Taken, taken, not-refused, is-accepted, after-is, after-refused, after-either, row-free-of, taken-sound}
 use Rattle.graph.proofs.WordLaws.{vertex-words-of, edge-words-of, new-row-of, steps-kept-of}
 use Rattle.graph.proofs.EffectLaws.{rule-of}
 use Rattle.graph.proofs.KeepLaws.{leaves-fits, leaves-once}
@@ -28,15 +28,15 @@ taken-of c s h = taken c s .0 (not-refused c s h)
 pub refused-keeps : (c : Command) (s : Lent) → accepted (command c s .answer) ≡ false → command c s .after ≡ s
 refused-keeps = after-refused
 
--- "Each command changes vertices, statuses and edges exactly by its published dag-calculus rule", and no other word, on any sound
--- tables, those that hold a cycle too: there the rule is without its premise "E' cycle-free".
-pub effect : (c : Command) (s : Lent) → sound s ≡ true → accepted (command c s .answer) ≡ true → Effect c s (command c s .after)
-effect c s known h =
+-- "Each command changes vertices, statuses and edges exactly by its published dag-calculus rule", and no other word, on any tables
+-- that 12 spares, those that hold a cycle too: there the rule is without its premise "E' cycle-free".
+pub effect : (c : Command) (s : Lent) → accepted (command c s .answer) ≡ true → Effect c s (command c s .after)
+effect c s h =
     subst (λ (s' : Lent). Effect c s s') (sym (after-is c s (not-refused c s h)))
     (record {
       rule = rule-of (λ E. Unit {0}) c s (taken-of c s h) tt;
       vertex-words = vertex-words-of c s;
-      edge-words = edge-words-of c s (sound-fits s known .edges-fit);
+      edge-words = edge-words-of c s (sound-fits s (taken-sound c s (taken-of c s h)) .edges-fit);
       new-row = new-row-of c s (taken-of c s h);
       steps-kept = steps-kept-of c s;
     })
@@ -52,20 +52,20 @@ acceptance c s known free = (
 )
 
 -- There the accepted command's step is the rule's.
-pub by-the-rule : (c : Command) (s : Lent) → sound s ≡ true → CycleFree (graph s .edge) → accepted (command c s .answer) ≡ true → Printed c (graph s) (graph (command c s .after))
-by-the-rule c s known free h =
+pub by-the-rule : (c : Command) (s : Lent) → CycleFree (graph s .edge) → accepted (command c s .answer) ≡ true → Printed c (graph s) (graph (command c s .after))
+by-the-rule c s free h =
     let t = taken-of c s h in
     subst (λ (s' : Lent). Printed c (graph s) (graph s')) (sym (after-is c s (not-refused c s h)))
     (rule-of CycleFree c s t (leaves-acyclic c s t free))
 
 -- No command closes a cycle.
-pub stays-acyclic : (c : Command) (s : Lent) → sound s ≡ true → CycleFree (graph s .edge) → CycleFree (graph (command c s .after) .edge)
-stays-acyclic c s known free =
+pub stays-acyclic : (c : Command) (s : Lent) → CycleFree (graph s .edge) → CycleFree (graph (command c s .after) .edge)
+stays-acyclic c s free =
     after-either (λ s'. CycleFree (graph s' .edge)) c s free (λ h. leaves-acyclic c s (taken c s .0 h) free)
 
 -- No command makes an edge be held twice.
-pub none-held-twice : (c : Command) (s : Lent) → sound s ≡ true → NoneTwice (s .edges) (s .held) → NoneTwice (command c s .after .edges) (command c s .after .held)
-none-held-twice c s known none =
+pub none-held-twice : (c : Command) (s : Lent) → NoneTwice (s .edges) (s .held) → NoneTwice (command c s .after .edges) (command c s .after .held)
+none-held-twice c s none =
     after-either (λ s'. NoneTwice (s' .edges) (s' .held)) c s none (λ h. leaves-once c s (taken c s .0 h) none)
 
 -- Sound tables stay sound.

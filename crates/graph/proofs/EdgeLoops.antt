@@ -14,6 +14,7 @@ use Rattle.graph.specs.Tables.{usableLimit, edgeWords, sourceWord, targe
 use Rattle.graph.specs.Paths.{holds}
 use Rattle.graph.specs.Commands.{movedRow, moved, kept, keptRows, withoutEdgesOf}
 use Rattle.graph.specs.Gather.{Gathered}
+use Rattle.graph.proofs.TableLaws.{keptRows-drop, keptRows-keep, keptRows-le, kept-drop, kept-keep}
 use Rattle.graph.proofs.ClearLaws.{clear-is}
 use Rattle.graph.proofs.TestLaws.{any-empty, any-more, any-at, at-end, both-true, both-false-left, both-false-right}
 
@@ -53,15 +54,6 @@ moved-sets t t' e {l} i h p = rw (add-one, ← h) (rw (eq-eqb (source l i) t p) 
 pub moved-all : (t t' : ℕ) (e : List ℕ) {l : List ℕ} (n i : ℕ) → i ≤ n → n ≤ i → l ≡ moved t t' e i → l ≡ moved t t' e n
 moved-all t t' e {l} n i p q h = at-end (λ k. l ≡ moved t t' e k) p q h
 
-length-moved-row : (t t' : ℕ) (e : List ℕ) (i : ℕ) (b : Bool) → length (cond b (setEdgeWord e i sourceWord t') e) ≡ length e
-length-moved-row t t' e i true = length-set e (edgeWords * i + sourceWord) t'
-length-moved-row t t' e i false = refl
-
-pub length-moved : (t t' : ℕ) (e : List ℕ) (n : ℕ) → length (moved t t' e n) ≡ length e
-unfolding moved movedRow
-length-moved t t' e zero = refl
-length-moved t t' e (suc n) = length-moved-row t t' (moved t t' e n) n (eqb (source (moved t t' e n) n) t) ∙ length-moved t t' e n
-
 -- gathering
 pub gathered-none : (t : ℕ) (e : List ℕ) → (0 ≡ keptRows t e 0) × Gathered t e e 0
 unfolding keptRows kept
@@ -72,22 +64,6 @@ row-kept : (t : ℕ) (e : List ℕ) {e' : List ℕ} (i w : ℕ) → Gathered t e
 row-kept t e {e'} i w h =
     sym (getD-drop (edgeWords * i) e' w 0) ∙ ap (λ (l : List ℕ). getD l w 0) (h .rest) ∙ getD-drop (edgeWords * i) e w 0
 
-keptRows-skip : (t : ℕ) (e : List ℕ) (i : ℕ) → source e i ≡ t → keptRows t e (suc i) ≡ keptRows t e i
-unfolding keptRows
-keptRows-skip t e i p = rw (eq-eqb (source e i) t p) (omega arith)
-
-keptRows-keep : (t : ℕ) (e : List ℕ) (i : ℕ) → (source e i ≡ t → ⊥) → keptRows t e (suc i) ≡ keptRows t e i + 1
-unfolding keptRows
-keptRows-keep t e i p = rw (ne-eqb (source e i) t p) refl
-
-kept-skip : (t : ℕ) (e : List ℕ) (i : ℕ) → source e i ≡ t → kept t e (suc i) ≡ kept t e i
-unfolding kept
-kept-skip t e i p = rw (eq-eqb (source e i) t p) (append-nil (kept t e i))
-
-kept-keep : (t : ℕ) (e : List ℕ) (i : ℕ) → (source e i ≡ t → ⊥) → kept t e (suc i) ≡ kept t e i ++ (source e i ∷ target e i ∷ [])
-unfolding kept
-kept-keep t e i p = rw (ne-eqb (source e i) t p) refl
-
 rest-more : (t : ℕ) (e : List ℕ) {e' : List ℕ} (i : ℕ) → Gathered t e e' i → drop (edgeWords * (i + 1)) e' ≡ drop (edgeWords * (i + 1)) e
 rest-more t e {e'} i h =
     let split : edgeWords * (i + 1) ≡ edgeWords * i + edgeWords = omega arith in
@@ -96,10 +72,10 @@ rest-more t e {e'} i h =
 pub gathered-skips : (t : ℕ) (e : List ℕ) {e' : List ℕ} {k : ℕ} (i : ℕ) → k ≡ keptRows t e i → Gathered t e e' i → source e' i ≡ t → (k ≡ keptRows t e (i + 1)) × Gathered t e e' (i + 1)
 gathered-skips t e {e'} i r h p =
     let q : source e i ≡ t = sym (row-kept t e i sourceWord h) ∙ p in
-    let n : keptRows t e (i + 1) ≡ keptRows t e i = ap (keptRows t e) (add-one i) ∙ keptRows-skip t e i q in (
+    let n : keptRows t e (i + 1) ≡ keptRows t e i = ap (keptRows t e) (add-one i) ∙ keptRows-drop t e i q in (
       r ∙ sym n,
       record {
-        front = rw n (h .front ∙ sym (ap (kept t e) (add-one i) ∙ kept-skip t e i q));
+        front = rw n (h .front ∙ sym (ap (kept t e) (add-one i) ∙ kept-drop t e i q));
         rest = rest-more t e i h;
         same-length = h .same-length;
         within = rw n (let w = h .within in omega arith);
@@ -121,7 +97,7 @@ take-two l k a b h =
 pub gathered-keeps : (t : ℕ) (e : List ℕ) {e' : List ℕ} {k : ℕ} (i : ℕ) → k ≡ keptRows t e i → Gathered t e e' i → edgeWords * i + edgeWords ≤ length e' → (source e' i ≡ t → ⊥) → (k + 1 ≡ keptRows t e (i + 1)) × Gathered t e (set (set e' (edgeWords * k + sourceWord) (source e' i)) (edgeWords * k + targetWord) (target e' i)) (i + 1)
 gathered-keeps t e {e'} {k} i r h room p =
     let q : source e i ≡ t → ⊥ = λ eq. p (row-kept t e i sourceWord h ∙ eq) in
-    let n : keptRows t e (i + 1) ≡ keptRows t e i + 1 = ap (keptRows t e) (add-one i) ∙ keptRows-keep t e i q in
+    let n : keptRows t e (i + 1) ≡ keptRows t e i + 1 = ap (keptRows t e) (add-one i) ∙ keptRows-keep t e i q ∙ sym (add-one (keptRows t e i)) in
     let m : keptRows t e (i + 1) ≡ k + 1 = n ∙ ap (λ (x : ℕ). x + 1) (sym r) in
     let w : k ≤ i = subst (λ (x : ℕ). x ≤ i) (sym r) (h .within) in (
       sym m,
@@ -159,14 +135,5 @@ gathered-cleared t e {e'} {k} n room r h =
     ∙ ap (λ (x : List ℕ). kept t e n ++ (replicate (edgeWords * n - edgeWords * k) 0 ++ x)) (h .rest)
     ∙ ap (λ (x : ℕ). kept t e n ++ (replicate (edgeWords * n - edgeWords * x) 0 ++ drop (edgeWords * n) e)) r
 
-pub keptRows-within : (t : ℕ) (e : List ℕ) (n : ℕ) → keptRows t e n ≤ n
-unfolding keptRows
-keptRows-within t e zero = omega arith
-keptRows-within t e (suc n) = one-more (eqb (source e n) t) (keptRows-within t e n)
-  where
-    one-more : (b : Bool) → keptRows t e n ≤ n → keptRows t e n + cond b 0 1 ≤ suc n
-    one-more true h = omega arith
-    one-more false h = omega arith
-
 pub kept-fits : (t : ℕ) (e : List ℕ) (n : ℕ) {k : ℕ} → k ≡ keptRows t e n → n ≤ usableLimit → k ≤ usableLimit
-kept-fits t e n p h = omega (arith, keptRows-within t e n)
+kept-fits t e n p h = omega (arith, keptRows-le t e n)

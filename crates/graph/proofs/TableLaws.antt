@@ -228,11 +228,11 @@ module _ (t : ℕ) (e : List ℕ) where
   unfolding keptRows
   keptRows-keep n ne = rw (ne-eqb (source e n) t ne) (omega arith)
 
-  kept-drop : (n : ℕ) → source e n ≡ t → kept t e (suc n) ≡ kept t e n
+  pub kept-drop : (n : ℕ) → source e n ≡ t → kept t e (suc n) ≡ kept t e n
   unfolding kept
   kept-drop n q = rw (eq-eqb (source e n) t q) (append-nil (kept t e n))
 
-  kept-keep : (n : ℕ) → (source e n ≡ t → ⊥) → kept t e (suc n) ≡ kept t e n ++ (source e n ∷ target e n ∷ [])
+  pub kept-keep : (n : ℕ) → (source e n ≡ t → ⊥) → kept t e (suc n) ≡ kept t e n ++ (source e n ∷ target e n ∷ [])
   unfolding kept
   kept-keep n ne = rw (ne-eqb (source e n) t ne)
 

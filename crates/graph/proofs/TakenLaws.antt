@@ -284,3 +284,12 @@ row-free-of (Release t t') s h = tt
 row-free-of (Transfer t t') s h = tt
 row-free-of (Start t) s h = tt
 row-free-of (Stop t) s h = tt
+
+-- only sound tables take a command
+pub taken-sound : (c : Command) (s : Lent) → Taken c s → sound s ≡ true
+taken-sound (NewTd t place scope) s h = h .0 .known
+taken-sound (NewEdge t t1 t2) s h = h .0 .known
+taken-sound (Release t t') s h = h .0 .known
+taken-sound (Transfer t t') s h = h .0 .known
+taken-sound (Start t) s h = h .0
+taken-sound (Stop t) s h = h .known

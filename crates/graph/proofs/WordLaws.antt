@@ -1,17 +1,21 @@
 -- No other word: outside the words that a command may change, both tables and the count of steps are what they were.
-use Prim.Native.Nat.{ℕ, _+_, _*_, _<_, _≤_}
+use Prim.Native.Nat.{ℕ, _+_, _*_, _/_, _<_, _≤_}
 use mathlib.Core.Path.{_≡_, refl}
 use mathlib.Core.Bool.{Bool, true, false, cond}
 use mathlib.Core.List.{List}
 use native.Mathlib.Omega.{arith}
-use lib.ListN.{length-set}
+use mathlib.Core.Logic.{⊎-elim}
+use lib.ListN.{getD, length-set}
 use lib.Seq.{getD-set-other}
+use lib.Dec.{ltb}
+use borrow.Author.Tests.{ltb-true, ltb-false, eqb-false}
 use Rattle.graph.specs.declared.Command.{Command}
 use Rattle.graph.specs.declared.Command.the-variants.{NewTd, NewEdge, Release, Transfer, Start, Stop}
-use Rattle.graph.specs.Tables.{Lent, RELEASED, EXECUTING, FINISHED, vertexWords, statusWord, edgeRows, setStatus}
-use Rattle.graph.specs.Commands.{hasStatus, withVertex, withEdge, withMoved, stopped}
+use Rattle.graph.specs.Tables.{Lent, RELEASED, EXECUTING, FINISHED, vertexWords, edgeWords, statusWord, sourceWord, edgeRows, status, source, setStatus}
+use Rattle.graph.specs.Commands.{hasStatus, withVertex, withEdge, withMoved, moved, stopped}
 use Rattle.graph.specs.Demand2.{VertexWordOf, EdgeWordOf, SameBut, NewRowOf}
-use Rattle.graph.proofs.TableLaws.{length-newRow, newRow-out, newRow-status, newRow-place, newRow-scope, newRow-zero, length-appended, appended-out, length-moved, moved-out, length-without, without-later}
+use Rattle.graph.proofs.TestLaws.{decide, equal?}
+use Rattle.graph.proofs.TableLaws.{length-newRow, newRow-out, newRow-status, newRow-place, newRow-scope, newRow-zero, length-appended, appended-out, length-moved, moved-out, moved-rest, length-without, without-later}
 use Rattle.graph.proofs.TakenLaws.{leaves, Taken}
 
 same-all : (P : ℕ → Type 0) (l : List ℕ) → SameBut P l l
@@ -19,6 +23,20 @@ same-all P l = (refl, λ i f. refl)
 
 same-but-status : (v : List ℕ) (k x : ℕ) → SameBut (λ i. i ≡ vertexWords * k + statusWord) v (setStatus v k x)
 same-but-status v k x = (length-set v (vertexWords * k + statusWord) x, λ i f. getD-set-other v (vertexWords * k + statusWord) i x 0 f)
+
+-- a word that is not the source of a held edge out of t: it may stand in a held row all the same
+moved-else : (t t' : ℕ) (e : List ℕ) (n i : ℕ) → n ≤ edgeRows e → ((j : ℕ) × (j < n) × (source e j ≡ t) × (i ≡ edgeWords * j + sourceWord) → ⊥) → getD (moved t t' e n) i 0 ≡ getD e i 0
+moved-else t t' e n i le f =
+    ⊎-elim
+    (λ q.
+    ⊎-elim
+    (λ b. let lt : i / edgeWords < n = ltb-true (i / edgeWords) n b in
+    rw q (moved-rest t t' e n (i / edgeWords) le lt (λ p. f (i / edgeWords, lt, p, q))))
+    (λ b. let ge : n ≤ i / edgeWords = ltb-false (i / edgeWords) n b in
+    moved-out t t' e n i (λ r. let p = r .2 in omega arith))
+    (decide (ltb (i / edgeWords) n)))
+    (λ q. moved-out t t' e n i (λ r. q (let p = r .2 in omega arith)))
+    (equal? i (edgeWords * (i / edgeWords) + sourceWord))
 
 pub vertex-words-of : (c : Command) (s : Lent) → SameBut (VertexWordOf c s) (s .vertices) (leaves c s .vertices)
 unfolding withVertex withEdge withMoved stopped
@@ -36,13 +54,16 @@ vertex-words-of (Stop t) s = same-but-status (s .vertices) t FINISHED
 pub edge-words-of : (c : Command) (s : Lent) → s .held ≤ edgeRows (s .edges) → SameBut (EdgeWordOf c s) (s .edges) (leaves c s .edges)
 unfolding withVertex withEdge withMoved stopped
 edge-words-of (NewTd t place scope) s le = same-all (λ i. ⊥) (s .edges)
-edge-words-of (NewEdge t t1 t2) s le = go (hasStatus s t1 FINISHED)
+edge-words-of (NewEdge t t1 t2) s le = go (hasStatus s t1 FINISHED) refl
   where
-    go : (b : Bool) → SameBut (EdgeWordOf (NewEdge t t1 t2) s) (s .edges) (cond b s (withEdge s t1 t2) .edges)
-    go true = same-all (EdgeWordOf (NewEdge t t1 t2) s) (s .edges)
-    go false = (length-appended (s .edges) (s .held) t1 t2, appended-out (s .edges) (s .held) t1 t2)
+    go : (b : Bool) → hasStatus s t1 FINISHED ≡ b → SameBut (EdgeWordOf (NewEdge t t1 t2) s) (s .edges) (cond b s (withEdge s t1 t2) .edges)
+    go true q = same-all (EdgeWordOf (NewEdge t t1 t2) s) (s .edges)
+    go false q = (
+      length-appended (s .edges) (s .held) t1 t2,
+      λ i f. appended-out (s .edges) (s .held) t1 t2 i (λ r. f (eqb-false (status (s .vertices) t1) FINISHED q, r .0, r .1)),
+    )
 edge-words-of (Release t t') s le = same-all (λ i. ⊥) (s .edges)
-edge-words-of (Transfer t t') s le = (length-moved t t' (s .edges) (s .held), moved-out t t' (s .edges) (s .held))
+edge-words-of (Transfer t t') s le = (length-moved t t' (s .edges) (s .held), λ i f. moved-else t t' (s .edges) (s .held) i le f)
 edge-words-of (Start t) s le = same-all (λ i. ⊥) (s .edges)
 edge-words-of (Stop t) s le =
     (length-without t (s .edges) (s .held) le, λ i f. without-later t (s .edges) (s .held) i (not-below f))

@@ -41,13 +41,14 @@ VertexWordOf (Transfer t t') s i = ⊥
 VertexWordOf (Start t) s i = i ≡ vertexWords * t + statusWord
 VertexWordOf (Stop t) s i = i ≡ vertexWords * t + statusWord
 
--- The words of the edge table that a command may change: the row of the edge that it adds, the sources that it moves, the rows
--- held before a stop.
+-- The words of the edge table that a command may change: the row of the edge that it adds, which a finished source
+-- does not, the sources that it moves, the rows held before a stop.
 abbrev pub EdgeWordOf : Command → Lent → ℕ → Type 0
 EdgeWordOf (NewTd t place scope) s i = ⊥
-EdgeWordOf (NewEdge t t1 t2) s i = (edgeWords * s .held ≤ i) × (i < edgeWords * s .held + edgeWords)
+EdgeWordOf (NewEdge t t1 t2) s i =
+    (status (s .vertices) t1 ≡ FINISHED → ⊥) × (edgeWords * s .held ≤ i) × (i < edgeWords * s .held + edgeWords)
 EdgeWordOf (Release t t') s i = ⊥
-EdgeWordOf (Transfer t t') s i = (j : ℕ) × (j < s .held) × (i ≡ edgeWords * j + sourceWord)
+EdgeWordOf (Transfer t t') s i = (j : ℕ) × (j < s .held) × (source (s .edges) j ≡ t) × (i ≡ edgeWords * j + sourceWord)
 EdgeWordOf (Start t) s i = ⊥
 EdgeWordOf (Stop t) s i = i < edgeWords * s .held
 

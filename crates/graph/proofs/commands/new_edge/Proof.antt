@@ -7,46 +7,17 @@ use Rattle.graph.specs.Commands.{newEdge, withEdge}
 use Rattle.graph.proofs.CallLaws.{refused-outcome, accepted-outcome, newEdge-source, newEdge-room}
 use Rattle.graph.proofs.commands.new_edge.Statement.{statement}
 use Rattle.graph.proofs.commands.new_edge.Tie as tie
-use Rattle.graph.proofs.commands.new_edge.Reads as reads
-use Rattle.graph.proofs.commands.new_edge.Lts as lts
-use Rattle.graph.proofs.commands.refused.Reads as refused-reads
-use Rattle.graph.proofs.refusals.new_edge_refusal.Reads as new-edge-refusal-reads
-use Rattle.graph.proofs.rows.append_edge.Reads as append-edge-reads
-
-new-edge-refusal-requires : tie.Need-new-edge-refusal-requires
-new-edge-refusal-requires c κs = search needs
-
-refused-requires : tie.Need-refused-requires
-refused-requires c κs = search needs
-
-same-length : tie.Need-same-length
-same-length c = search needs
 
 returns : tie.Need-returns
 unfolding newEdge withEdge
 returns c = refused-outcome (c .refused .result) _ _ _ _ _ (c .before .before .new-edge-refusal .ensures) (c .before .if1 .taken) (c .refused .ensures)
 
-mul-if2 : tie.Need-mul-if2
-mul-if2 c = search needs
-
-add-if2 : tie.Need-add-if2
-add-if2 c = search needs
-
-mul-if2-2 : tie.Need-mul-if2-2
-mul-if2-2 c = search needs
-
 shared-slice-read-if2 : tie.Need-shared-slice-read-if2
 shared-slice-read-if2 c = omega (arith, newEdge-source _ _ _ _ (sym (c .before .before .new-edge-refusal .ensures) ∙ c .before .if1 .left))
-
-same-length-2 : tie.Need-same-length-2
-same-length-2 c = search needs
 
 returns-2 : tie.Need-returns-2
 unfolding newEdge withEdge
 returns-2 c = accepted-outcome _ _ _ (c .before .before .before .new-edge-refusal .ensures) (c .before .before .if1 .left) (rw (eq-eqb _ _ (c .if2 .taken)) refl)
-
-cast-append-edge : tie.Need-cast-append-edge
-cast-append-edge c = search needs
 
 append-edge-requires : tie.Need-append-edge-requires
 append-edge-requires c κs = newEdge-room _ _ _ _ (sym (c .before .before .before .before .new-edge-refusal .ensures) ∙ c .before .before .before .if1 .left) (c .before .if2 .left) .0
@@ -54,26 +25,23 @@ append-edge-requires c κs = newEdge-room _ _ _ _ (sym (c .before .before .befor
 add-t17 : tie.Need-add-t17
 add-t17 c = omega (arith, newEdge-room _ _ _ _ (sym (c .before .before .before .before .before .before .before .new-edge-refusal .ensures) ∙ c .before .before .before .before .before .before .if1 .left) (c .before .before .before .before .if2 .left))
 
-same-length-3 : tie.Need-same-length-3
-same-length-3 c = search needs
-
 returns-3 : tie.Need-returns-3
 unfolding newEdge withEdge
 returns-3 c = accepted-outcome _ _ _ (c .before .before .before .before .before .before .before .new-edge-refusal .ensures) (c .before .before .before .before .before .before .if1 .left) (rw (ne-eqb _ _ (c .before .before .before .before .if2 .left), c .before .before .append-edge .ensures) refl)
 
 pub new-edge-spec : {M : Type 1} → statement M
-new-edge-spec = tie.close (tie.spec new-edge-refusal-requires
-    refused-requires
-    same-length
+new-edge-spec = tie.close (tie.spec (λ c κs. search needs)
+    (λ c κs. search needs)
+    (λ c. search needs)
     returns
-    mul-if2
-    add-if2
-    mul-if2-2
+    (λ c. search needs)
+    (λ c. search needs)
+    (λ c. search needs)
     shared-slice-read-if2
-    same-length-2
+    (λ c. search needs)
     returns-2
-    cast-append-edge
+    (λ c. search needs)
     append-edge-requires
     add-t17
-    same-length-3
+    (λ c. search needs)
     returns-3)

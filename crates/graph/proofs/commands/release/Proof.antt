@@ -6,20 +6,6 @@ use Rattle.graph.specs.Commands.{release}
 use Rattle.graph.proofs.CallLaws.{refused-outcome, accepted-outcome, release-room}
 use Rattle.graph.proofs.commands.release.Statement.{statement}
 use Rattle.graph.proofs.commands.release.Tie as tie
-use Rattle.graph.proofs.commands.release.Reads as reads
-use Rattle.graph.proofs.commands.release.Lts as lts
-use Rattle.graph.proofs.commands.refused.Reads as refused-reads
-use Rattle.graph.proofs.refusals.release_refusal.Reads as release-refusal-reads
-use Rattle.graph.proofs.rows.set_status.Reads as set-status-reads
-
-release-refusal-requires : tie.Need-release-refusal-requires
-release-refusal-requires c κs = search needs
-
-refused-requires : tie.Need-refused-requires
-refused-requires c κs = search needs
-
-same-length : tie.Need-same-length
-same-length c = search needs
 
 returns : tie.Need-returns
 unfolding release
@@ -28,18 +14,15 @@ returns c = refused-outcome (c .refused .result) _ _ _ _ _ (c .before .before .r
 set-status-requires : tie.Need-set-status-requires
 set-status-requires c κs = release-room _ _ _ (sym (c .before .before .release-refusal .ensures) ∙ c .before .if1 .left)
 
-same-length-2 : tie.Need-same-length-2
-same-length-2 c = search needs
-
 returns-2 : tie.Need-returns-2
 unfolding release
 returns-2 c = accepted-outcome _ _ _ (c .before .before .before .before .before .release-refusal .ensures) (c .before .before .before .before .if1 .left) (rw (c .before .before .set-status .ensures) refl)
 
 pub release-spec : {M : Type 1} → statement M
-release-spec = tie.close (tie.spec release-refusal-requires
-    refused-requires
-    same-length
+release-spec = tie.close (tie.spec (λ c κs. search needs)
+    (λ c κs. search needs)
+    (λ c. search needs)
     returns
     set-status-requires
-    same-length-2
+    (λ c. search needs)
     returns-2)

@@ -7,24 +7,6 @@ use Rattle.graph.specs.Commands.{stop, stopped}
 use Rattle.graph.proofs.CallLaws.{refused-outcome, accepted-outcome, stop-room}
 use Rattle.graph.proofs.commands.stop.Statement.{statement}
 use Rattle.graph.proofs.commands.stop.Tie as tie
-use Rattle.graph.proofs.commands.stop.Reads as reads
-use Rattle.graph.proofs.commands.stop.Lts as lts
-use Rattle.graph.proofs.commands.refused.Reads as refused-reads
-use Rattle.graph.proofs.edges.drop_edges.Reads as drop-edges-reads
-use Rattle.graph.proofs.refusals.stop_refusal.Reads as stop-refusal-reads
-use Rattle.graph.proofs.rows.set_status.Reads as set-status-reads
-
-stop-refusal-requires : tie.Need-stop-refusal-requires
-stop-refusal-requires c κs = search needs
-
-refused-requires : tie.Need-refused-requires
-refused-requires c κs = search needs
-
-same-length : tie.Need-same-length
-same-length c = search needs
-
-same-length-2 : tie.Need-same-length-2
-same-length-2 c = search needs
 
 returns : tie.Need-returns
 unfolding stop stopped
@@ -33,35 +15,26 @@ returns c = refused-outcome (c .refused .result) _ _ _ _ _ (c .before .before .s
 set-status-requires : tie.Need-set-status-requires
 set-status-requires c κs = stop-room _ _ (sym (c .before .before .stop-refusal .ensures) ∙ c .before .if1 .left) .0
 
-cast-drop-edges : tie.Need-cast-drop-edges
-cast-drop-edges c = search needs
-
 drop-edges-requires : tie.Need-drop-edges-requires
 drop-edges-requires c κs = stop-room _ _ (sym (c .before .before .before .before .before .before .before .stop-refusal .ensures) ∙ c .before .before .before .before .before .before .if1 .left) .1 .0
 
 cast-t19 : tie.Need-cast-t19
 cast-t19 c = omega (arith, kept-fits _ _ _ (c .before .before .drop-edges .ensures .0) (stop-room _ _ (sym (c .before .before .before .before .before .before .before .before .before .before .stop-refusal .ensures) ∙ c .before .before .before .before .before .before .before .before .before .if1 .left) .1 .1))
 
-same-length-3 : tie.Need-same-length-3
-same-length-3 c = search needs
-
-same-length-4 : tie.Need-same-length-4
-same-length-4 c = search needs
-
 returns-2 : tie.Need-returns-2
 unfolding stop stopped
 returns-2 c = accepted-outcome _ _ _ (c .before .before .before .before .before .before .before .before .before .before .stop-refusal .ensures) (c .before .before .before .before .before .before .before .before .before .if1 .left) (rw (c .before .before .before .before .before .before .before .set-status .ensures, c .before .before .drop-edges .ensures .0, c .before .before .drop-edges .ensures .1) refl)
 
 pub stop-spec : {M : Type 1} → statement M
-stop-spec = tie.close (tie.spec stop-refusal-requires
-    refused-requires
-    same-length
-    same-length-2
+stop-spec = tie.close (tie.spec (λ c κs. search needs)
+    (λ c κs. search needs)
+    (λ c. search needs)
+    (λ c. search needs)
     returns
     set-status-requires
-    cast-drop-edges
+    (λ c. search needs)
     drop-edges-requires
     cast-t19
-    same-length-3
-    same-length-4
+    (λ c. search needs)
+    (λ c. search needs)
     returns-2)

@@ -6,44 +6,24 @@ use Rattle.graph.specs.Commands.{transfer, withMoved}
 use Rattle.graph.proofs.CallLaws.{refused-outcome, accepted-outcome, transfer-room}
 use Rattle.graph.proofs.commands.transfer.Statement.{statement}
 use Rattle.graph.proofs.commands.transfer.Tie as tie
-use Rattle.graph.proofs.commands.transfer.Reads as reads
-use Rattle.graph.proofs.commands.transfer.Lts as lts
-use Rattle.graph.proofs.commands.refused.Reads as refused-reads
-use Rattle.graph.proofs.edges.move_sources.Reads as move-sources-reads
-use Rattle.graph.proofs.refusals.transfer_refusal.Reads as transfer-refusal-reads
-
-transfer-refusal-requires : tie.Need-transfer-refusal-requires
-transfer-refusal-requires c κs = search needs
-
-refused-requires : tie.Need-refused-requires
-refused-requires c κs = search needs
-
-same-length : tie.Need-same-length
-same-length c = search needs
 
 returns : tie.Need-returns
 unfolding transfer withMoved
 returns c = refused-outcome (c .refused .result) _ _ _ _ _ (c .before .before .transfer-refusal .ensures) (c .before .if1 .taken) (c .refused .ensures)
 
-cast-move-sources : tie.Need-cast-move-sources
-cast-move-sources c = search needs
-
 move-sources-requires : tie.Need-move-sources-requires
 move-sources-requires c κs = transfer-room _ _ _ (sym (c .before .before .before .transfer-refusal .ensures) ∙ c .before .before .if1 .left)
-
-same-length-2 : tie.Need-same-length-2
-same-length-2 c = search needs
 
 returns-2 : tie.Need-returns-2
 unfolding transfer withMoved
 returns-2 c = accepted-outcome _ _ _ (c .before .before .before .before .before .before .transfer-refusal .ensures) (c .before .before .before .before .before .if1 .left) (rw (c .before .before .move-sources .ensures) refl)
 
 pub transfer-spec : {M : Type 1} → statement M
-transfer-spec = tie.close (tie.spec transfer-refusal-requires
-    refused-requires
-    same-length
+transfer-spec = tie.close (tie.spec (λ c κs. search needs)
+    (λ c κs. search needs)
+    (λ c. search needs)
     returns
-    cast-move-sources
+    (λ c. search needs)
     move-sources-requires
-    same-length-2
+    (λ c. search needs)
     returns-2)

@@ -4,11 +4,10 @@ use mathlib.Core.Path.{_≡_, ap, _∙_}
 use native.Mathlib.Omega.{arith}
 use lib.ListN.{length}
 use Rattle.graph.specs.Commands.{moved}
-use Rattle.graph.proofs.EdgeLoops.{moved-none, moved-skips, moved-sets, moved-all, length-moved}
+use Rattle.graph.proofs.EdgeLoops.{moved-none, moved-skips, moved-sets, moved-all}
+use Rattle.graph.proofs.TableLaws.{length-moved}
 use Rattle.graph.proofs.edges.move_sources.Statement.{statement}
 use Rattle.graph.proofs.edges.move_sources.Tie as tie
-use Rattle.graph.proofs.edges.move_sources.Reads as reads
-use Rattle.graph.proofs.edges.move_sources.Lts as lts
 
 abbrev Inv-loop : tie.InvT-loop
 Inv-loop edges₀ held from to i₀ edges i = (i ≤ held) × (edges ≡ moved from to edges₀ i)
@@ -19,44 +18,14 @@ abbrev μ-loop : tie.MeasureT-loop
 loop-holds : tie.Need-loop-holds Inv-loop μ-loop
 loop-holds c = (omega arith, moved-none _ _ _)
 
-mul-if1 : tie.Need-mul-if1 Inv-loop μ-loop
-mul-if1 c = omega arith
-
-add-if1 : tie.Need-add-if1 Inv-loop μ-loop
-add-if1 c = omega arith
-
-mul-if1-2 : tie.Need-mul-if1-2 Inv-loop μ-loop
-mul-if1-2 c = omega arith
-
 slice-read-if1 : tie.Need-slice-read-if1 Inv-loop μ-loop
 slice-read-if1 c = omega (arith, ap length (c .before .before .loop .inv .1) ∙ length-moved _ _ _ _)
-
-add-i : tie.Need-add-i Inv-loop μ-loop
-add-i c = omega arith
-
-loop-less : tie.Need-loop-less Inv-loop μ-loop
-loop-less c = omega arith
 
 loop-again : tie.Need-loop-again Inv-loop μ-loop
 loop-again c = (omega arith, moved-skips _ _ _ _ (c .before .before .before .loop .inv .1) (c .if1 .taken))
 
-mul-edges : tie.Need-mul-edges Inv-loop μ-loop
-mul-edges c = omega arith
-
-add-edges : tie.Need-add-edges Inv-loop μ-loop
-add-edges c = omega arith
-
-mul-edges-2 : tie.Need-mul-edges-2 Inv-loop μ-loop
-mul-edges-2 c = omega arith
-
 slice-write-edges : tie.Need-slice-write-edges Inv-loop μ-loop
 slice-write-edges c = omega (arith, ap length (c .before .before .before .loop .inv .1) ∙ length-moved _ _ _ _)
-
-add-i-2 : tie.Need-add-i-2 Inv-loop μ-loop
-add-i-2 c = omega arith
-
-loop-less-2 : tie.Need-loop-less-2 Inv-loop μ-loop
-loop-less-2 c = omega arith
 
 loop-again-2 : tie.Need-loop-again-2 Inv-loop μ-loop
 loop-again-2 c = (omega arith, moved-sets _ _ _ _ (c .before .before .before .loop .inv .1) (c .if1 .left))
@@ -71,19 +40,19 @@ pub move-sources-spec : {M : Type 1} → statement M
 move-sources-spec = tie.close (tie.spec Inv-loop
     μ-loop
     loop-holds
-    mul-if1
-    add-if1
-    mul-if1-2
+    (λ c. omega arith)
+    (λ c. omega arith)
+    (λ c. omega arith)
     slice-read-if1
-    add-i
-    loop-less
+    (λ c. omega arith)
+    (λ c. omega arith)
     loop-again
-    mul-edges
-    add-edges
-    mul-edges-2
+    (λ c. omega arith)
+    (λ c. omega arith)
+    (λ c. omega arith)
     slice-write-edges
-    add-i-2
-    loop-less-2
+    (λ c. omega arith)
+    (λ c. omega arith)
     loop-again-2
     same-length
     returns)

@@ -9,16 +9,6 @@ use Rattle.graph.proofs.TestLaws.{both-true, both-false-left, both-fals
 use Rattle.graph.proofs.CallLaws.{pass, halt, pass-over, settle, at-most, below}
 use Rattle.graph.proofs.refusals.new_edge_refusal.Statement.{statement}
 use Rattle.graph.proofs.refusals.new_edge_refusal.Tie as tie
-use Rattle.graph.proofs.refusals.new_edge_refusal.Reads as reads
-use Rattle.graph.proofs.refusals.new_edge_refusal.Lts as lts
-use Rattle.graph.proofs.edges.is_held.Reads as is-held-reads
-use Rattle.graph.proofs.refusals.closes_cycle.Reads as closes-cycle-reads
-use Rattle.graph.proofs.refusals.waits.Reads as waits-reads
-use Rattle.graph.proofs.rows.edge_rows.Reads as edge-rows-reads
-use Rattle.graph.proofs.sound.is_sound.Reads as is-sound-reads
-
-is-sound-requires : tie.Need-is-sound-requires
-is-sound-requires c κs = search needs
 
 returns : tie.Need-returns
 unfolding newEdgeRefusal
@@ -36,15 +26,6 @@ returns-4 : tie.Need-returns-4
 unfolding newEdgeRefusal
 returns-4 c = pass _ (sym (c .before .before .before .before .is-sound .ensures) ∙ not-false _ (c .before .before .before .if1 .left)) (halt _ _ (both-false-right _ (both-false-right _ (le-ltb _ _ (c .if4 .taken)))))
 
-mul-if5 : tie.Need-mul-if5
-mul-if5 c = search needs
-
-add-if5 : tie.Need-add-if5
-add-if5 c = search needs
-
-mul-if5-2 : tie.Need-mul-if5-2
-mul-if5-2 c = search needs
-
 shared-slice-read-if5 : tie.Need-shared-slice-read-if5
 shared-slice-read-if5 c = omega (arith, sound-rows _ (sym (c .before .before .before .before .before .is-sound .ensures) ∙ not-false _ (c .before .before .before .before .if1 .left)))
 
@@ -52,33 +33,12 @@ returns-5 : tie.Need-returns-5
 unfolding newEdgeRefusal
 returns-5 c = pass _ (sym (c .before .before .before .before .before .before .is-sound .ensures) ∙ not-false _ (c .before .before .before .before .before .if1 .left)) (pass _ (both-true (lt-ltb _ _ (c .before .before .before .before .if2 .left)) (both-true (lt-ltb _ _ (c .before .before .before .if3 .left)) (lt-ltb _ _ (c .before .before .if4 .left)))) (halt _ _ (ne-eqb _ _ (c .if5 .taken))))
 
-mul-waits : tie.Need-mul-waits
-mul-waits c = search needs
-
-add-waits : tie.Need-add-waits
-add-waits c = search needs
-
-mul-waits-2 : tie.Need-mul-waits-2
-mul-waits-2 c = search needs
-
 shared-slice-read-waits : tie.Need-shared-slice-read-waits
 shared-slice-read-waits c = omega (arith, sound-rows _ (sym (c .before .before .before .before .before .before .before .is-sound .ensures) ∙ not-false _ (c .before .before .before .before .before .before .if1 .left)))
-
-waits-requires : tie.Need-waits-requires
-waits-requires c κs = search needs
 
 returns-6 : tie.Need-returns-6
 unfolding newEdgeRefusal
 returns-6 c = pass _ (sym (c .before .before .before .before .before .before .before .before .before .is-sound .ensures) ∙ not-false _ (c .before .before .before .before .before .before .before .before .if1 .left)) (pass _ (both-true (lt-ltb _ _ (c .before .before .before .before .before .before .before .if2 .left)) (both-true (lt-ltb _ _ (c .before .before .before .before .before .before .if3 .left)) (lt-ltb _ _ (c .before .before .before .before .before .if4 .left)))) (pass _ (eq-eqb _ _ (c .before .before .before .if5 .left)) (halt _ _ (sym (c .before .waits .ensures) ∙ not-true _ (c .if6 .taken)))))
-
-mul-if7 : tie.Need-mul-if7
-mul-if7 c = search needs
-
-add-if7 : tie.Need-add-if7
-add-if7 c = search needs
-
-mul-if7-2 : tie.Need-mul-if7-2
-mul-if7-2 c = search needs
 
 shared-slice-read-if7 : tie.Need-shared-slice-read-if7
 shared-slice-read-if7 c = omega (arith, sound-rows _ (sym (c .before .before .before .before .before .before .before .before .before .before .is-sound .ensures) ∙ not-false _ (c .before .before .before .before .before .before .before .before .before .if1 .left)))
@@ -87,9 +47,6 @@ returns-7 : tie.Need-returns-7
 unfolding newEdgeRefusal
 returns-7 c = pass _ (sym (c .before .before .before .before .before .before .before .before .before .before .before .is-sound .ensures) ∙ not-false _ (c .before .before .before .before .before .before .before .before .before .before .if1 .left)) (pass _ (both-true (lt-ltb _ _ (c .before .before .before .before .before .before .before .before .before .if2 .left)) (both-true (lt-ltb _ _ (c .before .before .before .before .before .before .before .before .if3 .left)) (lt-ltb _ _ (c .before .before .before .before .before .before .before .if4 .left)))) (pass _ (eq-eqb _ _ (c .before .before .before .before .before .if5 .left)) (pass _ (sym (c .before .before .before .waits .ensures) ∙ not-false _ (c .before .before .if6 .left)) (settle _ _ (eq-eqb _ _ (c .if7 .taken))))))
 
-cast-is-held : tie.Need-cast-is-held
-cast-is-held c = search needs
-
 is-held-requires : tie.Need-is-held-requires
 is-held-requires c κs = omega (arith, sound-rows _ (sym (c .before .before .before .before .before .before .before .before .before .before .before .is-sound .ensures) ∙ not-false _ (c .before .before .before .before .before .before .before .before .before .before .if1 .left)))
 
@@ -97,21 +54,12 @@ returns-8 : tie.Need-returns-8
 unfolding newEdgeRefusal
 returns-8 c = pass _ (sym (c .before .before .before .before .before .before .before .before .before .before .before .before .before .is-sound .ensures) ∙ not-false _ (c .before .before .before .before .before .before .before .before .before .before .before .before .if1 .left)) (pass _ (both-true (lt-ltb _ _ (c .before .before .before .before .before .before .before .before .before .before .before .if2 .left)) (both-true (lt-ltb _ _ (c .before .before .before .before .before .before .before .before .before .before .if3 .left)) (lt-ltb _ _ (c .before .before .before .before .before .before .before .before .before .if4 .left)))) (pass _ (eq-eqb _ _ (c .before .before .before .before .before .before .before .if5 .left)) (pass _ (sym (c .before .before .before .before .before .waits .ensures) ∙ not-false _ (c .before .before .before .before .if6 .left)) (pass-over _ (ne-eqb _ _ (c .before .before .if7 .left)) (halt _ _ (not-of-true (sym (c .before .is-held .ensures) ∙ c .if8 .taken)))))))
 
-cast-closes-cycle : tie.Need-cast-closes-cycle
-cast-closes-cycle c = search needs
-
 closes-cycle-requires : tie.Need-closes-cycle-requires
 closes-cycle-requires c κs = searchable _ _ _ (sym (c .before .before .before .before .before .before .before .before .before .before .before .before .before .is-sound .ensures) ∙ not-false _ (c .before .before .before .before .before .before .before .before .before .before .before .before .if1 .left)) (c .before .before .before .before .before .before .before .before .before .if4 .left) (c .before .before .before .before .before .before .before .before .before .before .if3 .left)
 
 returns-9 : tie.Need-returns-9
 unfolding newEdgeRefusal
 returns-9 c = pass _ (sym (c .before .before .before .before .before .before .before .before .before .before .before .before .before .before .before .is-sound .ensures) ∙ not-false _ (c .before .before .before .before .before .before .before .before .before .before .before .before .before .before .if1 .left)) (pass _ (both-true (lt-ltb _ _ (c .before .before .before .before .before .before .before .before .before .before .before .before .before .if2 .left)) (both-true (lt-ltb _ _ (c .before .before .before .before .before .before .before .before .before .before .before .before .if3 .left)) (lt-ltb _ _ (c .before .before .before .before .before .before .before .before .before .before .before .if4 .left)))) (pass _ (eq-eqb _ _ (c .before .before .before .before .before .before .before .before .before .if5 .left)) (pass _ (sym (c .before .before .before .before .before .before .before .waits .ensures) ∙ not-false _ (c .before .before .before .before .before .before .if6 .left)) (pass-over _ (ne-eqb _ _ (c .before .before .before .before .if7 .left)) (pass _ (not-of-false (sym (c .before .before .before .is-held .ensures) ∙ c .before .before .if8 .left)) (halt _ _ (not-of-true (sym (c .before .closes-cycle .ensures) ∙ c .if9 .taken))))))))
-
-edge-rows-requires : tie.Need-edge-rows-requires
-edge-rows-requires c κs = search needs
-
-cast-if10 : tie.Need-cast-if10
-cast-if10 c = search needs
 
 returns-10 : tie.Need-returns-10
 unfolding newEdgeRefusal
@@ -122,34 +70,34 @@ unfolding newEdgeRefusal
 returns-11 c = pass _ (sym (c .before .before .before .before .before .before .before .before .before .before .before .before .before .before .before .before .before .is-sound .ensures) ∙ not-false _ (c .before .before .before .before .before .before .before .before .before .before .before .before .before .before .before .before .if1 .left)) (pass _ (both-true (lt-ltb _ _ (c .before .before .before .before .before .before .before .before .before .before .before .before .before .before .before .if2 .left)) (both-true (lt-ltb _ _ (c .before .before .before .before .before .before .before .before .before .before .before .before .before .before .if3 .left)) (lt-ltb _ _ (c .before .before .before .before .before .before .before .before .before .before .before .before .before .if4 .left)))) (pass _ (eq-eqb _ _ (c .before .before .before .before .before .before .before .before .before .before .before .if5 .left)) (pass _ (sym (c .before .before .before .before .before .before .before .before .before .waits .ensures) ∙ not-false _ (c .before .before .before .before .before .before .before .before .if6 .left)) (pass-over _ (ne-eqb _ _ (c .before .before .before .before .before .before .if7 .left)) (pass _ (not-of-false (sym (c .before .before .before .before .before .is-held .ensures) ∙ c .before .before .before .before .if8 .left)) (pass _ (not-of-false (sym (c .before .before .before .closes-cycle .ensures) ∙ c .before .before .if9 .left)) (pass _ (lt-ltb _ _ (below (c .before .edge-rows .ensures) (c .if10 .left))) (refl))))))))
 
 pub new-edge-refusal-spec : {M : Type 1} → statement M
-new-edge-refusal-spec = tie.close (tie.spec is-sound-requires
+new-edge-refusal-spec = tie.close (tie.spec (λ c κs. search needs)
     returns
     returns-2
     returns-3
     returns-4
-    mul-if5
-    add-if5
-    mul-if5-2
+    (λ c. search needs)
+    (λ c. search needs)
+    (λ c. search needs)
     shared-slice-read-if5
     returns-5
-    mul-waits
-    add-waits
-    mul-waits-2
+    (λ c. search needs)
+    (λ c. search needs)
+    (λ c. search needs)
     shared-slice-read-waits
-    waits-requires
+    (λ c κs. search needs)
     returns-6
-    mul-if7
-    add-if7
-    mul-if7-2
+    (λ c. search needs)
+    (λ c. search needs)
+    (λ c. search needs)
     shared-slice-read-if7
     returns-7
-    cast-is-held
+    (λ c. search needs)
     is-held-requires
     returns-8
-    cast-closes-cycle
+    (λ c. search needs)
     closes-cycle-requires
     returns-9
-    edge-rows-requires
-    cast-if10
+    (λ c κs. search needs)
+    (λ c. search needs)
     returns-10
     returns-11)

@@ -8,13 +8,6 @@ use Rattle.graph.proofs.SoundChecks.{sound-rows}
 use Rattle.graph.proofs.CallLaws.{pass, halt, at-most, below}
 use Rattle.graph.proofs.refusals.new_td_refusal.Statement.{statement}
 use Rattle.graph.proofs.refusals.new_td_refusal.Tie as tie
-use Rattle.graph.proofs.refusals.new_td_refusal.Reads as reads
-use Rattle.graph.proofs.refusals.new_td_refusal.Lts as lts
-use Rattle.graph.proofs.rows.vertex_rows.Reads as vertex-rows-reads
-use Rattle.graph.proofs.sound.is_sound.Reads as is-sound-reads
-
-is-sound-requires : tie.Need-is-sound-requires
-is-sound-requires c κs = search needs
 
 returns : tie.Need-returns
 unfolding newTdRefusal
@@ -24,27 +17,12 @@ returns-2 : tie.Need-returns-2
 unfolding newTdRefusal
 returns-2 c = pass _ (sym (c .before .before .is-sound .ensures) ∙ not-false _ (c .before .if1 .left)) (halt _ _ (le-ltb _ _ (c .if2 .taken)))
 
-mul-if3 : tie.Need-mul-if3
-mul-if3 c = search needs
-
-add-if3 : tie.Need-add-if3
-add-if3 c = search needs
-
-mul-if3-2 : tie.Need-mul-if3-2
-mul-if3-2 c = search needs
-
 shared-slice-read-if3 : tie.Need-shared-slice-read-if3
 shared-slice-read-if3 c = omega (arith, sound-rows _ (sym (c .before .before .before .is-sound .ensures) ∙ not-false _ (c .before .before .if1 .left)))
 
 returns-3 : tie.Need-returns-3
 unfolding newTdRefusal
 returns-3 c = pass _ (sym (c .before .before .before .before .is-sound .ensures) ∙ not-false _ (c .before .before .before .if1 .left)) (pass _ (lt-ltb _ _ (c .before .before .if2 .left)) (halt _ _ (ne-eqb _ _ (c .if3 .taken))))
-
-vertex-rows-requires : tie.Need-vertex-rows-requires
-vertex-rows-requires c κs = search needs
-
-cast-if4 : tie.Need-cast-if4
-cast-if4 c = search needs
 
 returns-4 : tie.Need-returns-4
 unfolding newTdRefusal
@@ -55,15 +33,15 @@ unfolding newTdRefusal
 returns-5 c = pass _ (sym (c .before .before .before .before .before .before .is-sound .ensures) ∙ not-false _ (c .before .before .before .before .before .if1 .left)) (pass _ (lt-ltb _ _ (c .before .before .before .before .if2 .left)) (pass _ (eq-eqb _ _ (c .before .before .if3 .left)) (pass _ (lt-ltb _ _ (below (c .before .vertex-rows .ensures) (c .if4 .left))) (refl))))
 
 pub new-td-refusal-spec : {M : Type 1} → statement M
-new-td-refusal-spec = tie.close (tie.spec is-sound-requires
+new-td-refusal-spec = tie.close (tie.spec (λ c κs. search needs)
     returns
     returns-2
-    mul-if3
-    add-if3
-    mul-if3-2
+    (λ c. search needs)
+    (λ c. search needs)
+    (λ c. search needs)
     shared-slice-read-if3
     returns-3
-    vertex-rows-requires
-    cast-if4
+    (λ c κs. search needs)
+    (λ c. search needs)
     returns-4
     returns-5)

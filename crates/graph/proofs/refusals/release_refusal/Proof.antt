@@ -9,12 +9,6 @@ use Rattle.graph.proofs.TestLaws.{both-true, both-false-left, both-fals
 use Rattle.graph.proofs.CallLaws.{pass, halt}
 use Rattle.graph.proofs.refusals.release_refusal.Statement.{statement}
 use Rattle.graph.proofs.refusals.release_refusal.Tie as tie
-use Rattle.graph.proofs.refusals.release_refusal.Reads as reads
-use Rattle.graph.proofs.refusals.release_refusal.Lts as lts
-use Rattle.graph.proofs.sound.is_sound.Reads as is-sound-reads
-
-is-sound-requires : tie.Need-is-sound-requires
-is-sound-requires c κs = search needs
 
 returns : tie.Need-returns
 unfolding releaseRefusal
@@ -28,30 +22,12 @@ returns-3 : tie.Need-returns-3
 unfolding releaseRefusal
 returns-3 c = pass _ (sym (c .before .before .before .is-sound .ensures) ∙ not-false _ (c .before .before .if1 .left)) (halt _ _ (both-false-right _ (le-ltb _ _ (c .if3 .taken))))
 
-mul-if4 : tie.Need-mul-if4
-mul-if4 c = search needs
-
-add-if4 : tie.Need-add-if4
-add-if4 c = search needs
-
-mul-if4-2 : tie.Need-mul-if4-2
-mul-if4-2 c = search needs
-
 shared-slice-read-if4 : tie.Need-shared-slice-read-if4
 shared-slice-read-if4 c = omega (arith, sound-rows _ (sym (c .before .before .before .before .is-sound .ensures) ∙ not-false _ (c .before .before .before .if1 .left)))
 
 returns-4 : tie.Need-returns-4
 unfolding releaseRefusal
 returns-4 c = pass _ (sym (c .before .before .before .before .before .is-sound .ensures) ∙ not-false _ (c .before .before .before .before .if1 .left)) (pass _ (both-true (lt-ltb _ _ (c .before .before .before .if2 .left)) (lt-ltb _ _ (c .before .before .if3 .left))) (halt _ _ (ne-eqb _ _ (c .if4 .taken))))
-
-mul-if5 : tie.Need-mul-if5
-mul-if5 c = search needs
-
-add-if5 : tie.Need-add-if5
-add-if5 c = search needs
-
-mul-if5-2 : tie.Need-mul-if5-2
-mul-if5-2 c = search needs
 
 shared-slice-read-if5 : tie.Need-shared-slice-read-if5
 shared-slice-read-if5 c = omega (arith, sound-rows _ (sym (c .before .before .before .before .before .before .is-sound .ensures) ∙ not-false _ (c .before .before .before .before .before .if1 .left)))
@@ -65,18 +41,18 @@ unfolding releaseRefusal
 returns-6 c = pass _ (sym (c .before .before .before .before .before .before .before .is-sound .ensures) ∙ not-false _ (c .before .before .before .before .before .before .if1 .left)) (pass _ (both-true (lt-ltb _ _ (c .before .before .before .before .before .if2 .left)) (lt-ltb _ _ (c .before .before .before .before .if3 .left))) (pass _ (eq-eqb _ _ (c .before .before .if4 .left)) (pass _ (eq-eqb _ _ (c .if5 .left)) (refl))))
 
 pub release-refusal-spec : {M : Type 1} → statement M
-release-refusal-spec = tie.close (tie.spec is-sound-requires
+release-refusal-spec = tie.close (tie.spec (λ c κs. search needs)
     returns
     returns-2
     returns-3
-    mul-if4
-    add-if4
-    mul-if4-2
+    (λ c. search needs)
+    (λ c. search needs)
+    (λ c. search needs)
     shared-slice-read-if4
     returns-4
-    mul-if5
-    add-if5
-    mul-if5-2
+    (λ c. search needs)
+    (λ c. search needs)
+    (λ c. search needs)
     shared-slice-read-if5
     returns-5
     returns-6)

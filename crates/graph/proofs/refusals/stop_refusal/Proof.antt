@@ -8,12 +8,6 @@ use Rattle.graph.proofs.SoundChecks.{sound-rows}
 use Rattle.graph.proofs.CallLaws.{pass, halt}
 use Rattle.graph.proofs.refusals.stop_refusal.Statement.{statement}
 use Rattle.graph.proofs.refusals.stop_refusal.Tie as tie
-use Rattle.graph.proofs.refusals.stop_refusal.Reads as reads
-use Rattle.graph.proofs.refusals.stop_refusal.Lts as lts
-use Rattle.graph.proofs.sound.is_sound.Reads as is-sound-reads
-
-is-sound-requires : tie.Need-is-sound-requires
-is-sound-requires c κs = search needs
 
 returns : tie.Need-returns
 unfolding stopRefusal
@@ -22,15 +16,6 @@ returns c = halt _ _ (sym (c .before .is-sound .ensures) ∙ not-true _ (c .if1 
 returns-2 : tie.Need-returns-2
 unfolding stopRefusal
 returns-2 c = pass _ (sym (c .before .before .is-sound .ensures) ∙ not-false _ (c .before .if1 .left)) (halt _ _ (le-ltb _ _ (c .if2 .taken)))
-
-mul-if3 : tie.Need-mul-if3
-mul-if3 c = search needs
-
-add-if3 : tie.Need-add-if3
-add-if3 c = search needs
-
-mul-if3-2 : tie.Need-mul-if3-2
-mul-if3-2 c = search needs
 
 shared-slice-read-if3 : tie.Need-shared-slice-read-if3
 shared-slice-read-if3 c = omega (arith, sound-rows _ (sym (c .before .before .before .is-sound .ensures) ∙ not-false _ (c .before .before .if1 .left)))
@@ -44,12 +29,12 @@ unfolding stopRefusal
 returns-4 c = pass _ (sym (c .before .before .before .before .is-sound .ensures) ∙ not-false _ (c .before .before .before .if1 .left)) (pass _ (lt-ltb _ _ (c .before .before .if2 .left)) (pass _ (eq-eqb _ _ (c .if3 .left)) (refl)))
 
 pub stop-refusal-spec : {M : Type 1} → statement M
-stop-refusal-spec = tie.close (tie.spec is-sound-requires
+stop-refusal-spec = tie.close (tie.spec (λ c κs. search needs)
     returns
     returns-2
-    mul-if3
-    add-if3
-    mul-if3-2
+    (λ c. search needs)
+    (λ c. search needs)
+    (λ c. search needs)
     shared-slice-read-if3
     returns-3
     returns-4)

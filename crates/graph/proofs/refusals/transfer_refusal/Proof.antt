@@ -11,14 +11,6 @@ use Rattle.graph.proofs.CallLaws.{pass, halt}
 use Rattle.graph.proofs.CycleLaws.{target-reaches}
 use Rattle.graph.proofs.refusals.transfer_refusal.Statement.{statement}
 use Rattle.graph.proofs.refusals.transfer_refusal.Tie as tie
-use Rattle.graph.proofs.refusals.transfer_refusal.Reads as reads
-use Rattle.graph.proofs.refusals.transfer_refusal.Lts as lts
-use Rattle.graph.proofs.edges.leads.Reads as leads-reads
-use Rattle.graph.proofs.paths.reaches.Reads as reaches-reads
-use Rattle.graph.proofs.sound.is_sound.Reads as is-sound-reads
-
-is-sound-requires : tie.Need-is-sound-requires
-is-sound-requires c κs = search needs
 
 returns : tie.Need-returns
 unfolding transferRefusal leadsOutOf
@@ -32,30 +24,12 @@ returns-3 : tie.Need-returns-3
 unfolding transferRefusal leadsOutOf
 returns-3 c = pass _ (sym (c .before .before .before .is-sound .ensures) ∙ not-false _ (c .before .before .if1 .left)) (halt _ _ (both-false-right _ (le-ltb _ _ (c .if3 .taken))))
 
-mul-if4 : tie.Need-mul-if4
-mul-if4 c = search needs
-
-add-if4 : tie.Need-add-if4
-add-if4 c = search needs
-
-mul-if4-2 : tie.Need-mul-if4-2
-mul-if4-2 c = search needs
-
 shared-slice-read-if4 : tie.Need-shared-slice-read-if4
 shared-slice-read-if4 c = omega (arith, sound-rows _ (sym (c .before .before .before .before .is-sound .ensures) ∙ not-false _ (c .before .before .before .if1 .left)))
 
 returns-4 : tie.Need-returns-4
 unfolding transferRefusal leadsOutOf
 returns-4 c = pass _ (sym (c .before .before .before .before .before .is-sound .ensures) ∙ not-false _ (c .before .before .before .before .if1 .left)) (pass _ (both-true (lt-ltb _ _ (c .before .before .before .if2 .left)) (lt-ltb _ _ (c .before .before .if3 .left))) (halt _ _ (ne-eqb _ _ (c .if4 .taken))))
-
-mul-if5 : tie.Need-mul-if5
-mul-if5 c = search needs
-
-add-if5 : tie.Need-add-if5
-add-if5 c = search needs
-
-mul-if5-2 : tie.Need-mul-if5-2
-mul-if5-2 c = search needs
 
 shared-slice-read-if5 : tie.Need-shared-slice-read-if5
 shared-slice-read-if5 c = omega (arith, sound-rows _ (sym (c .before .before .before .before .before .before .is-sound .ensures) ∙ not-false _ (c .before .before .before .before .before .if1 .left)))
@@ -64,18 +38,12 @@ returns-5 : tie.Need-returns-5
 unfolding transferRefusal leadsOutOf
 returns-5 c = pass _ (sym (c .before .before .before .before .before .before .before .is-sound .ensures) ∙ not-false _ (c .before .before .before .before .before .before .if1 .left)) (pass _ (both-true (lt-ltb _ _ (c .before .before .before .before .before .if2 .left)) (lt-ltb _ _ (c .before .before .before .before .if3 .left))) (pass _ (eq-eqb _ _ (c .before .before .if4 .left)) (halt _ _ (ne-eqb _ _ (c .if5 .taken)))))
 
-cast-leads : tie.Need-cast-leads
-cast-leads c = search needs
-
 leads-requires : tie.Need-leads-requires
 leads-requires c κs = omega (arith, sound-rows _ (sym (c .before .before .before .before .before .before .before .is-sound .ensures) ∙ not-false _ (c .before .before .before .before .before .before .if1 .left)))
 
 returns-6 : tie.Need-returns-6
 unfolding transferRefusal leadsOutOf
 returns-6 c = pass _ (sym (c .before .before .before .before .before .before .before .before .before .is-sound .ensures) ∙ not-false _ (c .before .before .before .before .before .before .before .before .if1 .left)) (pass _ (both-true (lt-ltb _ _ (c .before .before .before .before .before .before .before .if2 .left)) (lt-ltb _ _ (c .before .before .before .before .before .before .if3 .left))) (pass _ (eq-eqb _ _ (c .before .before .before .before .if4 .left)) (pass _ (eq-eqb _ _ (c .before .before .if5 .left)) (halt _ _ (not-of-true (sym (c .before .leads .ensures) ∙ c .if6 .taken))))))
-
-cast-reaches : tie.Need-cast-reaches
-cast-reaches c = search needs
 
 reaches-requires : tie.Need-reaches-requires
 reaches-requires c κs = searchable _ _ _ (sym (c .before .before .before .before .before .before .before .before .before .is-sound .ensures) ∙ not-false _ (c .before .before .before .before .before .before .before .before .if1 .left)) (c .before .before .before .before .before .before .before .if2 .left) (c .before .before .before .before .before .before .if3 .left)
@@ -89,24 +57,24 @@ unfolding transferRefusal leadsOutOf
 returns-8 c = pass _ (sym (c .before .before .before .before .before .before .before .before .before .before .before .is-sound .ensures) ∙ not-false _ (c .before .before .before .before .before .before .before .before .before .before .if1 .left)) (pass _ (both-true (lt-ltb _ _ (c .before .before .before .before .before .before .before .before .before .if2 .left)) (lt-ltb _ _ (c .before .before .before .before .before .before .before .before .if3 .left))) (pass _ (eq-eqb _ _ (c .before .before .before .before .before .before .if4 .left)) (pass _ (eq-eqb _ _ (c .before .before .before .before .if5 .left)) (pass _ (not-of-false (sym (c .before .before .before .leads .ensures) ∙ c .before .before .if6 .left)) (pass _ (not-of-false (target-reaches _ _ _ _ ∙ sym (c .before .reaches .ensures) ∙ c .if7 .left)) (refl))))))
 
 pub transfer-refusal-spec : {M : Type 1} → statement M
-transfer-refusal-spec = tie.close (tie.spec is-sound-requires
+transfer-refusal-spec = tie.close (tie.spec (λ c κs. search needs)
     returns
     returns-2
     returns-3
-    mul-if4
-    add-if4
-    mul-if4-2
+    (λ c. search needs)
+    (λ c. search needs)
+    (λ c. search needs)
     shared-slice-read-if4
     returns-4
-    mul-if5
-    add-if5
-    mul-if5-2
+    (λ c. search needs)
+    (λ c. search needs)
+    (λ c. search needs)
     shared-slice-read-if5
     returns-5
-    cast-leads
+    (λ c. search needs)
     leads-requires
     returns-6
-    cast-reaches
+    (λ c. search needs)
     reaches-requires
     returns-7
     returns-8)

@@ -4,11 +4,10 @@ use mathlib.Core.Path.{_≡_, ap, _∙_}
 use native.Mathlib.Omega.{arith}
 use lib.ListN.{length}
 use Rattle.graph.specs.Tables.{clear}
-use Rattle.graph.proofs.ClearLaws.{clear-none, clear-more, clear-all, length-clear}
+use Rattle.graph.proofs.ClearLaws.{clear-none, clear-more, clear-all}
+use Rattle.graph.proofs.TableLaws.{length-clear}
 use Rattle.graph.proofs.rows.clear.Statement.{statement}
 use Rattle.graph.proofs.rows.clear.Tie as tie
-use Rattle.graph.proofs.rows.clear.Reads as reads
-use Rattle.graph.proofs.rows.clear.Lts as lts
 
 abbrev Inv-loop : tie.InvT-loop
 Inv-loop table₀ from count i₀ table i = (i ≤ count) × (table ≡ clear table₀ from i)
@@ -19,20 +18,8 @@ abbrev μ-loop : tie.MeasureT-loop
 loop-holds : tie.Need-loop-holds Inv-loop μ-loop
 loop-holds c = (omega arith, clear-none _ _)
 
-add-table : tie.Need-add-table Inv-loop μ-loop
-add-table c = omega arith
-
-mul-table : tie.Need-mul-table Inv-loop μ-loop
-mul-table c = omega arith
-
 slice-write-table : tie.Need-slice-write-table Inv-loop μ-loop
 slice-write-table c = omega (arith, ap length (c .before .loop .inv .1) ∙ length-clear _ _ _)
-
-add-i : tie.Need-add-i Inv-loop μ-loop
-add-i c = omega arith
-
-loop-less : tie.Need-loop-less Inv-loop μ-loop
-loop-less c = omega arith
 
 loop-again : tie.Need-loop-again Inv-loop μ-loop
 loop-again c = (omega arith, clear-more _ _ _ (c .before .loop .inv .1))
@@ -47,11 +34,11 @@ pub clear-spec : {M : Type 1} → statement M
 clear-spec = tie.close (tie.spec Inv-loop
     μ-loop
     loop-holds
-    add-table
-    mul-table
+    (λ c. omega arith)
+    (λ c. omega arith)
     slice-write-table
-    add-i
-    loop-less
+    (λ c. omega arith)
+    (λ c. omega arith)
     loop-again
     same-length
     returns)

@@ -6,73 +6,31 @@ use lib.ListN.{length-set}
 use Rattle.graph.specs.Commands.{newRow}
 use Rattle.graph.proofs.rows.make_row.Statement.{statement}
 use Rattle.graph.proofs.rows.make_row.Tie as tie
-use Rattle.graph.proofs.rows.make_row.Reads as reads
-use Rattle.graph.proofs.rows.make_row.Lts as lts
-use Rattle.graph.proofs.rows.clear.Reads as clear-reads
-
-mul-clear : tie.Need-mul-clear
-mul-clear c = search needs
-
-clear-requires : tie.Need-clear-requires
-clear-requires c κs = search needs
-
-mul-vertices : tie.Need-mul-vertices
-mul-vertices c = search needs
-
-add-vertices : tie.Need-add-vertices
-add-vertices c = search needs
-
-mul-vertices-2 : tie.Need-mul-vertices-2
-mul-vertices-2 c = search needs
-
-slice-write-vertices : tie.Need-slice-write-vertices
-slice-write-vertices c = search needs
-
-mul-vertices-3 : tie.Need-mul-vertices-3
-mul-vertices-3 c = search needs
-
-add-vertices-2 : tie.Need-add-vertices-2
-add-vertices-2 c = search needs
-
-mul-vertices-4 : tie.Need-mul-vertices-4
-mul-vertices-4 c = search needs
 
 slice-write-vertices-2 : tie.Need-slice-write-vertices-2
 slice-write-vertices-2 c = simp length-set (omega arith)
 
-mul-vertices-5 : tie.Need-mul-vertices-5
-mul-vertices-5 c = search needs
-
-add-vertices-3 : tie.Need-add-vertices-3
-add-vertices-3 c = search needs
-
-mul-vertices-6 : tie.Need-mul-vertices-6
-mul-vertices-6 c = search needs
-
 slice-write-vertices-3 : tie.Need-slice-write-vertices-3
 slice-write-vertices-3 c = simp length-set (omega arith)
-
-same-length : tie.Need-same-length
-same-length c = search needs
 
 returns : tie.Need-returns
 unfolding newRow
 returns c = rw (c .before .before .clear .ensures) refl
 
 pub make-row-spec : {M : Type 1} → statement M
-make-row-spec = tie.close (tie.spec mul-clear
-    clear-requires
-    mul-vertices
-    add-vertices
-    mul-vertices-2
-    slice-write-vertices
-    mul-vertices-3
-    add-vertices-2
-    mul-vertices-4
+make-row-spec = tie.close (tie.spec (λ c. search needs)
+    (λ c κs. search needs)
+    (λ c. search needs)
+    (λ c. search needs)
+    (λ c. search needs)
+    (λ c. search needs)
+    (λ c. search needs)
+    (λ c. search needs)
+    (λ c. search needs)
     slice-write-vertices-2
-    mul-vertices-5
-    add-vertices-3
-    mul-vertices-6
+    (λ c. search needs)
+    (λ c. search needs)
+    (λ c. search needs)
     slice-write-vertices-3
-    same-length
+    (λ c. search needs)
     returns)

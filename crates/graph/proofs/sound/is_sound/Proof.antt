@@ -6,29 +6,15 @@ use borrow.Author.Tests.{not-true, not-false}
 use Rattle.graph.proofs.SoundChecks.{fits-rows, unsound-tally, unsound-statuses, sound-by-edges}
 use Rattle.graph.proofs.sound.is_sound.Statement.{statement}
 use Rattle.graph.proofs.sound.is_sound.Tie as tie
-use Rattle.graph.proofs.sound.is_sound.Reads as reads
-use Rattle.graph.proofs.sound.is_sound.Lts as lts
-use Rattle.graph.proofs.sound.edges_made.Reads as edges-made-reads
-use Rattle.graph.proofs.sound.statuses_known.Reads as statuses-known-reads
-use Rattle.graph.proofs.sound.tally_fits.Reads as tally-fits-reads
-
-tally-fits-requires : tie.Need-tally-fits-requires
-tally-fits-requires c κs = search needs
 
 returns : tie.Need-returns
 returns c = unsound-tally _ (sym (c .before .tally-fits .ensures) ∙ not-true _ (c .if1 .taken))
-
-cast-statuses-known : tie.Need-cast-statuses-known
-cast-statuses-known c = search needs
 
 statuses-known-requires : tie.Need-statuses-known-requires
 statuses-known-requires c κs = omega (arith, fits-rows _ _ _ _ (sym (c .before .tally-fits .ensures) ∙ not-false _ (c .if1 .left)))
 
 returns-2 : tie.Need-returns-2
 returns-2 c = unsound-statuses _ (sym (c .before .statuses-known .ensures) ∙ not-true _ (c .if2 .taken))
-
-cast-edges-made : tie.Need-cast-edges-made
-cast-edges-made c = search needs
 
 edges-made-requires : tie.Need-edges-made-requires
 edges-made-requires c κs = omega (arith, fits-rows _ _ _ _ (sym (c .before .before .before .tally-fits .ensures) ∙ not-false _ (c .before .before .if1 .left)))
@@ -37,11 +23,11 @@ returns-3 : tie.Need-returns-3
 returns-3 c = sound-by-edges _ (sym (c .before .before .before .before .tally-fits .ensures) ∙ not-false _ (c .before .before .before .if1 .left)) (sym (c .before .before .statuses-known .ensures) ∙ not-false _ (c .before .if2 .left)) (c .edges-made .ensures)
 
 pub is-sound-spec : {M : Type 1} → statement M
-is-sound-spec = tie.close (tie.spec tally-fits-requires
+is-sound-spec = tie.close (tie.spec (λ c κs. search needs)
     returns
-    cast-statuses-known
+    (λ c. search needs)
     statuses-known-requires
     returns-2
-    cast-edges-made
+    (λ c. search needs)
     edges-made-requires
     returns-3)

@@ -4,19 +4,9 @@ use Rattle.graph.proofs.SoundChecks.{tally-fits, made-over, held-over}
 use borrow.Author.Needs.{needs}
 use Rattle.graph.proofs.sound.tally_fits.Statement.{statement}
 use Rattle.graph.proofs.sound.tally_fits.Tie as tie
-use Rattle.graph.proofs.sound.tally_fits.Reads as reads
-use Rattle.graph.proofs.sound.tally_fits.Lts as lts
-use Rattle.graph.proofs.rows.edge_rows.Reads as edge-rows-reads
-use Rattle.graph.proofs.rows.vertex_rows.Reads as vertex-rows-reads
-
-vertex-rows-requires : tie.Need-vertex-rows-requires
-vertex-rows-requires c κs = omega arith
 
 returns : tie.Need-returns
 returns c = made-over _ _ _ _ (omega arith)
-
-edge-rows-requires : tie.Need-edge-rows-requires
-edge-rows-requires c κs = omega arith
 
 returns-2 : tie.Need-returns-2
 returns-2 c = held-over _ _ _ _ (omega arith)
@@ -25,8 +15,8 @@ returns-3 : tie.Need-returns-3
 returns-3 c = tally-fits _ _ _ _ (omega arith) (omega arith)
 
 pub tally-fits-spec : {M : Type 1} → statement M
-tally-fits-spec = tie.close (tie.spec vertex-rows-requires
+tally-fits-spec = tie.close (tie.spec (λ c κs. omega arith)
     returns
-    edge-rows-requires
+    (λ c κs. omega arith)
     returns-2
     returns-3)

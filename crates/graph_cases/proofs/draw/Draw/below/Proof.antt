@@ -5,14 +5,6 @@ use Prim.Native.Nat.{_/_}
 use native.Mathlib.Nat.{mod-lt}
 use Rattle.graph_cases.proofs.draw.Draw.below.Statement.{statement}
 use Rattle.graph_cases.proofs.draw.Draw.below.Tie as tie
-use Rattle.graph_cases.proofs.draw.Draw.below.Reads as reads
-use Rattle.graph_cases.proofs.draw.Draw.below.Lts as lts
-
-returns : tie.Need-returns
-returns c = search needs
-
-rem-result : tie.Need-rem-result
-rem-result c = search needs
 
 cast-result : tie.Need-cast-result
 cast-result c = omega (arith, mod-lt (c .before .before .args .self .state / 4096) {m = c .before .before .args .limit} (omega arith))
@@ -21,7 +13,7 @@ returns-2 : tie.Need-returns-2
 returns-2 c = omega (arith, mod-lt (c .before .before .args .self .state / 4096) {m = c .before .before .args .limit} (omega arith))
 
 pub below-spec : {M : Type 1} → statement M
-below-spec = tie.close (tie.spec returns
-    rem-result
+below-spec = tie.close (tie.spec (λ c. search needs)
+    (λ c. search needs)
     cast-result
     returns-2)
