@@ -5,6 +5,7 @@ use mathlib.Core.List.{List}
 use Rattle.graph.specs.declared.Answer.{Answer}
 use Rattle.graph.specs.declared.Answer.the-variants.{Opened, Start, New, Edge, Release, Transfer, Stop, Refused}
 use Rattle.graph.specs.declared.Done.{Done}
+use Rattle.graph.specs.declared.Tally.{Tally}
 use Rattle.graph.specs.Tables.{Lent, lent}
 
 -- "Refusals by who causes them". The lender:
@@ -94,9 +95,13 @@ pub record Outcome : Type 0 where
   pub answer : Said
   pub after : Lent
 
--- the outcome that the code gives: its result, and the tables at exit
+-- the outcome that the code gives: its answer, and the tables and the tally at exit
+abbrev pub answered : Answer → List ℕ → List ℕ → Tally → Outcome
+answered a v e t = record { answer = said a; after = lent v e t }
+
+-- the same of a core, which returns the tally with its answer
 abbrev pub outcome : Done → List ℕ → List ℕ → Outcome
-outcome r v e = record { answer = said (r .answer); after = lent v e (r .tally) }
+outcome r v e = answered (r .answer) v e (r .tally)
 
 -- The first refusal of a chain of tests, 0 where none is due: n where the test fails, else what the later tests give.
 unfoldable pub unless : Bool → ℕ → ℕ → ℕ

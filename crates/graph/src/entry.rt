@@ -6,11 +6,11 @@ use crate::commands::command_by_value;
 use crate::commands::open_by_value;
 ghost use mathlib.Core.Path.{_≡_};
 ghost use Rattle.graph.specs.Tables.{lent};
-ghost use Rattle.graph.specs.Answers.{said, Outcome};
+ghost use Rattle.graph.specs.Answers.{answered};
 ghost use Rattle.graph.specs.Commands.{opening, command};
 
 pub fn open(vertices: &mut [u32], edges: &mut [u32], tally: &mut Tally) -> Answer
-    ensures { λ r. ⌜ _≡_ {A = Outcome} (record { answer = said r; after = lent (now (vertices .exit)) (now (edges .exit)) (now (tally .exit)) }) (opening (lent (now (vertices .entry)) (now (edges .entry)) (now (tally .entry)))) ⌝ }
+    ensures { λ r. ⌜ answered r (now (vertices .exit)) (now (edges .exit)) (now (tally .exit)) ≡ opening (lent (now (vertices .entry)) (now (edges .entry)) (now (tally .entry))) ⌝ }
 {
     let before = *tally;
     let done = open_by_value(vertices, edges, before);
@@ -19,7 +19,7 @@ pub fn open(vertices: &mut [u32], edges: &mut [u32], tally: &mut Tally) -> Answe
 }
 
 pub fn command(vertices: &mut [u32], edges: &mut [u32], tally: &mut Tally, given: Command) -> Answer
-    ensures { λ r. ⌜ _≡_ {A = Outcome} (record { answer = said r; after = lent (now (vertices .exit)) (now (edges .exit)) (now (tally .exit)) }) (command given (lent (now (vertices .entry)) (now (edges .entry)) (now (tally .entry)))) ⌝ }
+    ensures { λ r. ⌜ answered r (now (vertices .exit)) (now (edges .exit)) (now (tally .exit)) ≡ command given (lent (now (vertices .entry)) (now (edges .entry)) (now (tally .entry))) ⌝ }
 {
     let before = *tally;
     let done = command_by_value(vertices, edges, before, given);
