@@ -1,22 +1,25 @@
 -- A call's outcome from its refusal: the code's chain of tests against the definition's, and the two ways in which a call ends.
 use Prim.Native.Nat.{ℕ, zero, suc, _+_, _*_, _<_, _≤_}
-use mathlib.Core.Path.{_≡_, refl, sym, _∙_, ap, subst}
-use mathlib.Core.Bool.{Bool, true, false, cond}
+use mathlib.Core.Path.{_≡_, refl, sym, _∙_, ap}
+use mathlib.Core.Bool.{Bool, true, false, not, cond}
 use mathlib.Core.Logic.{⊎-elim}
 use mathlib.Core.List.{List}
 use native.Mathlib.Omega.{arith}
 use lib.ListN.{length}
-use borrow.Author.Tests.{lt-ltb, le-ltb}
+use lib.Dec.{ltb}
+use borrow.Author.Tests.{not-true, not-false, lt-ltb, le-ltb, eq-eqb, ne-eqb}
 use Rattle.graph.specs.declared.Command.{Command}
 use Rattle.graph.specs.declared.Command.the-variants.{NewTd, NewEdge, Release, Transfer, Start, Stop}
 use Rattle.graph.specs.declared.Done.{Done}
 use Rattle.graph.specs.declared.Tally.{Tally}
-use Rattle.graph.specs.Tables.{Lent, lent, usableLimit, vertexWords, edgeWords, vertexRows, edgeRows, RELEASED, FINISHED, status, setStatus, clear}
+use Rattle.graph.specs.Tables.{Lent, lent, usableLimit, vertexWords, statusWord, edgeWords, vertexRows, edgeRows, RELEASED, FINISHED, status, setStatus, clear}
 use Rattle.graph.specs.Answers.{Said, said, Outcome, outcome, unless, decided, no-vertex-rows}
 use Rattle.graph.specs.Sound.{sound}
-use Rattle.graph.specs.Commands.{openingRefusal, openedTables, newTdRefusal, newEdgeRefusal, releaseRefusal, transferRefusal, startRefusal, stopRefusal, command}
-use Rattle.graph.proofs.SoundChecks.{sound-rows}
-use Rattle.graph.proofs.TakenLaws.{taken}
+use Rattle.graph.specs.Search.{Searchable}
+use Rattle.graph.specs.Commands.{openingRefusal, openedTables, callerRefusal, newTdRefusal, newEdgeRefusal, releaseRefusal, transferRefusal, startRefusal, stopRefusal, command}
+use Rattle.graph.proofs.SoundChecks.{sound-rows, searchable}
+use Rattle.graph.proofs.TestLaws.{both-true, both-false-left, both-false-right, not-of-true, not-of-false}
+use Rattle.graph.proofs.TakenLaws.{Runs, taken, taken-caller}
 use Rattle.graph.proofs.RefusalLaws.{unless-pass, unless-stop, decided-is}
 
 due : (s : Lent) (k : ℕ) (a : Said) (s' : Lent) → (k ≡ 0 → ⊥) → _≡_ {A = Outcome} (record { answer = Said.refused k 0; after = s }) (decided s k a s')
@@ -29,7 +32,12 @@ pub refused-outcome : (r : Done) (v e : List ℕ) (t : Tally) {m n : ℕ} (a : S
 refused-outcome r v e t {m} {n} a s' p q h =
     (λ i. record { answer = h .0 i; after = lent v e (h .1 i) }) ∙ due (lent v e t) m a s' q ∙ ap (λ (k : ℕ). decided (lent v e t) k a s') p
 
--- a chain of tests, test by test
+-- an accepted one
+pub accepted-outcome : {o : Outcome} (s : Lent) {m n : ℕ} (a : Said) (s' : Lent) → m ≡ n → m ≡ 0 → o ≡ record { answer = a; after = s' } → o ≡ decided s n a s'
+accepted-outcome s {n = n} a s' p q h = h ∙ sym (decided-is s n a s' (sym p ∙ q))
+
+-- A chain of tests, test by test: one that passes hands over to the rest, one that does not answers its number. A `cond` answers
+-- where its test holds.
 pub pass : {b : Bool} (n : ℕ) {m rest : ℕ} → b ≡ true → m ≡ rest → m ≡ unless b n rest
 pass n p q = q ∙ sym (unless-pass n _ p)
 
@@ -42,16 +50,71 @@ pass-over n {rest = rest} p q = q ∙ ap (λ (x : Bool). cond x n rest) (sym p)
 pub settle : {b : Bool} (n rest : ℕ) → b ≡ true → n ≡ cond b n rest
 settle n rest p = ap (λ (x : Bool). cond x n rest) (sym p)
 
--- an accepted one
-pub accepted-outcome : {o : Outcome} (s : Lent) {m n : ℕ} (a : Said) (s' : Lent) → m ≡ n → m ≡ 0 → o ≡ record { answer = a; after = s' } → o ≡ decided s n a s'
-accepted-outcome s {n = n} a s' p q h = h ∙ sym (decided-is s n a s' (sym p ∙ q))
+-- a callee's answer, in the definition's words
+pub answered : {r b x : Bool} → r ≡ b → r ≡ x → b ≡ x
+answered p q = sym p ∙ q
 
--- what a callee found, in the definition's words
-pub at-most : {a b c : ℕ} → a ≡ b → a ≤ c → b ≤ c
-at-most {c = c} p h = subst (λ (x : ℕ). x ≤ c) p h
+pub answered-yes : {r b : Bool} → r ≡ b → not r ≡ false → b ≡ true
+answered-yes p q = sym p ∙ not-false _ q
 
-pub below : {a b c : ℕ} → a ≡ b → c < a → c < b
-below {c = c} p h = subst (λ (x : ℕ). c < x) p h
+pub answered-no : {r b : Bool} → r ≡ b → not r ≡ true → b ≡ false
+answered-no p q = sym p ∙ not-true _ q
+
+pub answered-full : {r n m : ℕ} → r ≡ n → r ≤ m → ltb m n ≡ false
+answered-full {n = n} {m = m} p h = le-ltb m n (omega arith)
+
+pub answered-free : {r n m : ℕ} → r ≡ n → m < r → ltb m n ≡ true
+answered-free {n = n} {m = m} p h = lt-ltb m n (omega arith)
+
+-- what can be read once `is_sound` has answered yes
+pub status-there : (v e : List ℕ) (t : Tally) (k : ℕ) {r : Bool} → r ≡ sound (lent v e t) → not r ≡ false → k < t .made → vertexWords * k + statusWord < length v
+status-there v e t k p q lt = omega (arith, sound-rows (lent v e t) (answered-yes p q))
+
+pub edges-there : (v e : List ℕ) (t : Tally) {r : Bool} → r ≡ sound (lent v e t) → not r ≡ false → edgeWords * t .held ≤ length e
+edges-there v e t p q = sound-rows (lent v e t) (answered-yes p q) .1 .0
+
+pub paths-there : (v e : List ℕ) (t : Tally) (a b : ℕ) {r : Bool} → r ≡ sound (lent v e t) → not r ≡ false → a < t .made → b < t .made → Searchable e (t .held) a b
+paths-there v e t a b p q = searchable (lent v e t) a b (answered-yes p q)
+
+-- the refusals that begin the chain of a caller: one of them is due, or none is and the command's own follow
+due-first : (b c d : Bool) (l n k : ℕ) (own : ℕ) → (unless b l (unless c n (unless d k 0)) ≡ 0 → ⊥) → unless b l (unless c n (unless d k 0)) ≡ unless b l (unless c n (unless d k own))
+unfolding unless
+due-first true true true l n k own h = absurd (h refl)
+due-first true true false l n k own h = refl
+due-first true false d l n k own h = refl
+due-first false c d l n k own h = refl
+
+pub caller-due : (s : Lent) (t a b : ℕ) {m : ℕ} (own : ℕ) → m ≡ callerRefusal s t a b 0 → (m ≡ 0 → ⊥) → m ≡ callerRefusal s t a b own
+unfolding callerRefusal
+caller-due s t a b own p q = p ∙ due-first _ _ _ _ _ _ own (λ z. q (p ∙ z))
+
+pub caller-free : (s : Lent) (t a b : ℕ) {m r own : ℕ} → m ≡ callerRefusal s t a b 0 → m ≡ 0 → r ≡ own → r ≡ callerRefusal s t a b own
+unfolding callerRefusal
+caller-free s t a b p q h = let k = taken-caller s t a b 0 .0 (sym p ∙ q) in pass _ (k .0 .known) (pass _ (both-true (lt-ltb _ _ (k .0 .is-made)) (both-true (lt-ltb _ _ (k .1)) (lt-ltb _ _ (k .2)))) (pass _ (eq-eqb _ _ (k .0 .executing)) h))
+
+-- what can be read once none of the refusals that begin the chain of a caller is due
+module _ (v e : List ℕ) (s : Tally) (t a b : ℕ) {m : ℕ} (p : m ≡ callerRefusal (lent v e s) t a b 0) (q : m ≡ 0) where
+  found : Runs (lent v e s) t × (a < s .made) × (b < s .made) × (_≡_ {A = ℕ} 0 0)
+  found = taken-caller (lent v e s) t a b 0 .0 (sym p ∙ q)
+
+  pub first-there : vertexWords * a + statusWord < length v
+  first-there = let k = found .1 in omega (arith, sound-rows (lent v e s) (found .0 .known))
+
+  pub second-there : vertexWords * b + statusWord < length v
+  second-there = let k = found .2 in omega (arith, sound-rows (lent v e s) (found .0 .known))
+
+  pub rows-there : edgeWords * s .held ≤ length e
+  rows-there = sound-rows (lent v e s) (found .0 .known) .1 .0
+
+  pub path-back : Searchable e (s .held) b a
+  path-back = searchable (lent v e s) b a (found .0 .known) (found .2) (found .1)
+
+  pub path-on : Searchable e (s .held) t a
+  path-on = searchable (lent v e s) t a (found .0 .known) (found .0 .is-made) (found .1)
+
+-- The code asks the definition's tests in the definition's order. So from the tests that it has passed `search chain` proves each answer
+-- of a refusal, and that what it reads next is there. Behind four tests and more it may take `depth 12`.
+pub ruleset chain = (pass, halt, pass-over, settle, both-true, both-false-left, both-false-right, not-of-true, not-of-false, lt-ltb, le-ltb, eq-eqb, ne-eqb, answered-yes, answered, answered-no, answered-full, answered-free, caller-due, caller-free, first-there, second-there, rows-there, path-back, status-there, edges-there, paths-there, refl)
 
 -- the room that an accepted command has for what it stores
 pub row-room : (s : Lent) (t : ℕ) → sound s ≡ true → t < s .made → vertexWords * t + vertexWords ≤ length (s .vertices)

@@ -13,7 +13,7 @@ use Rattle.graph.specs.Tables.{Lent, NEW, RELEASED, EXECUTING, FINISHED,
 use Rattle.graph.specs.Answers.{Said, accepted, decided}
 use Rattle.graph.specs.Sound.{sound}
 use Rattle.graph.specs.Paths.{holds, leadsInto, leadsOutOf, reaches}
-use Rattle.graph.specs.Commands.{hasStatus, withStatus, withVertex, withEdge, withMoved, stopped, newTdRefusal, newEdgeRefusal, releaseRefusal, transferRefusal, startRefusal, stopRefusal, targetReaches, newTd, newEdge, release, transfer, start, stop, command}
+use Rattle.graph.specs.Commands.{hasStatus, withStatus, withVertex, withEdge, withMoved, stopped, callerRefusal, newTdRefusal, newEdgeRefusal, releaseRefusal, transferRefusal, startRefusal, stopRefusal, targetReaches, newTd, newEdge, release, transfer, start, stop, command}
 use Rattle.graph.specs.Demand2.{RowFree}
 use Rattle.graph.proofs.TestLaws.{both-true, both-left, both-right, either-cases, either-left, either-right, either-false, either-false-left, either-false-right, not-of-false}
 use Rattle.graph.proofs.SoundLaws.{Known, sound-fits}
@@ -112,20 +112,32 @@ Taken (Transfer t t') s = Runs s t × TakenTransfer s t t'
 Taken (Start t) s = (sound s ≡ true) × (t < s .made) × (status (s .vertices) t ≡ RELEASED) × (leadsInto (s .edges) (s .held) t ≡ false)
 Taken (Stop t) s = Runs s t
 
--- each chain, taken apart into its tests and put together again
+-- each chain, taken apart into its tests and put together again; first the refusals that begin the chain of a caller
+pub taken-caller : (s : Lent) (t a b own : ℕ) → (callerRefusal s t a b own ≡ 0) ↔ (Runs s t × (a < s .made) × (b < s .made) × (own ≡ 0))
+unfolding callerRefusal
+taken-caller s t a b own = (
+  λ h.
+      let (known, h1) = unless-none _ _ _ h in
+      let (made, h2) = unless-none _ _ _ h1 in
+      let (runs, h3) = unless-none _ _ _ h2 in (
+        record { known = known; is-made = ltb-true _ _ (both-left _ _ made); executing = eqb-true _ _ runs },
+        ltb-true _ _ (both-left _ _ (both-right _ _ made)),
+        ltb-true _ _ (both-right _ _ (both-right _ _ made)),
+        h3,
+      ),
+  λ h.
+      unless-all _ (h .0 .known)
+      (unless-all _ (both-true (lt-ltb _ _ (h .0 .is-made)) (both-true (lt-ltb _ _ (h .1)) (lt-ltb _ _ (h .2))))
+      (unless-all _ (eq-eqb _ _ (h .0 .executing)) (h .3))),
+)
+
 taken-newTd : (s : Lent) (t : ℕ) → (newTdRefusal s t ≡ 0) ↔ (Runs s t × (s .made < vertexRows (s .vertices)))
 unfolding newTdRefusal
 taken-newTd s t = (
   λ h.
-      let (known, h1) = unless-none _ _ _ h in
-      let (made, h2) = unless-none _ _ _ h1 in
-      let (runs, h3) = unless-none _ _ _ h2 in
-      let (free, h4) = unless-none _ _ _ h3 in
-      (record { known = known; is-made = ltb-true _ _ made; executing = eqb-true _ _ runs }, ltb-true _ _ free),
-  λ h.
-      unless-all _ (h .0 .known)
-      (unless-all _ (lt-ltb _ _ (h .0 .is-made))
-      (unless-all _ (eq-eqb _ _ (h .0 .executing)) (unless-all _ (lt-ltb _ _ (h .1)) refl))),
+      let (runs, is-made, again, own) = taken-caller s t t t _ .0 h in
+      (runs, ltb-true _ _ (unless-none _ _ _ own .0)),
+  λ h. taken-caller s t t t _ .1 (h .0, h .0 .is-made, h .0 .is-made, unless-all _ (lt-ltb _ _ (h .1)) refl),
 )
 
 -- the last part of newEdge's chain, by whether the source is finished
@@ -144,14 +156,12 @@ taken-newEdge : (s : Lent) (t t1 t2 : ℕ) → (newEdgeRefusal s t t1 t2 ≡ 0) 
 unfolding newEdgeRefusal
 taken-newEdge s t t1 t2 = (
   λ h.
-      let (known, h1) = unless-none _ _ _ h in
-      let (made, h2) = unless-none _ _ _ h1 in
-      let (runs, h3) = unless-none _ _ _ h2 in
-      let (waits, h4) = unless-none _ _ _ h3 in (
-        record { known = known; is-made = ltb-true _ _ (both-left _ _ made); executing = eqb-true _ _ runs },
+      let (runs, source-made, target-made, own) = taken-caller s t t1 t2 _ .0 h in
+      let (waits, h4) = unless-none _ _ _ own in (
+        runs,
         record {
-          source-made = ltb-true _ _ (both-left _ _ (both-right _ _ made));
-          target-made = ltb-true _ _ (both-right _ _ (both-right _ _ made));
+          source-made = source-made;
+          target-made = target-made;
           waits = ⊎-elim (λ p. inl (eqb-true _ _ p)) (λ p. inr (eqb-true _ _ p)) (either-cases _ _ waits);
           adds =
               ⊎-elim (λ p. inl (eqb-true _ _ p))
@@ -171,62 +181,48 @@ taken-newEdge s t t1 t2 = (
         },
       ),
   λ h.
-      unless-all _ (h .0 .known)
-      (unless-all _ (both-true (lt-ltb _ _ (h .0 .is-made)) (both-true (lt-ltb _ _ (h .1 .source-made)) (lt-ltb _ _ (h .1 .target-made))))
-      (unless-all _ (eq-eqb _ _ (h .0 .executing))
-      (unless-all _
-      (⊎-elim (λ p. either-left _ (eq-eqb _ _ p)) (λ p. either-right _ (eq-eqb _ _ p)) (h .1 .waits))
-      (⊎-elim (λ p. cond-left _ (eq-eqb _ _ p))
-      (λ p.
-      cond-right (hasStatus s t1 FINISHED)
-      (unless-all _ (not-of-false (p .not-held))
-      (unless-all _ (not-of-false (either-false (ne-eqb _ _ (p .not-same)) (p .no-path)))
-      (unless-all _ (lt-ltb _ _ (p .row-free)) refl))))
-      (h .1 .adds))))),
+      taken-caller s t t1 t2 _ .1 (
+        h .0,
+        h .1 .source-made,
+        h .1 .target-made,
+        unless-all _
+            (⊎-elim (λ p. either-left _ (eq-eqb _ _ p)) (λ p. either-right _ (eq-eqb _ _ p)) (h .1 .waits))
+            (⊎-elim (λ p. cond-left _ (eq-eqb _ _ p))
+            (λ p.
+            cond-right (hasStatus s t1 FINISHED)
+            (unless-all _ (not-of-false (p .not-held))
+            (unless-all _ (not-of-false (either-false (ne-eqb _ _ (p .not-same)) (p .no-path)))
+            (unless-all _ (lt-ltb _ _ (p .row-free)) refl))))
+            (h .1 .adds)),
+      ),
 )
 
 taken-release : (s : Lent) (t t' : ℕ) → (releaseRefusal s t t' ≡ 0) ↔ (Runs s t × (t' < s .made) × (status (s .vertices) t' ≡ NEW))
 unfolding releaseRefusal
 taken-release s t t' = (
   λ h.
-      let (known, h1) = unless-none _ _ _ h in
-      let (made, h2) = unless-none _ _ _ h1 in
-      let (runs, h3) = unless-none _ _ _ h2 in
-      let (new, h4) = unless-none _ _ _ h3 in (
-        record { known = known; is-made = ltb-true _ _ (both-left _ _ made); executing = eqb-true _ _ runs },
-        ltb-true _ _ (both-right _ _ made),
-        eqb-true _ _ new,
-      ),
-  λ h.
-      unless-all _ (h .0 .known)
-      (unless-all _ (both-true (lt-ltb _ _ (h .0 .is-made)) (lt-ltb _ _ (h .1)))
-      (unless-all _ (eq-eqb _ _ (h .0 .executing)) (unless-all _ (eq-eqb _ _ (h .2)) refl))),
+      let (runs, is-made, again, own) = taken-caller s t t' t' _ .0 h in
+      (runs, is-made, eqb-true _ _ (unless-none _ _ _ own .0)),
+  λ h. taken-caller s t t' t' _ .1 (h .0, h .1, h .1, unless-all _ (eq-eqb _ _ (h .2)) refl),
 )
 
 taken-transfer : (s : Lent) (t t' : ℕ) → (transferRefusal s t t' ≡ 0) ↔ (Runs s t × TakenTransfer s t t')
 unfolding transferRefusal
 taken-transfer s t t' = (
   λ h.
-      let (known, h1) = unless-none _ _ _ h in
-      let (made, h2) = unless-none _ _ _ h1 in
-      let (runs, h3) = unless-none _ _ _ h2 in
-      let (new, h4) = unless-none _ _ _ h3 in
+      let (runs, is-made, again, own) = taken-caller s t t' t' _ .0 h in
+      let (new, h4) = unless-none _ _ _ own in
       let (out, h5) = unless-none _ _ _ h4 in
-      let (path, h6) = unless-none _ _ _ h5 in (
-        record { known = known; is-made = ltb-true _ _ (both-left _ _ made); executing = eqb-true _ _ runs },
-        record {
-          is-made = ltb-true _ _ (both-right _ _ made);
-          is-new = eqb-true _ _ new;
-          no-edge-out = not-true _ out;
-          no-path = not-true _ path;
-        },
-      ),
+      let (path, h6) = unless-none _ _ _ h5 in
+      (runs, record { is-made = is-made; is-new = eqb-true _ _ new; no-edge-out = not-true _ out; no-path = not-true _ path }),
   λ h.
-      unless-all _ (h .0 .known)
-      (unless-all _ (both-true (lt-ltb _ _ (h .0 .is-made)) (lt-ltb _ _ (h .1 .is-made)))
-      (unless-all _ (eq-eqb _ _ (h .0 .executing))
-      (unless-all _ (eq-eqb _ _ (h .1 .is-new))
-      (unless-all _ (not-of-false (h .1 .no-edge-out)) (unless-all _ (not-of-false (h .1 .no-path)) refl))))),
+      taken-caller s t t' t' _ .1 (
+        h .0,
+        h .1 .is-made,
+        h .1 .is-made,
+        unless-all _ (eq-eqb _ _ (h .1 .is-new))
+            (unless-all _ (not-of-false (h .1 .no-edge-out)) (unless-all _ (not-of-false (h .1 .no-path)) refl)),
+      ),
 )
 
 -- a known status that is none of the three others
@@ -259,14 +255,7 @@ taken-start s t = (
 
 taken-stop : (s : Lent) (t : ℕ) → (stopRefusal s t ≡ 0) ↔ Runs s t
 unfolding stopRefusal
-taken-stop s t = (
-  λ h.
-      let (known, h1) = unless-none _ _ _ h in
-      let (made, h2) = unless-none _ _ _ h1 in
-      let (runs, h3) = unless-none _ _ _ h2 in
-      record { known = known; is-made = ltb-true _ _ made; executing = eqb-true _ _ runs },
-  λ h. unless-all _ (h .known) (unless-all _ (lt-ltb _ _ (h .is-made)) (unless-all _ (eq-eqb _ _ (h .executing)) refl)),
-)
+taken-stop s t = (λ h. taken-caller s t t t 0 .0 h .0, λ h. taken-caller s t t t 0 .1 (h, h .is-made, h .is-made, refl))
 
 pub taken : (c : Command) (s : Lent) → (refusal c s ≡ 0) ↔ Taken c s
 taken (NewTd t place scope) s = taken-newTd s t

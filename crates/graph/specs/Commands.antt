@@ -39,13 +39,17 @@ openedTables s =
 unfoldable pub opening : Lent → Outcome
 opening s = decided s (openingRefusal s) Said.opened (openedTables s)
 
+-- "The caller t must be executing, except in start." "Commands: 12, 20, then .. 30": of a command of t that names a and b
+-- besides; its own refusals follow.
+unfoldable pub callerRefusal : Lent → ℕ → ℕ → ℕ → ℕ → ℕ
+callerRefusal s t a b own =
+    unless (sound s) unsound-tables
+    (unless (both (isMade s t) (both (isMade s a) (isMade s b))) no-such-vertex
+    (unless (hasStatus s t EXECUTING) caller-not-executing own))
+
 -- "newTd makes the next vertex, new, with the place and scope handed in and its other words 0."
 unfoldable pub newTdRefusal : Lent → ℕ → ℕ
-newTdRefusal s t =
-    unless (sound s) unsound-tables
-    (unless (isMade s t) no-such-vertex
-    (unless (hasStatus s t EXECUTING) caller-not-executing
-    (unless (ltb (s .made) (vertexRows (s .vertices))) no-vertex-row 0)))
+newTdRefusal s t = callerRefusal s t t t (unless (ltb (s .made) (vertexRows (s .vertices))) no-vertex-row 0)
 
 unfoldable pub newRow : List ℕ → ℕ → ℕ → ℕ → List ℕ
 newRow v k place scope =
@@ -72,14 +76,12 @@ newTd s t place scope = decided s (newTdRefusal s t) (Said.new (s .made)) (withV
 -- already, and is appended." "Cycle for newEdge: t1 is t2 or t2 reaches t1."
 unfoldable pub newEdgeRefusal : Lent → ℕ → ℕ → ℕ → ℕ
 newEdgeRefusal s t t1 t2 =
-    unless (sound s) unsound-tables
-    (unless (both (isMade s t) (both (isMade s t1) (isMade s t2))) no-such-vertex
-    (unless (hasStatus s t EXECUTING) caller-not-executing
+    callerRefusal s t t1 t2
     (unless (either (hasStatus s t2 NEW) (hasStatus s t2 RELEASED)) target-not-waiting
     (cond (hasStatus s t1 FINISHED) 0
     (unless (not (holds (s .edges) (s .held) t1 t2)) edge-held
     (unless (not (either (eqb t1 t2) (reaches (s .edges) (s .held) t2 t1))) closes-cycle
-    (unless (ltb (s .held) (edgeRows (s .edges))) no-edge-row 0)))))))
+    (unless (ltb (s .held) (edgeRows (s .edges))) no-edge-row 0)))))
 
 unfoldable pub appended : List ℕ → ℕ → ℕ → ℕ → List ℕ
 appended e n t1 t2 = setEdgeWord (setEdgeWord e n sourceWord t1) n targetWord t2
@@ -100,10 +102,7 @@ newEdge s t t1 t2 =
 
 -- "release turns a new vertex released."
 unfoldable pub releaseRefusal : Lent → ℕ → ℕ → ℕ
-releaseRefusal s t t' =
-    unless (sound s) unsound-tables
-    (unless (both (isMade s t) (isMade s t')) no-such-vertex
-    (unless (hasStatus s t EXECUTING) caller-not-executing (unless (hasStatus s t' NEW) release-not-new 0)))
+releaseRefusal s t t' = callerRefusal s t t' t' (unless (hasStatus s t' NEW) release-not-new 0)
 
 unfoldable pub release : Lent → ℕ → ℕ → Outcome
 release s t t' = decided s (releaseRefusal s t t') (Said.release t') (withStatus s t' RELEASED)
@@ -116,12 +115,10 @@ targetReaches e n t t' =
 -- "transfer to t': t' is new with no edge out; each edge out of t gets t' as its source, in its row."
 unfoldable pub transferRefusal : Lent → ℕ → ℕ → ℕ
 transferRefusal s t t' =
-    unless (sound s) unsound-tables
-    (unless (both (isMade s t) (isMade s t')) no-such-vertex
-    (unless (hasStatus s t EXECUTING) caller-not-executing
+    callerRefusal s t t' t'
     (unless (hasStatus s t' NEW) transfer-not-new
     (unless (not (leadsOutOf (s .edges) (s .held) t')) transfer-has-edge-out
-    (unless (not (targetReaches (s .edges) (s .held) t t')) closes-cycle 0)))))
+    (unless (not (targetReaches (s .edges) (s .held) t t')) closes-cycle 0)))
 
 -- row i, with t' as its source where that was t
 unfoldable pub movedRow : ℕ → ℕ → List ℕ → ℕ → List ℕ
@@ -159,9 +156,7 @@ start s t = decided s (startRefusal s t) Said.start (withStatus s t EXECUTING)
 
 -- "stop finishes t and drops its edges out."
 unfoldable pub stopRefusal : Lent → ℕ → ℕ
-stopRefusal s t =
-    unless (sound s) unsound-tables
-    (unless (isMade s t) no-such-vertex (unless (hasStatus s t EXECUTING) caller-not-executing 0))
+stopRefusal s t = callerRefusal s t t t 0
 
 -- how many of the first n rows have another source than t, and their words, in order
 unfoldable pub keptRows : ℕ → List ℕ → ℕ → ℕ

@@ -21,7 +21,7 @@ ghost use Rattle.graph.specs.Tests.{either};
 ghost use Rattle.graph.specs.Tables.{lent, NEW, RELEASED};
 ghost use Rattle.graph.specs.Paths.{reaches};
 ghost use Rattle.graph.specs.Search.{Searchable};
-ghost use Rattle.graph.specs.Commands.{newTdRefusal, newEdgeRefusal, releaseRefusal, transferRefusal, startRefusal, stopRefusal};
+ghost use Rattle.graph.specs.Commands.{callerRefusal, newTdRefusal, newEdgeRefusal, releaseRefusal, transferRefusal, startRefusal, stopRefusal};
 
 // No refusal is due.
 pub const ACCEPTED: u32 = 0;
@@ -61,8 +61,9 @@ pub const TRANSFER_NOT_NEW: u32 = 37;
 
 pub const TRANSFER_HAS_EDGE_OUT: u32 = 38;
 
-pub fn new_td_refusal(vertices: &[u32], edges: &[u32], tally: Tally, caller: u32) -> u32
-    ensures { λ r. ⌜ r ≡ newTdRefusal (lent (now (vertices .entry)) (now (edges .entry)) tally) caller ⌝ }
+// 12, 20 and 30 of a command of `caller` that names `a` and `b` besides.
+fn caller_refusal(vertices: &[u32], edges: &[u32], tally: Tally, caller: u32, a: u32, b: u32) -> u32
+    ensures { λ r. ⌜ r ≡ callerRefusal (lent (now (vertices .entry)) (now (edges .entry)) tally) caller a b 0 ⌝ }
 {
     let made = tally.made;
     if !is_sound(vertices, edges, tally) {
@@ -71,10 +72,26 @@ pub fn new_td_refusal(vertices: &[u32], edges: &[u32], tally: Tally, caller: u32
     if made <= caller {
         return NO_SUCH_VERTEX;
     }
+    if made <= a {
+        return NO_SUCH_VERTEX;
+    }
+    if made <= b {
+        return NO_SUCH_VERTEX;
+    }
     if vertices[VERTEX_WORDS * (caller as usize) + STATUS] != EXECUTING {
         return CALLER_NOT_EXECUTING;
     }
-    if vertex_rows(vertices) <= made as usize {
+    ACCEPTED
+}
+
+pub fn new_td_refusal(vertices: &[u32], edges: &[u32], tally: Tally, caller: u32) -> u32
+    ensures { λ r. ⌜ r ≡ newTdRefusal (lent (now (vertices .entry)) (now (edges .entry)) tally) caller ⌝ }
+{
+    let first = caller_refusal(vertices, edges, tally, caller, caller, caller);
+    if first != ACCEPTED {
+        return first;
+    }
+    if vertex_rows(vertices) <= tally.made as usize {
         return NO_VERTEX_ROW;
     }
     ACCEPTED
@@ -111,22 +128,10 @@ pub fn new_edge_refusal(
 ) -> u32
     ensures { λ r. ⌜ r ≡ newEdgeRefusal (lent (now (vertices .entry)) (now (edges .entry)) tally) caller source target ⌝ }
 {
-    let made = tally.made;
-    let held = tally.held;
-    if !is_sound(vertices, edges, tally) {
-        return UNSOUND_TABLES;
-    }
-    if made <= caller {
-        return NO_SUCH_VERTEX;
-    }
-    if made <= source {
-        return NO_SUCH_VERTEX;
-    }
-    if made <= target {
-        return NO_SUCH_VERTEX;
-    }
-    if vertices[VERTEX_WORDS * (caller as usize) + STATUS] != EXECUTING {
-        return CALLER_NOT_EXECUTING;
+    let held = tally.held as usize;
+    let first = caller_refusal(vertices, edges, tally, caller, source, target);
+    if first != ACCEPTED {
+        return first;
     }
     if !waits(vertices[VERTEX_WORDS * (target as usize) + STATUS]) {
         return TARGET_NOT_WAITING;
@@ -134,13 +139,13 @@ pub fn new_edge_refusal(
     if vertices[VERTEX_WORDS * (source as usize) + STATUS] == FINISHED {
         return ACCEPTED;
     }
-    if is_held(edges, held as usize, source, target) {
+    if is_held(edges, held, source, target) {
         return EDGE_HELD;
     }
-    if closes_cycle(edges, held as usize, source, target) {
+    if closes_cycle(edges, held, source, target) {
         return CLOSES_CYCLE;
     }
-    if edge_rows(edges) <= held as usize {
+    if edge_rows(edges) <= held {
         return NO_EDGE_ROW;
     }
     ACCEPTED
@@ -155,18 +160,9 @@ pub fn release_refusal(
 ) -> u32
     ensures { λ r. ⌜ r ≡ releaseRefusal (lent (now (vertices .entry)) (now (edges .entry)) tally) caller vertex ⌝ }
 {
-    let made = tally.made;
-    if !is_sound(vertices, edges, tally) {
-        return UNSOUND_TABLES;
-    }
-    if made <= caller {
-        return NO_SUCH_VERTEX;
-    }
-    if made <= vertex {
-        return NO_SUCH_VERTEX;
-    }
-    if vertices[VERTEX_WORDS * (caller as usize) + STATUS] != EXECUTING {
-        return CALLER_NOT_EXECUTING;
+    let first = caller_refusal(vertices, edges, tally, caller, vertex, vertex);
+    if first != ACCEPTED {
+        return first;
     }
     if vertices[VERTEX_WORDS * (vertex as usize) + STATUS] != NEW {
         return RELEASE_NOT_NEW;
@@ -183,27 +179,18 @@ pub fn transfer_refusal(
 ) -> u32
     ensures { λ r. ⌜ r ≡ transferRefusal (lent (now (vertices .entry)) (now (edges .entry)) tally) caller vertex ⌝ }
 {
-    let made = tally.made;
-    let held = tally.held;
-    if !is_sound(vertices, edges, tally) {
-        return UNSOUND_TABLES;
-    }
-    if made <= caller {
-        return NO_SUCH_VERTEX;
-    }
-    if made <= vertex {
-        return NO_SUCH_VERTEX;
-    }
-    if vertices[VERTEX_WORDS * (caller as usize) + STATUS] != EXECUTING {
-        return CALLER_NOT_EXECUTING;
+    let held = tally.held as usize;
+    let first = caller_refusal(vertices, edges, tally, caller, vertex, vertex);
+    if first != ACCEPTED {
+        return first;
     }
     if vertices[VERTEX_WORDS * (vertex as usize) + STATUS] != NEW {
         return TRANSFER_NOT_NEW;
     }
-    if leads(edges, held as usize, SOURCE, vertex) {
+    if leads(edges, held, SOURCE, vertex) {
         return TRANSFER_HAS_EDGE_OUT;
     }
-    if reaches(edges, held as usize, caller, vertex) {
+    if reaches(edges, held, caller, vertex) {
         return CLOSES_CYCLE;
     }
     ACCEPTED
@@ -213,23 +200,23 @@ pub fn start_refusal(vertices: &[u32], edges: &[u32], tally: Tally, vertex: u32)
     ensures { λ r. ⌜ r ≡ startRefusal (lent (now (vertices .entry)) (now (edges .entry)) tally) vertex ⌝ }
 {
     let made = tally.made;
-    let held = tally.held;
     if !is_sound(vertices, edges, tally) {
         return UNSOUND_TABLES;
     }
     if made <= vertex {
         return NO_SUCH_VERTEX;
     }
-    if vertices[VERTEX_WORDS * (vertex as usize) + STATUS] == NEW {
+    let status = vertices[VERTEX_WORDS * (vertex as usize) + STATUS];
+    if status == NEW {
         return VERTEX_NEW;
     }
-    if vertices[VERTEX_WORDS * (vertex as usize) + STATUS] == EXECUTING {
+    if status == EXECUTING {
         return VERTEX_EXECUTING;
     }
-    if vertices[VERTEX_WORDS * (vertex as usize) + STATUS] == FINISHED {
+    if status == FINISHED {
         return VERTEX_FINISHED;
     }
-    if leads(edges, held as usize, TARGET, vertex) {
+    if leads(edges, tally.held as usize, TARGET, vertex) {
         return EDGE_LEADS_IN;
     }
     ACCEPTED
@@ -238,15 +225,5 @@ pub fn start_refusal(vertices: &[u32], edges: &[u32], tally: Tally, vertex: u32)
 pub fn stop_refusal(vertices: &[u32], edges: &[u32], tally: Tally, caller: u32) -> u32
     ensures { λ r. ⌜ r ≡ stopRefusal (lent (now (vertices .entry)) (now (edges .entry)) tally) caller ⌝ }
 {
-    let made = tally.made;
-    if !is_sound(vertices, edges, tally) {
-        return UNSOUND_TABLES;
-    }
-    if made <= caller {
-        return NO_SUCH_VERTEX;
-    }
-    if vertices[VERTEX_WORDS * (caller as usize) + STATUS] != EXECUTING {
-        return CALLER_NOT_EXECUTING;
-    }
-    ACCEPTED
+    caller_refusal(vertices, edges, tally, caller, caller, caller)
 }
