@@ -44,10 +44,6 @@ isFinished (some s) = eqb s FINISHED
 abbrev pub put : (ℕ → Option ℕ) → ℕ → Option ℕ → ℕ → Option ℕ
 put status t s x = cond (eqb x t) s (status x)
 
--- {(t, t')}
-abbrev pub only : ℕ → ℕ → ℕ → ℕ → Bool
-only t t' a b = both (eqb a t) (eqb b t')
-
 -- x ∈ dom(V)
 abbrev pub inDomain : Graph → ℕ → Bool
 inDomain G x = isSome (G .status x)

@@ -7,19 +7,19 @@ pub struct Draw {
     pub state: u64,
 }
 
-pub fn begin(seed: u32) -> Draw {
+pub(crate) fn begin(seed: u32) -> Draw {
     Draw { state: seed as u64 }
 }
 
 impl Draw {
-    pub fn next(self) -> Draw {
+    pub(crate) fn next(self) -> Draw {
         Draw {
             state: (self.state % 2147483648 * 1103515245 + 12345) % 2147483648,
         }
     }
 
     // A number below `limit`, or 0 where that is 0.
-    pub fn below(self, limit: u32) -> u32
+    pub(crate) fn below(self, limit: u32) -> u32
         ensures { λ r. ⌜ r ≤ limit ⌝ }
     {
         if limit == 0 {
@@ -39,7 +39,7 @@ fn word(d: Draw, low: u32) -> u32
     d.next().below(4) + low
 }
 
-pub fn words(table: &mut [u32], d: Draw, low: u32) -> Draw
+pub(crate) fn words(table: &mut [u32], d: Draw, low: u32) -> Draw
     requires { ⌜ low ≤ 1 ⌝ }
 {
     let mut now = d.next();
@@ -51,21 +51,21 @@ pub fn words(table: &mut [u32], d: Draw, low: u32) -> Draw
 }
 
 // Vertex 0 is mostly executing.
-pub fn mostly_executing(vertices: &mut [u32], seed: u32) {
+pub(crate) fn mostly_executing(vertices: &mut [u32], seed: u32) {
     if seed % 4 != 0 && 0 < vertices.len() {
         vertices[0] = 3;
     }
 }
 
 // Mostly all of them.
-pub fn length(d: Draw, most: usize, limit: u32) -> usize
+pub(crate) fn length(d: Draw, most: usize, limit: u32) -> usize
     ensures { λ r. ⌜ r ≤ most ⌝ }
 {
     let n = d.below(limit) as usize;
     if n < most { n } else { most }
 }
 
-pub fn tally(d: Draw) -> Tally {
+pub(crate) fn tally(d: Draw) -> Tally {
     let made = d.next().below(7);
     Tally {
         made: if made < 4 { 4 } else { made - 1 },
@@ -75,7 +75,7 @@ pub fn tally(d: Draw) -> Tally {
 }
 
 // The caller is mostly vertex 0, and the others mostly vertices of the first four.
-pub fn command(d: Draw) -> Command {
+pub(crate) fn command(d: Draw) -> Command {
     let kind = d.next().below(12);
     let c = d.next().next().below(9);
     let v = d.next().next().next().below(17);
@@ -109,7 +109,7 @@ pub fn command(d: Draw) -> Command {
 }
 
 // The edges 1 → 2, 2 → 3, .. in as many rows as there are.
-pub fn path(edges: &mut [u32]) {
+pub(crate) fn path(edges: &mut [u32]) {
     for i in 0..edges.len() {
         edges[i] = ((i / 2 + i % 2 + 1) % 1024) as u32;
     }

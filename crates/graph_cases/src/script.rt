@@ -1,10 +1,11 @@
-// Lists of calls, four numbers each: which call, and its numbers.
+// Lists of calls. A call is written in decimal, as 3_0000_0001_0002: which call, and then its numbers, four digits each, the caller or
+// the vertex to be started first.
 use crate::show;
 use graph::Command;
 use graph::Tally;
 use graph::commands::command_by_value;
 use graph::commands::open_by_value;
-ghost use lib.ListN.{length};
+ghost use Prim.Native.Nat.{_<_};
 
 const OPEN: u32 = 0;
 
@@ -17,257 +18,92 @@ const EDGE: u32 = 3;
 const RELEASE: u32 = 4;
 
 const TRANSFER: u32 = 5;
-
-const STOP: u32 = 6;
-// no call: the tally is altered
+// 6 is stop; 7 is no call: the tally is altered
 const TALLY: u32 = 7;
 
 // Document 01: "start 0, new 1, new 2, edge 1 2; then edge 2 1 and edge 1 1 give 35; edge 1 2 gives 34; edge 0 1 is taken;
 // transfer to 1 gives 38, to 2 gives 35."
-pub const BARE: [u32; 48] = [
-    TALLY,
-    9,
-    9,
-    9,
-    OPEN,
-    0,
-    0,
-    0,
-    START,
-    0,
-    0,
-    0,
-    NEW,
-    0,
-    5,
-    0,
-    NEW,
-    0,
-    6,
-    1,
-    EDGE,
-    0,
-    1,
-    2,
-    EDGE,
-    0,
-    2,
-    1,
-    EDGE,
-    0,
-    1,
-    1,
-    EDGE,
-    0,
-    1,
-    2,
-    EDGE,
-    0,
-    0,
-    1,
-    TRANSFER,
-    0,
-    1,
-    0,
-    TRANSFER,
-    0,
-    2,
-    0,
+pub(crate) const BARE: [u64; 12] = [
+    7_0009_0009_0009,
+    0_0000_0000_0000,
+    1_0000_0000_0000,
+    2_0000_0005_0000,
+    2_0000_0006_0001,
+    3_0000_0001_0002,
+    3_0000_0002_0001,
+    3_0000_0001_0001,
+    3_0000_0001_0002,
+    3_0000_0000_0001,
+    5_0000_0001_0000,
+    5_0000_0002_0000,
 ];
 
 // Four vertex rows and three edge rows: "no edge row" with none free, and no longer once a stop has freed some.
-pub const FULL: [u32; 92] = [
-    OPEN,
-    0,
-    0,
-    0,
-    START,
-    0,
-    0,
-    0,
-    NEW,
-    0,
-    1,
-    0,
-    NEW,
-    0,
-    2,
-    0,
-    NEW,
-    0,
-    3,
-    0,
-    NEW,
-    0,
-    4,
-    0,
-    EDGE,
-    0,
-    1,
-    3,
-    EDGE,
-    0,
-    2,
-    3,
-    EDGE,
-    0,
-    1,
-    2,
-    EDGE,
-    0,
-    0,
-    1,
-    RELEASE,
-    0,
-    1,
-    0,
-    RELEASE,
-    0,
-    1,
-    0,
-    START,
-    1,
-    0,
-    0,
-    START,
-    1,
-    0,
-    0,
-    START,
-    2,
-    0,
-    0,
-    STOP,
-    1,
-    0,
-    0,
-    STOP,
-    1,
-    0,
-    0,
-    START,
-    1,
-    0,
-    0,
-    EDGE,
-    0,
-    1,
-    3,
-    EDGE,
-    0,
-    0,
-    3,
-    EDGE,
-    0,
-    0,
-    2,
-    EDGE,
-    0,
-    3,
-    2,
-    STOP,
-    0,
-    0,
-    0,
+pub(crate) const FULL: [u64; 23] = [
+    0_0000_0000_0000,
+    1_0000_0000_0000,
+    2_0000_0001_0000,
+    2_0000_0002_0000,
+    2_0000_0003_0000,
+    2_0000_0004_0000,
+    3_0000_0001_0003,
+    3_0000_0002_0003,
+    3_0000_0001_0002,
+    3_0000_0000_0001,
+    4_0000_0001_0000,
+    4_0000_0001_0000,
+    1_0001_0000_0000,
+    1_0001_0000_0000,
+    1_0002_0000_0000,
+    6_0001_0000_0000,
+    6_0001_0000_0000,
+    1_0001_0000_0000,
+    3_0000_0001_0003,
+    3_0000_0000_0003,
+    3_0000_0000_0002,
+    3_0000_0003_0002,
+    6_0000_0000_0000,
 ];
 
 // Tables that are shorter than a row.
-pub const SHORT: [u32; 16] = [
-    OPEN,
-    0,
-    0,
-    0,
-    START,
-    0,
-    0,
-    0,
-    TALLY,
-    1,
-    0,
-    0,
-    START,
-    0,
-    0,
-    0,
+pub(crate) const SHORT: [u64; 4] = [
+    0_0000_0000_0000,
+    1_0000_0000_0000,
+    7_0001_0000_0000,
+    1_0000_0000_0000,
 ];
 
 // Tables of more than 1,024 rows: the rows past them are not used and not touched.
-pub const LONG: [u32; 40] = [
-    TALLY,
-    1023,
-    1024,
-    7,
-    NEW,
-    0,
-    8,
-    9,
-    EDGE,
-    0,
-    0,
-    2,
-    NEW,
-    0,
-    8,
-    9,
-    STOP,
-    0,
-    0,
-    0,
-    TALLY,
-    1025,
-    0,
-    0,
-    START,
-    0,
-    0,
-    0,
-    TALLY,
-    3,
-    1025,
-    0,
-    START,
-    0,
-    0,
-    0,
-    OPEN,
-    0,
-    0,
-    0,
+pub(crate) const LONG: [u64; 10] = [
+    7_1023_1024_0007,
+    2_0000_0008_0009,
+    3_0000_0000_0002,
+    2_0000_0008_0009,
+    6_0000_0000_0000,
+    7_1025_0000_0000,
+    1_0000_0000_0000,
+    7_0003_1025_0000,
+    1_0000_0000_0000,
+    0_0000_0000_0000,
 ];
 
 // The ends of a path of 1,022 edges.
-pub const PATH: [u32; 28] = [
-    TALLY,
-    1024,
-    1022,
-    0,
-    EDGE,
-    0,
-    1023,
-    1,
-    EDGE,
-    0,
-    1,
-    1023,
-    EDGE,
-    0,
-    0,
-    1,
-    EDGE,
-    0,
-    1,
-    1023,
-    TRANSFER,
-    0,
-    1023,
-    0,
-    TRANSFER,
-    0,
-    1024,
-    0,
+pub(crate) const PATH: [u64; 7] = [
+    7_1024_1022_0000,
+    3_0000_1023_0001,
+    3_0000_0001_1023,
+    3_0000_0000_0001,
+    3_0000_0001_1023,
+    5_0000_1023_0000,
+    5_0000_1024_0000,
 ];
 
-pub fn call(vertices: &mut [u32], edges: &mut [u32], tally: Tally, command: Command) -> Tally {
+pub(crate) fn call(
+    vertices: &mut [u32],
+    edges: &mut [u32],
+    tally: Tally,
+    command: Command,
+) -> Tally {
     let done = command_by_value(vertices, edges, tally, command);
     show::done(done, vertices, edges);
     done.tally
@@ -320,17 +156,25 @@ fn one(
     call(vertices, edges, tally, command(kind, a, b, c))
 }
 
-pub fn run(vertices: &mut [u32], edges: &mut [u32], tally: Tally, calls: &[u32]) {
+// The number that four digits of a call are, counted from the last four.
+fn digits(call: u64, place: u64) -> u32
+    requires { ⌜ 0 < place ⌝ }
+{
+    (call / place % 10000) as u32
+}
+
+pub(crate) fn run(vertices: &mut [u32], edges: &mut [u32], tally: Tally, calls: &[u64]) {
     let mut now = tally;
-    for i in 0..calls.len() / 4 {
+    for i in 0..calls.len() {
+        let c = calls[i];
         now = one(
             vertices,
             edges,
             now,
-            calls[4 * i],
-            calls[4 * i + 1],
-            calls[4 * i + 2],
-            calls[4 * i + 3],
+            digits(c, 1000000000000),
+            digits(c, 100000000),
+            digits(c, 10000),
+            digits(c, 1),
         );
     }
 }

@@ -3,7 +3,7 @@ use graph::Answer;
 use graph::Done;
 use libc::STDOUT_FILENO;
 
-pub fn text(bytes: &[u8]) {
+pub(crate) fn text(bytes: &[u8]) {
     io::write_all(STDOUT_FILENO, bytes);
 }
 
@@ -40,7 +40,7 @@ fn sum(table: &[u32]) -> u32 {
     total as u32
 }
 
-pub fn done(d: Done, vertices: &[u32], edges: &[u32]) {
+pub(crate) fn done(d: Done, vertices: &[u32], edges: &[u32]) {
     let a = d.answer;
     let t = d.tally;
     answer(a);
