@@ -32,6 +32,7 @@ ghost use Rattle.graph.specs.Tables.{lent};
 ghost use Rattle.graph.specs.Answers.{Said, said, outcome};
 ghost use Rattle.graph.specs.Commands.{opening, newTd, newEdge, release, transfer, start, stop, command};
 
+// A refused call: the tally is as it was.
 fn refused(number: u32, tally: Tally) -> Done
     ensures { λ r. ⌜ (said (r .answer) ≡ Said.refused number 0) × (r .tally ≡ tally) ⌝ }
 {
@@ -63,6 +64,7 @@ pub fn open_by_value(vertices: &mut [u32], edges: &mut [u32], tally: Tally) -> D
     }
 }
 
+// Makes the next vertex, new, with the place and scope handed in and its other words 0.
 pub fn new_td(
     vertices: &mut [u32],
     edges: &[u32],
@@ -89,6 +91,7 @@ pub fn new_td(
     }
 }
 
+// Adds the edge from `source` to `target`; a finished source adds nothing and is accepted.
 pub fn new_edge(
     vertices: &[u32],
     edges: &mut [u32],
@@ -121,6 +124,7 @@ pub fn new_edge(
     }
 }
 
+// Turns a new vertex released.
 pub fn release(vertices: &mut [u32], edges: &[u32], tally: Tally, caller: u32, vertex: u32) -> Done
     ensures { λ r. ⌜ outcome r (now (vertices .exit)) (now (edges .entry)) ≡ release (lent (now (vertices .entry)) (now (edges .entry)) tally) caller vertex ⌝ }
 {
@@ -135,6 +139,7 @@ pub fn release(vertices: &mut [u32], edges: &[u32], tally: Tally, caller: u32, v
     }
 }
 
+// Gives each edge out of `caller` the source `vertex`, which is new and has no edge out.
 pub fn transfer(vertices: &[u32], edges: &mut [u32], tally: Tally, caller: u32, vertex: u32) -> Done
     ensures { λ r. ⌜ outcome r (now (vertices .entry)) (now (edges .exit)) ≡ transfer (lent (now (vertices .entry)) (now (edges .entry)) tally) caller vertex ⌝ }
 {
@@ -149,6 +154,7 @@ pub fn transfer(vertices: &[u32], edges: &mut [u32], tally: Tally, caller: u32, 
     }
 }
 
+// Turns a released vertex with no edge into it executing.
 pub fn start(vertices: &mut [u32], edges: &[u32], tally: Tally, vertex: u32) -> Done
     ensures { λ r. ⌜ outcome r (now (vertices .exit)) (now (edges .entry)) ≡ start (lent (now (vertices .entry)) (now (edges .entry)) tally) vertex ⌝ }
 {
@@ -163,6 +169,7 @@ pub fn start(vertices: &mut [u32], edges: &[u32], tally: Tally, vertex: u32) -> 
     }
 }
 
+// Finishes `caller` and drops its edges out.
 pub fn stop(vertices: &mut [u32], edges: &mut [u32], tally: Tally, caller: u32) -> Done
     ensures { λ r. ⌜ outcome r (now (vertices .exit)) (now (edges .exit)) ≡ stop (lent (now (vertices .entry)) (now (edges .entry)) tally) caller ⌝ }
 {

@@ -87,6 +87,7 @@ fn search_back(
     }
 }
 
+// A path of one or more of the first `held` edges leads from `from` to `to`.
 pub(crate) fn reaches(edges: &[u32], held: usize, from: u32, to: u32) -> bool
     requires { ⌜ Searchable (now edges) held from to ⌝ }
     ensures { λ r. ⌜ r ≡ reaches (now (edges .entry)) held from to ⌝ }

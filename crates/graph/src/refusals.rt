@@ -84,6 +84,7 @@ fn caller_refusal(vertices: &[u32], edges: &[u32], tally: Tally, caller: u32, a:
     ACCEPTED
 }
 
+// newTd: 12, 20, 30, 31.
 pub fn new_td_refusal(vertices: &[u32], edges: &[u32], tally: Tally, caller: u32) -> u32
     ensures { λ r. ⌜ r ≡ newTdRefusal (lent (now (vertices .entry)) (now (edges .entry)) tally) caller ⌝ }
 {
@@ -118,6 +119,7 @@ fn closes_cycle(edges: &[u32], held: usize, source: u32, target: u32) -> bool
     reaches(edges, held, target, source)
 }
 
+// newEdge: 12, 20, 30, 33, then nothing for a finished source, 34, 35, 32.
 pub fn new_edge_refusal(
     vertices: &[u32],
     edges: &[u32],
@@ -151,6 +153,7 @@ pub fn new_edge_refusal(
     ACCEPTED
 }
 
+// release: 12, 20, 30, 36.
 pub fn release_refusal(
     vertices: &[u32],
     edges: &[u32],
@@ -170,6 +173,7 @@ pub fn release_refusal(
     ACCEPTED
 }
 
+// transfer: 12, 20, 30, 37, 38, 35.
 pub fn transfer_refusal(
     vertices: &[u32],
     edges: &[u32],
@@ -196,6 +200,7 @@ pub fn transfer_refusal(
     ACCEPTED
 }
 
+// start: 12, 20, 22, 39, 23, 21.
 pub fn start_refusal(vertices: &[u32], edges: &[u32], tally: Tally, vertex: u32) -> u32
     ensures { λ r. ⌜ r ≡ startRefusal (lent (now (vertices .entry)) (now (edges .entry)) tally) vertex ⌝ }
 {
@@ -222,6 +227,7 @@ pub fn start_refusal(vertices: &[u32], edges: &[u32], tally: Tally, vertex: u32)
     ACCEPTED
 }
 
+// stop: 12, 20, 30.
 pub fn stop_refusal(vertices: &[u32], edges: &[u32], tally: Tally, caller: u32) -> u32
     ensures { λ r. ⌜ r ≡ stopRefusal (lent (now (vertices .entry)) (now (edges .entry)) tally) caller ⌝ }
 {

@@ -63,6 +63,7 @@ pub(crate) fn edges_made(edges: &[u32], made: u32, held: usize) -> bool
     true
 }
 
+// Refusal 12 is due where this is false.
 pub fn is_sound(vertices: &[u32], edges: &[u32], tally: Tally) -> bool
     ensures { λ r. ⌜ r ≡ sound (lent (now (vertices .entry)) (now (edges .entry)) tally) ⌝ }
 {
