@@ -73,9 +73,6 @@ status-there v e t k p q lt = omega (arith, sound-rows (lent v e t) (answered-ye
 pub edges-there : (v e : List ℕ) (t : Tally) {r : Bool} → r ≡ sound (lent v e t) → not r ≡ false → edgeWords * t .held ≤ length e
 edges-there v e t p q = sound-rows (lent v e t) (answered-yes p q) .1 .0
 
-pub paths-there : (v e : List ℕ) (t : Tally) (a b : ℕ) {r : Bool} → r ≡ sound (lent v e t) → not r ≡ false → a < t .made → b < t .made → Searchable e (t .held) a b
-paths-there v e t a b p q = searchable (lent v e t) a b (answered-yes p q)
-
 -- the refusals that begin the chain of a caller: one of them is due, or none is and the command's own follow
 due-first : (b c d : Bool) (l n k : ℕ) (own : ℕ) → (unless b l (unless c n (unless d k 0)) ≡ 0 → ⊥) → unless b l (unless c n (unless d k 0)) ≡ unless b l (unless c n (unless d k own))
 unfolding unless
@@ -114,7 +111,7 @@ module _ (v e : List ℕ) (s : Tally) (t a b : ℕ) {m : ℕ} (p : m ≡ callerR
 
 -- The code asks the definition's tests in the definition's order. So from the tests that it has passed `search chain` proves each answer
 -- of a refusal, and that what it reads next is there. Behind four tests and more it may take `depth 12`.
-pub ruleset chain = (pass, halt, pass-over, settle, both-true, both-false-left, both-false-right, not-of-true, not-of-false, lt-ltb, le-ltb, eq-eqb, ne-eqb, answered-yes, answered, answered-no, answered-full, answered-free, caller-due, caller-free, first-there, second-there, rows-there, path-back, status-there, edges-there, paths-there, refl)
+pub ruleset chain = (pass, halt, pass-over, settle, both-true, both-false-left, both-false-right, not-of-true, not-of-false, lt-ltb, le-ltb, eq-eqb, ne-eqb, answered-yes, answered, answered-no, answered-full, answered-free, caller-due, caller-free, first-there, second-there, rows-there, path-back, status-there, edges-there, refl)
 
 -- the room that an accepted command has for what it stores
 pub row-room : (s : Lent) (t : ℕ) → sound s ≡ true → t < s .made → vertexWords * t + vertexWords ≤ length (s .vertices)

@@ -4,7 +4,7 @@ use mathlib.Core.Path.{_≡_, refl, sym, _∙_, ap}
 use mathlib.Core.List.{List, _∷_, _++_, append-assoc}
 use native.Mathlib.Omega.{arith}
 use native.Mathlib.Numerals.{add-one}
-use lib.ListN.{length, getD, take, drop, set, replicate, length-set, length-append, length-replicate, take-append-drop}
+use lib.ListN.{length, getD, take, drop, set, replicate, length-append, length-replicate, take-append-drop}
 use lib.Seq.{drop-cons, set-at, length-take-le}
 use Rattle.graph.specs.Tables.{clear}
 use Rattle.graph.proofs.TestLaws.{at-end}

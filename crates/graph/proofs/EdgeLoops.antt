@@ -1,15 +1,13 @@
 -- What a loop over the held edges has done after each row: looked for an edge, moved sources, gathered the rows that a stop keeps.
-use Prim.Native.Nat.{ℕ, zero, suc, _+_, _-_, _*_, _<_, _≤_}
+use Prim.Native.Nat.{ℕ, suc, _+_, _-_, _*_, _<_, _≤_}
 use mathlib.Core.Path.{_≡_, refl, sym, _∙_, ap, subst}
-use mathlib.Core.Bool.{Bool, true, false, cond}
-use mathlib.Core.List.{List, [], _∷_, _++_, append-nil, append-assoc}
+use mathlib.Core.Bool.{true, false}
+use mathlib.Core.List.{List, [], _∷_, _++_, append-assoc}
 use native.Mathlib.Numerals.{add-one}
 use native.Mathlib.Omega.{arith}
-use lib.ListN.{length, getD, take, drop, set, replicate, length-set, length-append, length-replicate}
-use lib.Seq.{take-suc-set, drop-set-lt, take-set-le, drop-drop, getD-drop, drop-cons, set-at, length-take-le}
-use lib.Dec.{eqb}
+use lib.ListN.{length, getD, take, drop, set, replicate, length-set}
+use lib.Seq.{take-suc-set, drop-set-lt, drop-drop, getD-drop}
 use borrow.Author.Tests.{eq-eqb, ne-eqb}
-use Rattle.graph.specs.Tests.{any, both}
 use Rattle.graph.specs.Tables.{usableLimit, edgeWords, sourceWord, targetWord, source, target, setEdgeWord, clear}
 use Rattle.graph.specs.Paths.{holds}
 use Rattle.graph.specs.Commands.{movedRow, moved, kept, keptRows, withoutEdgesOf}

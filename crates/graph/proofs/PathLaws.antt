@@ -2,17 +2,17 @@
 -- it, or it gets from a to s and from t to b without it. That gives the test `reaches` its theorem, and tells when an added edge
 -- closes a cycle.
 use Prim.Native.Nat.{ℕ, zero, suc, _<_}
-use mathlib.Core.Path.{_≡_, refl, sym, _∙_, ap, subst}
-use mathlib.Core.Bool.{Bool, true, false}
+use mathlib.Core.Path.{_≡_, refl, sym, subst}
+use mathlib.Core.Bool.{Bool, true}
 use mathlib.Core.Logic.{_⊎_, inl, inr, ⊎-elim, _↔_}
 use mathlib.Core.List.{List}
 use native.Mathlib.Omega.{arith}
 use lib.Dec.{eqb}
 use borrow.Author.Tests.{eq-eqb, eqb-true}
-use Rattle.graph.specs.Tests.{both, either, any}
+use Rattle.graph.specs.Tests.{either, any}
 use Rattle.graph.specs.Tables.{source, target}
 use Rattle.graph.specs.Paths.{Leads, one, more, holds, reaches}
-use Rattle.graph.proofs.TestLaws.{true-false, both-true, both-left, both-right, either-left, either-right, either-cases, any-found, any-at, below-suc, same}
+use Rattle.graph.proofs.TestLaws.{true-false, both-true, both-left, both-right, either-left, either-right, either-cases, any-found, any-at, same}
 
 pub join : {E : ℕ → ℕ → Bool} {a b c : ℕ} → Leads E a b → Leads E b c → Leads E a c
 join (one e) q = more e q
@@ -34,10 +34,6 @@ go-on e (inr p) = more e p
 pub arrive : {E : ℕ → ℕ → Bool} {a b c : ℕ} → Stays E a b → Leads E b c → Leads E a c
 arrive {E} {c = c} (inl q) p = subst (λ (x : ℕ). Leads E x c) (sym q) p
 arrive (inr q) p = join q p
-
-pub set-out : {E : ℕ → ℕ → Bool} {a b c : ℕ} → Leads E a b → Stays E b c → Leads E a c
-set-out {E} {a} p (inl q) = subst (λ (x : ℕ). Leads E a x) q p
-set-out p (inr q) = join p q
 
 -- F has the edges of E and the one from s to t besides
 pub cut : {E F : ℕ → ℕ → Bool} {s t : ℕ} → ((a b : ℕ) → F a b ≡ true → (E a b ≡ true) ⊎ ((a ≡ s) × (b ≡ t))) → {a b : ℕ} → Leads F a b → Leads E a b ⊎ (Stays E a s × Stays E t b)

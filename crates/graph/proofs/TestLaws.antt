@@ -7,7 +7,7 @@ use native.Mathlib.Nat.{eq-or-lt-of-le, le-of-suc-le-suc}
 use native.Mathlib.Numerals.{add-one}
 use native.Mathlib.Omega.{arith}
 use lib.Dec.{eqb}
-use borrow.Author.Tests.{eq-eqb, eqb-true, eqb-false, ne-eqb}
+use borrow.Author.Tests.{eq-eqb, eqb-true, eqb-false}
 use Rattle.graph.specs.Tests.{both, either, every, any}
 
 pub true-false : {A : Type 0} {b : Bool} → b ≡ true → b ≡ false → A
@@ -26,10 +26,6 @@ pub not-so : (b : Bool) → (b ≡ true → ⊥) → b ≡ false
 not-so true f = absurd (f refl)
 not-so false f = refl
 
-pub not-not-so : (b : Bool) → (b ≡ false → ⊥) → b ≡ true
-not-not-so true f = refl
-not-not-so false f = absurd (f refl)
-
 -- two tests that hold together are equal
 pub same : (a b : Bool) → (a ≡ true → b ≡ true) → (b ≡ true → a ≡ true) → a ≡ b
 same true b f g = sym (f refl)
@@ -41,9 +37,6 @@ not-of-false p = subst (λ (x : Bool). not x ≡ true) (sym p) refl
 
 pub not-of-true : {b : Bool} → b ≡ true → not b ≡ false
 not-of-true p = subst (λ (x : Bool). not x ≡ false) (sym p) refl
-
-pub eqb-sym : (a b : ℕ) → eqb a b ≡ eqb b a
-eqb-sym a b = same (eqb a b) (eqb b a) (λ p. eq-eqb b a (sym (eqb-true a b p))) (λ p. eq-eqb a b (sym (eqb-true b a p)))
 
 pub equal? : (a b : ℕ) → (a ≡ b) ⊎ (a ≡ b → ⊥)
 equal? a b = ⊎-elim (λ p. inl (eqb-true a b p)) (λ p. inr (eqb-false a b p)) (decide (eqb a b))
@@ -70,11 +63,6 @@ pub both-false-right : (a : Bool) {b : Bool} → b ≡ false → both a b ≡ fa
 unfolding both
 both-false-right true p = p
 both-false-right false p = refl
-
-pub both-false : (a b : Bool) → both a b ≡ false → a ≡ true → b ≡ false
-unfolding both
-both-false true b p q = p
-both-false false b p q = true-false q refl
 
 pub either-left : {a : Bool} (b : Bool) → a ≡ true → either a b ≡ true
 unfolding either
@@ -167,9 +155,6 @@ any-at p (suc n) i lt q =
 
 pub any-none : (p : ℕ → Bool) (n : ℕ) → ((i : ℕ) → i < n → p i ≡ false) → any p n ≡ false
 any-none p n h = not-so (any p n) (λ q. let (i, lt, r) = any-found p n q in true-false r (h i lt))
-
-pub any-none-at : (p : ℕ → Bool) (n : ℕ) → any p n ≡ false → (i : ℕ) → i < n → p i ≡ false
-any-none-at p n h i lt = not-so (p i) (λ q. true-false (any-at p n i lt q) h)
 
 pub any-empty : (p : ℕ → Bool) → any p 0 ≡ false
 unfolding any

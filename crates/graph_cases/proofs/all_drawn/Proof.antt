@@ -1,7 +1,6 @@
 -- The seeds stay below their end.
 use Prim.Native.Nat.{_-_, _≤_}
 use borrow.Author.Needs.{needs}
-use native.Mathlib.Omega.{arith}
 use Rattle.graph_cases.proofs.all_drawn.Statement.{statement}
 use Rattle.graph_cases.proofs.all_drawn.Tie as tie
 

@@ -1,6 +1,5 @@
 -- A refusal that is due ends the call with everything as it was; with none due, what is stored is what the definition leaves.
 use borrow.Author.Needs.{needs}
-use native.Mathlib.Omega.{arith}
 use mathlib.Core.Path.{refl, sym, _∙_}
 use Rattle.graph.specs.Commands.{release}
 use Rattle.graph.proofs.CallLaws.{refused-outcome, accepted-outcome, release-room}

@@ -1,6 +1,5 @@
 -- Gathering keeps the other edges, and clearing the freed rows makes the table that a stop leaves.
 use borrow.Author.Needs.{needs}
-use native.Mathlib.Omega.{arith}
 use mathlib.Core.Path.{_∙_}
 use Rattle.graph.proofs.EdgeLoops.{gathered-cleared}
 use Rattle.graph.proofs.edges.drop_edges.Statement.{statement}

@@ -1,3 +1,4 @@
+-- The edge to itself first, then the path back.
 use borrow.Author.Needs.{needs}
 use mathlib.Core.Path.{sym, _∙_}
 use borrow.Author.Tests.{eq-eqb, ne-eqb}

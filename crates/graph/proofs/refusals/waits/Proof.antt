@@ -1,11 +1,9 @@
-use borrow.Author.Needs.{needs}
-use mathlib.Core.Path.{sym, _∙_}
+-- New or released, tested in that order.
+use mathlib.Core.Path.{sym}
 use borrow.Author.Tests.{eq-eqb, ne-eqb}
 use Rattle.graph.proofs.TestLaws.{either-left, either-skip}
 use Rattle.graph.proofs.refusals.waits.Statement.{statement}
 use Rattle.graph.proofs.refusals.waits.Tie as tie
-use Rattle.graph.proofs.refusals.waits.Reads as reads
-use Rattle.graph.proofs.refusals.waits.Lts as lts
 
 returns : tie.Need-returns
 returns c = sym (either-left _ (eq-eqb _ _ (c .if1 .taken)))

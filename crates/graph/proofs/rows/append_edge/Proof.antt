@@ -1,8 +1,8 @@
+-- Two stores make the row.
 use native.Mathlib.Omega.{arith}
 use mathlib.Core.Path.{refl}
 use lib.ListN.{length-set}
 use Rattle.graph.specs.Commands.{appended}
-use borrow.Author.Needs.{needs}
 use Rattle.graph.proofs.rows.append_edge.Statement.{statement}
 use Rattle.graph.proofs.rows.append_edge.Tie as tie
 

@@ -1,7 +1,6 @@
 -- Each test tells one half of `tallyFits`.
 use native.Mathlib.Omega.{arith}
 use Rattle.graph.proofs.SoundChecks.{tally-fits, made-over, held-over}
-use borrow.Author.Needs.{needs}
 use Rattle.graph.proofs.sound.tally_fits.Statement.{statement}
 use Rattle.graph.proofs.sound.tally_fits.Tie as tie
 

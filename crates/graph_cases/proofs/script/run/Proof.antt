@@ -3,7 +3,6 @@ use Prim.Native.Nat.{_-_, _≤_}
 use mathlib.Core.Path.{_≡_}
 use lib.ListN.{length}
 use borrow.Author.Needs.{needs}
-use native.Mathlib.Omega.{arith}
 use Rattle.graph_cases.proofs.script.run.Statement.{statement}
 use Rattle.graph_cases.proofs.script.run.Tie as tie
 
