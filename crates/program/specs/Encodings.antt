@@ -1,0 +1,132 @@
+-- 002's encodings: what each item does, as a table of commands. What is counted of a program, its vertices, edge rows and
+-- steps, is counted from the table.
+use Prim.Native.Nat.{ℕ, _+_, _*_}
+use mathlib.Core.List.{List, [], _∷_}
+use Rattle.program.specs.Trees.{Kind, jobs, asyncs, finishes, forks, Body, total, Counts}
+
+-- the vertices that an item's command names: the scope of the vertex that does it, and the first, second and third that this item made
+pub data Name : Type 0 where
+  own-scope : Name
+  made-1 : Name
+  made-2 : Name
+  made-3 : Name
+
+-- the places that an item names: the start of its first and of its second body, past the item, and the program's last byte
+pub data Spot : Type 0 where
+  first-body : Spot
+  second-body : Spot
+  past-item : Spot
+  last-byte : Spot
+
+pub data Command : Type 0 where
+  -- the job's one step, "that names the job"
+  perform : Command
+  -- a new vertex with a place and a scope
+  newTd : Spot → Name → Command
+  newEdge : Name → Name → Command
+  transfer : Name → Command
+  release : Name → Command
+
+-- an item's commands in their order, and where its vertex goes with the last of them
+pub record Row : Type 0 where
+  pub commands : List Command
+  pub next : Spot
+
+abbrev pub Edition : Type 0
+Edition = Kind → Row
+
+-- "Loading and stepping". A finish makes t2 first and t1 second, a fork t1, t2 and t.
+unfoldable pub firstEdition : Edition
+-- "job: one step that names the job; then past the item"
+firstEdition jobs = record { commands = perform ∷ []; next = past-item }
+-- "async: newTd t' (its body, own scope); newEdge t' to own scope; release t'; then past the item"
+firstEdition asyncs =
+    record {
+      commands = newTd first-body own-scope ∷ newEdge made-1 own-scope ∷ release made-1 ∷ [];
+      next = past-item;
+    }
+-- "finish: newTd t2 (past the item, own scope); newTd t1 (its body, scope t2); newEdge t1 to t2; transfer to t2; release t2;
+-- release t1; then the last byte"
+firstEdition finishes =
+    record {
+      commands =
+          newTd past-item own-scope
+          ∷ newTd first-body made-1
+          ∷ newEdge made-2 made-1
+          ∷ transfer made-1
+          ∷ release made-1
+          ∷ release made-2
+          ∷ [];
+      next = last-byte;
+    }
+-- "fork: newTd t1 (left), t2 (right), t (past the item), all with own scope; newEdge t1 to t; newEdge t2 to t; transfer to t;
+-- release t, t1, t2; then the last byte"
+firstEdition forks =
+    record {
+      commands =
+          newTd first-body own-scope
+          ∷ newTd second-body own-scope
+          ∷ newTd past-item own-scope
+          ∷ newEdge made-1 made-3
+          ∷ newEdge made-2 made-3
+          ∷ transfer made-3
+          ∷ release made-3
+          ∷ release made-1
+          ∷ release made-2
+          ∷ [];
+      next = last-byte;
+    }
+
+-- the sum over commands of what each weighs
+unfoldable pub weight : (Command → ℕ) → List Command → ℕ
+weight ω [] = 0
+weight ω (c ∷ cs) = ω c + weight ω cs
+
+-- 1 for a command that makes a vertex
+unfoldable pub makes : Command → ℕ
+makes perform = 0
+makes (newTd p s) = 1
+makes (newEdge a b) = 0
+makes (transfer v) = 0
+makes (release v) = 0
+
+-- 1 for a command that adds an edge
+unfoldable pub links : Command → ℕ
+links perform = 0
+links (newTd p s) = 0
+links (newEdge a b) = 1
+links (transfer v) = 0
+links (release v) = 0
+
+-- 1 for every command
+unfoldable pub does : Command → ℕ
+does c = 1
+
+-- what a program's items weigh together
+unfoldable pub itemsWeight : Edition → (Command → ℕ) → Body → ℕ
+itemsWeight e ω b = total (λ k. weight ω (e k .commands)) b
+
+-- "Vertices made in all": the two that loading sets, and those of the items
+unfoldable pub vertices : Edition → Body → ℕ
+vertices e b = 2 + itemsWeight e makes b
+
+-- "Edge rows needed": the one that loading sets, and those of the items
+unfoldable pub edgeRows : Edition → Body → ℕ
+edgeRows e b = 1 + itemsWeight e links b
+
+-- the number of steps: each vertex starts and stops once, and each command of an item is a step
+unfoldable pub steps : Edition → Body → ℕ
+steps e b = 2 * vertices e b + itemsWeight e does b
+
+-- Document 01's formulas; proofs/Formulas.antt shows that they are what the first edition's table comes to.
+-- "V = 2 + a + 2f + 3k"
+abbrev pub vertexFormula : Counts → ℕ
+vertexFormula c = 2 + c .a + 2 * c .f + 3 * c .k
+
+-- "Edge rows needed: 1 + a + f + 2k."
+abbrev pub edgeRowFormula : Counts → ℕ
+edgeRowFormula c = 1 + c .a + c .f + 2 * c .k
+
+-- demand 3's count, 4 + w + 5a + 10f + 15k
+abbrev pub stepFormula : Counts → ℕ
+stepFormula c = 4 + c .w + 5 * c .a + 10 * c .f + 15 * c .k

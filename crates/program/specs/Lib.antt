@@ -1,0 +1,20 @@
+-- What a reader must believe of the crate `program`, in document 01's order:
+--     Limits      the limits on programs
+--     Trees       programs as trees, and the items that they count
+--     Bytes       the bytes of a number and of a program
+--     Encodings   what each item does, as a table of commands, and what is counted from it
+--     Reader      the reader: the tree that bytes stand for, or the first refusal with its place
+--     Located     a tree laid out from an offset on, and what stands at a place
+--     Answers     what the reader's two entry points answer
+--     Claims      the words in which the reader's theorems are stated
+-- Nobody has to believe this one, which the contracts of private functions cite:
+--     Progress    a reading under way
+pub mod Limits
+pub mod Trees
+pub mod Bytes
+pub mod Encodings
+pub mod Reader
+pub mod Located
+pub mod Answers
+pub mod Claims
+pub mod Progress

@@ -1,0 +1,80 @@
+-- A tree laid out from an offset on, and what stands at a place.
+use Prim.Native.Nat.{ℕ, suc, _+_}
+use mathlib.Core.Bool.{Bool, true, false}
+use mathlib.Core.List.{List}
+use mathlib.Core.Option.{Option, none, some}
+use lib.Dec.{eqb}
+use Rattle.program.specs.Trees.{Body, end, job, async, finish, fork}
+use Rattle.program.specs.Bytes.{numberSize, size}
+use Rattle.program.specs.Reader.{Reading, program, refusal, reading}
+use Rattle.program.specs.Answers.{Stands, nothing-starts}
+
+-- A body with the byte offset of each of its items and of its end byte. It is also the code that a vertex has left: what stands
+-- from its place to the end byte of the body that the place is in.
+pub data Code : Type 0 where
+  end-at : ℕ → Code
+  job-at : ℕ → ℕ → Code → Code
+  async-at : ℕ → Code → Code → Code
+  finish-at : ℕ → Code → Code → Code
+  fork-at : ℕ → Code → Code → Code → Code
+
+unfoldable pub locate : ℕ → Body → Code
+locate o end = end-at o
+locate o (job n r) = job-at o n (locate (suc (o + numberSize n)) r)
+locate o (async b r) = async-at o (locate (suc o) b) (locate (suc (o + size b)) r)
+locate o (finish b r) = finish-at o (locate (suc o) b) (locate (suc (o + size b)) r)
+locate o (fork b c r) =
+    fork-at o (locate (suc o) b) (locate (suc (o + size b)) c) (locate (suc (o + size b + size c)) r)
+
+-- where code starts
+unfoldable pub place : Code → ℕ
+place (end-at o) = o
+place (job-at o n r) = o
+place (async-at o b r) = o
+place (finish-at o b r) = o
+place (fork-at o b c r) = o
+
+-- the offset of its end byte
+unfoldable pub last : Code → ℕ
+last (end-at o) = o
+last (job-at o n r) = last r
+last (async-at o b r) = last r
+last (finish-at o b r) = last r
+last (fork-at o b c r) = last r
+
+unfoldable pub here : Bool → Code → Option Code → Option Code
+here true c others = some c
+here false c others = others
+
+unfoldable pub orElse : Option Code → Option Code → Option Code
+orElse none other = other
+orElse (some c) other = some c
+
+-- the code that starts at a place, if an item or an end byte starts there
+unfoldable pub codeAt : Code → ℕ → Option Code
+codeAt (end-at o) p = here (eqb p o) (end-at o) none
+codeAt (job-at o n r) p = here (eqb p o) (job-at o n r) (codeAt r p)
+codeAt (async-at o b r) p = here (eqb p o) (async-at o b r) (orElse (codeAt b p) (codeAt r p))
+codeAt (finish-at o b r) p = here (eqb p o) (finish-at o b r) (orElse (codeAt b p) (codeAt r p))
+codeAt (fork-at o b c r) p = here (eqb p o) (fork-at o b c r) (orElse (codeAt b p) (orElse (codeAt c p) (codeAt r p)))
+
+-- what stands where code starts
+unfoldable pub head : Code → Stands
+head (end-at o) = Stands.end
+head (job-at o n r) = Stands.job n (place r)
+head (async-at o b r) = Stands.async (place b) (place r)
+head (finish-at o b r) = Stands.finish (place b) (place r)
+head (fork-at o b c r) = Stands.fork (place b) (place c) (place r)
+
+unfoldable pub found : Option Code → Stands
+found none = Stands.refused nothing-starts 0
+found (some c) = head c
+
+unfoldable pub standsIn : Reading → ℕ → Stands
+standsIn (program b) p = found (codeAt (locate 0 b) p)
+standsIn (refusal n q) p = Stands.refused nothing-starts 0
+
+-- What stands at a place "in the reading of the whole program from its first byte". "13 .. bytes that loading refuses by 1 to 8, a
+-- place where no item or end byte starts"
+unfoldable pub itemAt : List ℕ → ℕ → Stands
+itemAt bytes p = standsIn (reading bytes) p

@@ -1,0 +1,118 @@
+-- A reading under way. Nobody has to believe this file: contracts of private functions cite it.
+use Prim.Native.Nat.{ℕ, zero, suc, _+_, _-_, _≤_}
+use mathlib.Core.Path.{_≡_}
+use mathlib.Core.Bool.{Bool, true, false, cond}
+use mathlib.Core.List.{List, [], _∷_, _++_}
+use lib.Dec.{eqb, ltb, leb}
+use lib.ListN.{length, getD}
+use Rattle.program.specs.declared.Reader.{Reader}
+use Rattle.program.specs.declared.Advanced.{Advanced}
+use Rattle.program.specs.declared.Advanced.the-variants as of-reader
+use Rattle.program.specs.declared.NumberRead.{NumberRead}
+use Rattle.program.specs.declared.NumberRead.the-variants as of-number
+use Rattle.program.specs.Limits.{jobLimit, programBytes, vertexLimit}
+use Rattle.program.specs.Trees.{Counts, counts, Body, end, Item, ahead}
+use Rattle.program.specs.Bytes.{jobByte, asyncByte, finishByte, forkByte, topBit, encodeNumber, numberSize, encode, size}
+use Rattle.program.specs.Reader.{Read, took, refused, number-malformed, bytes-after-end, job-too-large, too-many-vertices}
+use Rattle.program.specs.Answers.{Said, loads, itemCounts, Stands}
+use Rattle.program.specs.Located.{locate, head}
+use Rattle.program.specs.Encodings.{vertexFormula}
+use Rattle.program.specs.Claims.{Fits}
+
+unfoldable pub plus : Counts → Counts → Counts
+plus c d = record { w = c .w + d .w; a = c .a + d .a; f = c .f + d .f; k = c .k + d .k }
+
+-- what a reader has come to: its place and the items that it has seen, or a refusal's number and place
+pub data Progress : Type 0 where
+  past : ℕ → Counts → Progress
+  stopped : ℕ → ℕ → Progress
+
+abbrev pub reached : Advanced → Progress
+reached (of-reader.Past r) = past (r .place) (itemCounts (r .seen))
+reached (of-reader.Refused r) = stopped (r .number) (r .place)
+
+-- the same of the definition, where the bytes end at the offset `len` and `seen` was counted before
+unfoldable pub progress : {A : Type 0} → (A → Counts) → ℕ → Counts → Read A → Progress
+progress count len seen (took x rest) = past (len - length rest) (plus seen (count x))
+progress count len seen (refused n left) = stopped n (len - length left)
+
+-- the items of an item, itself and those that it holds
+unfoldable pub countsOf : Item → Counts
+countsOf i = counts (ahead i end)
+
+-- a number, the place behind it and what was counted, or a refusal's number and place
+pub data NumberProgress : Type 0 where
+  value : ℕ → ℕ → Counts → NumberProgress
+  stopped : ℕ → ℕ → NumberProgress
+
+abbrev pub reachedNumber : NumberRead → NumberProgress
+reachedNumber (of-number.Number n r) = value n (r .place) (itemCounts (r .seen))
+reachedNumber (of-number.Refused r) = NumberProgress.stopped (r .number) (r .place)
+
+unfoldable pub numberProgress : ℕ → Counts → Read ℕ → NumberProgress
+numberProgress len seen (took n rest) = value n (len - length rest) seen
+numberProgress len seen (refused n left) = NumberProgress.stopped n (len - length left)
+
+-- what a number at a place comes to that has this value, and this last group behind so many others
+unfoldable pub ended : ℕ → Counts → ℕ → ℕ → ℕ → NumberProgress
+ended place seen n lastGroup others =
+    cond (cond (eqb others 0) true (ltb 0 lastGroup))
+    (cond (leb n jobLimit) (value n (place + (others + 1)) seen) (NumberProgress.stopped job-too-large place))
+    (NumberProgress.stopped number-malformed place)
+
+-- one item, of the kind that starts with this byte
+unfoldable pub oneOf : ℕ → Counts
+oneOf first =
+    record {
+      w = cond (eqb first jobByte) 1 0;
+      a = cond (eqb first asyncByte) 1 0;
+      f = cond (eqb first finishByte) 1 0;
+      k = cond (eqb first forkByte) 1 0;
+    }
+
+-- no more than a program can have
+pub record Few (c : Counts) : Type 0 where
+  pub w-few : c .w ≤ programBytes
+  pub a-few : c .a ≤ programBytes
+  pub f-few : c .f ≤ programBytes
+  pub k-few : c .k ≤ programBytes
+
+-- what a program of this length comes to whose main body ends at this place and has these items
+unfoldable pub finished : ℕ → ℕ → Counts → Said
+finished len place c =
+    cond (ltb place len) (Said.refused bytes-after-end place)
+    (cond (leb (vertexFormula c) vertexLimit) (loads c) (Said.refused too-many-vertices 0))
+
+-- A reader at the start of these bytes: they end within a program's limit, and no more items were counted than bytes were read.
+pub record Ready (r : Reader) (left : List ℕ) : Type 0 where
+  pub within : r .place + length left ≤ programBytes
+  pub jobs : r .seen .jobs ≤ r .place
+  pub asyncs : r .seen .asyncs ≤ r .place
+  pub finishes : r .seen .finishes ≤ r .place
+  pub forks : r .seen .forks ≤ r .place
+
+-- these bytes begin with a body's
+pub data Holds (xs : List ℕ) : Type 0 where
+  holds : (b : Body) → Fits b → (rest : List ℕ) → xs ≡ encode b ++ rest → Holds xs
+
+-- r is the number of bytes of the body that these bytes begin with
+abbrev pub Sized : List ℕ → ℕ → Type 0
+Sized xs r = (b : Body) (rest : List ℕ) → Fits b → xs ≡ encode b ++ rest → r ≡ size b
+
+-- s is what stands at a place, where these bytes start: what the body begins with that they begin with
+abbrev pub Shows : List ℕ → ℕ → Stands → Type 0
+Shows xs p s = (b : Body) (rest : List ℕ) → Fits b → xs ≡ encode b ++ rest → s ≡ head (locate p b)
+
+-- s is the job whose number stands at a place, where these bytes start
+abbrev pub ShowsJob : List ℕ → ℕ → Stands → Type 0
+ShowsJob xs p s = (n : ℕ) (rest : List ℕ) → n ≤ jobLimit → xs ≡ encodeNumber n ++ rest → s ≡ Stands.job n (p + numberSize n)
+
+-- how many bytes a number has, from its first on: up to the first whose top bit is clear
+unfoldable pub numberEnd : List ℕ → ℕ
+numberEnd [] = 0
+numberEnd (b ∷ left) = cond (ltb b topBit) 1 (suc (numberEnd left))
+
+-- the byte at i stands inside a number, behind a job's first byte or behind a byte of the number with its top bit set
+unfoldable pub inNumber : List ℕ → ℕ → Bool
+inNumber xs zero = false
+inNumber xs (suc i) = cond (inNumber xs i) (leb topBit (getD xs i 0)) (eqb (getD xs i 0) jobByte)

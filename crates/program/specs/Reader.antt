@@ -1,0 +1,136 @@
+-- The reader: the tree that a program's bytes stand for, or the first refusal with its place.
+use Prim.Native.Nat.{ℕ, zero, suc, _+_, _-_, _*_}
+use mathlib.Core.Bool.{Bool, true, false, cond}
+use mathlib.Core.List.{List, [], _∷_}
+use mathlib.Core.Option.{Option, none, some}
+use lib.Dec.{eqb, ltb, leb}
+use lib.ListN.{length}
+use Rattle.program.specs.Limits.{numberBytes, jobLimit, levelLimit, programBytes, vertexLimit}
+use Rattle.program.specs.Trees.{Kind, jobs, asyncs, finishes, forks, Body, end, Item, a-job, an-async, a-finish, a-fork, ahead}
+use Rattle.program.specs.Bytes.{endByte, topBit}
+use Rattle.program.specs.Encodings.{firstEdition, vertices}
+
+-- "Refusals by who causes them. The program's writer:"
+abbrev pub length-outside : ℕ
+length-outside = 1
+
+abbrev pub number-malformed : ℕ
+number-malformed = 2
+
+abbrev pub byte-unknown : ℕ
+byte-unknown = 3
+
+abbrev pub level-too-deep : ℕ
+level-too-deep = 4
+
+abbrev pub bytes-run-out : ℕ
+bytes-run-out = 5
+
+abbrev pub bytes-after-end : ℕ
+bytes-after-end = 6
+
+abbrev pub job-too-large : ℕ
+job-too-large = 7
+
+abbrev pub too-many-vertices : ℕ
+too-many-vertices = 8
+
+-- What is read from bytes: a value, and the bytes behind it, or a refusal, and the bytes from its place on.
+pub data Read (A : Type 0) : Type 0 where
+  took : A → List ℕ → Read A
+  refused : ℕ → List ℕ → Read A
+
+-- go on behind what was read; the first refusal stands
+unfoldable pub andThen : {A B : Type 0} → Read A → (A → List ℕ → Read B) → Read B
+andThen (took x rest) next = next x rest
+andThen (refused n place) next = refused n place
+
+-- refuse at a place unless a test holds
+unfoldable pub unless : {A : Type 0} → Bool → ℕ → List ℕ → Read A → Read A
+unless true n place next = next
+unless false n place next = refused n place
+
+-- A number's groups, from the bytes that are left of it; so many bytes it may still have, and `only` tells whether these are all
+-- its bytes. "5 bytes run out, in a number before the last byte that it may have"; "2 number longer than three bytes or not
+-- shortest": its last group is 0, and it is not its only one.
+unfoldable pub groups : List ℕ → Bool → ℕ → List ℕ → Read ℕ
+groups start only zero left = refused number-malformed start
+groups start only (suc room) [] = refused bytes-run-out []
+groups start only (suc room) (b ∷ left) =
+    cond (ltb b topBit)
+    (unless (cond only true (ltb 0 b)) number-malformed start (took b left))
+    (andThen (groups start false room left) (λ high rest. took ((b - topBit) + topBit * high) rest))
+
+-- "in a number 5, 2, 7"
+unfoldable pub number : List ℕ → Read ℕ
+number start =
+    andThen (groups start true numberBytes start)
+    (λ n rest. unless (leb n jobLimit) job-too-large start (took n rest))
+
+-- "Items, by first byte: 1 job, .. 2 async, .. 3 finish, .. 4 fork"
+unfoldable pub kindOf : ℕ → Option Kind
+kindOf zero = none
+kindOf (suc zero) = some jobs
+kindOf (suc (suc zero)) = some asyncs
+kindOf (suc (suc (suc zero))) = some finishes
+kindOf (suc (suc (suc (suc zero)))) = some forks
+kindOf (suc (suc (suc (suc (suc n))))) = none
+
+-- "4 a body at level 33 (place: its opener)": what an item holds is read only where its bodies are not too deep
+unfoldable pub deeper : ℕ → List ℕ → Read Item → Read Item
+deeper level opener held = unless (ltb level levelLimit) level-too-deep opener held
+
+-- "1 job, then its number"
+unfoldable pub jobOf : List ℕ → Read Item
+jobOf left = andThen (number left) (λ n rest. took (a-job n) rest)
+
+-- what stands behind an item's first byte, in a body at this level; `readBody` reads a body at a level
+unfoldable pub itemOf : (ℕ → List ℕ → Read Body) → ℕ → List ℕ → Option Kind → List ℕ → Read Item
+itemOf readBody level place none left = refused byte-unknown place
+itemOf readBody level place (some jobs) left = jobOf left
+itemOf readBody level place (some asyncs) left =
+    deeper level place (andThen (readBody (suc level) left) (λ b rest. took (an-async b) rest))
+itemOf readBody level place (some finishes) left =
+    deeper level place (andThen (readBody (suc level) left) (λ b rest. took (a-finish b) rest))
+itemOf readBody level place (some forks) left =
+    deeper level place
+    (andThen (readBody (suc level) left)
+    (λ b rest. andThen (readBody (suc level) rest) (λ c rest'. took (a-fork b c) rest')))
+
+-- an item, from its first byte on
+unfoldable pub item : (ℕ → List ℕ → Read Body) → ℕ → List ℕ → Read Item
+item readBody level [] = refused bytes-run-out []
+item readBody level (x ∷ left) = itemOf readBody level (x ∷ left) (kindOf x) left
+
+-- A body at a level, from its first byte on: items up to the end byte. There are at most n bytes left.
+unfoldable pub bodyOf : ℕ → ℕ → List ℕ → Read Body
+bodyOf zero level left = refused bytes-run-out []
+bodyOf (suc n) level [] = refused bytes-run-out []
+bodyOf (suc n) level (x ∷ left) =
+    cond (eqb x endByte) (took end left)
+    (andThen (item (bodyOf n) level (x ∷ left))
+    (λ first rest. andThen (bodyOf n level rest) (λ others rest'. took (ahead first others) rest')))
+
+unfoldable pub body : ℕ → List ℕ → Read Body
+body level left = bodyOf (length left) level left
+
+-- what reading a whole program comes to: its tree, or the refusal's number and place
+pub data Reading : Type 0 where
+  program : Body → Reading
+  refusal : ℕ → ℕ → Reading
+
+-- "8 V above 1,024"
+unfoldable pub counted : Body → Reading
+counted b = cond (leb (vertices firstEdition b) vertexLimit) (program b) (refusal too-many-vertices 0)
+
+-- "6 bytes after the end". The place of what is left is the length less what is left.
+unfoldable pub whole : ℕ → Read Body → Reading
+whole len (took b []) = counted b
+whole len (took b (x ∷ left)) = refusal bytes-after-end (len - length (x ∷ left))
+whole len (refused n left) = refusal n (len - length left)
+
+-- "Load: 1; the first of 2 to 7 by place, ..; 8"
+unfoldable pub reading : List ℕ → Reading
+reading bytes =
+    cond (eqb (length bytes) 0) (refusal length-outside 0)
+    (cond (leb (length bytes) programBytes) (whole (length bytes) (body 1 bytes)) (refusal length-outside 0))

@@ -1,0 +1,90 @@
+-- "A program is one body; a body is items and an item may hold bodies."
+use Prim.Native.Nat.{ℕ, zero, suc, _+_, max}
+
+-- the kinds of items
+pub data Kind : Type 0 where
+  jobs : Kind
+  asyncs : Kind
+  finishes : Kind
+  forks : Kind
+
+-- A body: at its end, or its first item and the rest of it. A job has its number, the others the bodies that they hold.
+pub data Body : Type 0 where
+  end : Body
+  job : ℕ → Body → Body
+  async : Body → Body → Body
+  finish : Body → Body → Body
+  fork : Body → Body → Body → Body
+
+-- an item by itself
+pub data Item : Type 0 where
+  a-job : ℕ → Item
+  an-async : Body → Item
+  a-finish : Body → Item
+  a-fork : Body → Body → Item
+
+-- the body that begins with this item
+unfoldable pub ahead : Item → Body → Body
+ahead (a-job n) r = job n r
+ahead (an-async b) r = async b r
+ahead (a-finish b) r = finish b r
+ahead (a-fork b c) r = fork b c r
+
+-- "The main body is level 1. A body inside a body counts one level deeper": how many levels a body has, its own counted
+unfoldable pub depth : Body → ℕ
+depth end = 1
+depth (job n r) = depth r
+depth (async b r) = max (suc (depth b)) (depth r)
+depth (finish b r) = max (suc (depth b)) (depth r)
+depth (fork b c r) = max (max (suc (depth b)) (suc (depth c))) (depth r)
+
+-- the largest job number in it, 0 where there is none
+unfoldable pub largest : Body → ℕ
+largest end = 0
+largest (job n r) = max n (largest r)
+largest (async b r) = max (largest b) (largest r)
+largest (finish b r) = max (largest b) (largest r)
+largest (fork b c r) = max (max (largest b) (largest c)) (largest r)
+
+-- the sum over all items of a program of what an item of its kind weighs
+unfoldable pub total : (Kind → ℕ) → Body → ℕ
+total g end = 0
+total g (job n r) = g jobs + total g r
+total g (async b r) = g asyncs + (total g b + total g r)
+total g (finish b r) = g finishes + (total g b + total g r)
+total g (fork b c r) = g forks + (total g b + (total g c + total g r))
+
+-- 1 for a kind itself and 0 for the others
+unfoldable pub same : Kind → Kind → ℕ
+same jobs jobs = 1
+same jobs asyncs = 0
+same jobs finishes = 0
+same jobs forks = 0
+same asyncs jobs = 0
+same asyncs asyncs = 1
+same asyncs finishes = 0
+same asyncs forks = 0
+same finishes jobs = 0
+same finishes asyncs = 0
+same finishes finishes = 1
+same finishes forks = 0
+same forks jobs = 0
+same forks asyncs = 0
+same forks finishes = 0
+same forks forks = 1
+
+-- "The letters w, a, f and k count items in the bytes."
+pub record Counts : Type 0 where
+  pub w : ℕ
+  pub a : ℕ
+  pub f : ℕ
+  pub k : ℕ
+
+unfoldable pub counts : Body → Counts
+counts b =
+    record {
+      w = total (same jobs) b;
+      a = total (same asyncs) b;
+      f = total (same finishes) b;
+      k = total (same forks) b;
+    }

@@ -1,0 +1,149 @@
+// What stands at a place of a program.
+use crate::ItemCounts;
+use crate::ItemRead;
+use crate::NumberRead;
+use crate::ProgramRead;
+use crate::Reader;
+use crate::Refusal;
+use crate::format::ASYNC;
+use crate::format::END;
+use crate::format::FINISH;
+use crate::format::FORK;
+use crate::format::JOB;
+use crate::format::NOTHING_STARTS;
+use crate::format::TOP_BIT;
+use crate::numbers::number_end;
+use crate::reading::read;
+ghost use mathlib.Core.Path.{_≡_};
+ghost use Prim.Native.Nat.{_+_, _≤_};
+ghost use lib.ListN.{length};
+ghost use Rattle.program.specs.Limits.{programBytes};
+ghost use Rattle.program.specs.Located.{itemAt};
+ghost use Rattle.program.specs.Answers.{Stands, stands, nothing-starts};
+ghost use Rattle.program.specs.Progress.{Holds, Shows, ShowsJob, Sized, inNumber};
+
+// What stands at a place of a program; refused where the program is, and where no item or end byte starts.
+pub fn item_at(program: &[u8], place: u32) -> ItemRead
+    ensures { λ r. ⌜ stands r ≡ itemAt (now (program .entry)) place ⌝ }
+{
+    let reading = read(program);
+    match reading {
+        ProgramRead::Refused(refusal) => nothing(),
+        ProgramRead::Program(counts) => {
+            let at = place as usize;
+            if program.len() <= at {
+                return nothing();
+            }
+            if in_number(program, at) {
+                return nothing();
+            }
+            item_here(&program[at..], place)
+        }
+    }
+}
+
+// What stands at a place, where `bytes` start: the bytes of a body, or of what is left of one.
+pub(crate) fn item_here(bytes: &[u8], place: u32) -> ItemRead
+    requires { ⌜ Holds (now bytes) × (place + length (now bytes) ≤ programBytes) ⌝ }
+    ensures { λ r. ⌜ Shows (now (bytes .entry)) place (stands r) ⌝ }
+{
+    let first = bytes[0];
+    if first == END {
+        return ItemRead::End;
+    }
+    if first == JOB {
+        return job_here(&bytes[1..], place + 1);
+    }
+    let body = place + 1;
+    let past = body + body_size(&bytes[1..]) as u32;
+    if first == ASYNC {
+        return ItemRead::Async {
+            body: body,
+            past: past,
+        };
+    }
+    if first == FINISH {
+        return ItemRead::Finish {
+            body: body,
+            past: past,
+        };
+    }
+    let from = (past - place) as usize;
+    ItemRead::Fork {
+        left: body,
+        right: past,
+        past: past + body_size(&bytes[from..]) as u32,
+    }
+}
+
+// The job whose number stands at a place, where `bytes` start.
+fn job_here(bytes: &[u8], place: u32) -> ItemRead
+    requires { ⌜ place + length (now bytes) ≤ programBytes ⌝ }
+    ensures { λ r. ⌜ ShowsJob (now (bytes .entry)) place (stands r) ⌝ }
+{
+    let nothing = ItemCounts {
+        jobs: 0,
+        asyncs: 0,
+        finishes: 0,
+        forks: 0,
+    };
+    let start = Reader {
+        place: place,
+        seen: nothing,
+    };
+    let read = start.number(bytes);
+    match read {
+        NumberRead::Refused(refusal) => ItemRead::Refused(refusal),
+        NumberRead::Number(number, reader) => ItemRead::Job {
+            number: number,
+            past: reader.place,
+        },
+    }
+}
+
+// The number of bytes of the body that `bytes` start with: the search for its end.
+fn body_size(bytes: &[u8]) -> usize
+    requires { ⌜ Holds (now bytes) ⌝ }
+    ensures { λ r. ⌜ Sized (now (bytes .entry)) r ⌝ }
+{
+    let mut from = 0;
+    while bytes[from] != END {
+        let first = bytes[from];
+        from = from + 1;
+        if first == JOB {
+            from = from + number_end(&bytes[from..]);
+        } else {
+            from = from + body_size(&bytes[from..]);
+            if first == FORK {
+                from = from + body_size(&bytes[from..]);
+            }
+        }
+    }
+    from + 1
+}
+
+// The byte at a place stands inside a number, of a program that is read from its first byte.
+fn in_number(program: &[u8], place: usize) -> bool
+    requires { ⌜ place ≤ length (now program) ⌝ }
+    ensures { λ r. ⌜ r ≡ inNumber (now (program .entry)) place ⌝ }
+{
+    let mut inside = false;
+    for i in 0..place {
+        let byte = program[i];
+        if inside {
+            inside = TOP_BIT <= byte;
+        } else {
+            inside = byte == JOB;
+        }
+    }
+    inside
+}
+
+fn nothing() -> ItemRead
+    ensures { λ r. ⌜ stands r ≡ Stands.refused nothing-starts 0 ⌝ }
+{
+    ItemRead::Refused(Refusal {
+        number: NOTHING_STARTS,
+        place: 0,
+    })
+}

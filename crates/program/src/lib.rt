@@ -1,0 +1,61 @@
+// Reading programs: the bytes of a program to its items, their counts, and the refusals of its writer.
+//
+// `reading::read` reads a whole program, `items::item_at` tells what stands at a place of it. Neither asks anything of the bytes.
+mod bodies;
+pub mod format;
+pub mod items;
+mod numbers;
+pub mod reading;
+
+// How many items of each kind.
+pub struct ItemCounts {
+    pub jobs: u32,
+    pub asyncs: u32,
+    pub finishes: u32,
+    pub forks: u32,
+}
+
+// A refusal's number, and its place: an offset in the program, or 0 where it has none.
+pub struct Refusal {
+    pub number: u32,
+    pub place: u32,
+}
+
+// Where a reader is in the program, and the items that it has seen.
+pub struct Reader {
+    pub place: u32,
+    pub seen: ItemCounts,
+}
+
+// A reader moved past what it read, or a refusal.
+pub enum Advanced {
+    Past(Reader),
+    Refused(Refusal),
+}
+
+// A number and a reader moved past it, or a refusal.
+pub enum NumberRead {
+    Number(u32, Reader),
+    Refused(Refusal),
+}
+
+// What a reader carries along into a body: the level of that body.
+pub struct Inside {
+    pub level: u32,
+}
+
+// What reading a whole program answers.
+pub enum ProgramRead {
+    Program(ItemCounts),
+    Refused(Refusal),
+}
+
+// What stands at a place, with the places where its bodies start and where it ends.
+pub enum ItemRead {
+    Job { number: u32, past: u32 },
+    Async { body: u32, past: u32 },
+    Finish { body: u32, past: u32 },
+    Fork { left: u32, right: u32, past: u32 },
+    End,
+    Refused(Refusal),
+}

@@ -1,0 +1,94 @@
+// Reading a whole program, and what a program needs.
+use crate::Advanced;
+use crate::Inside;
+use crate::ItemCounts;
+use crate::ProgramRead;
+use crate::Reader;
+use crate::Refusal;
+use crate::format::BYTES_AFTER_END;
+use crate::format::LENGTH_OUTSIDE;
+use crate::format::PROGRAM_BYTES;
+use crate::format::TOO_MANY_VERTICES;
+use crate::format::VERTEX_LIMIT;
+ghost use mathlib.Core.Path.{_≡_};
+ghost use Rattle.program.specs.Encodings.{vertexFormula, edgeRowFormula, stepFormula};
+ghost use Rattle.program.specs.Reader.{reading};
+ghost use Rattle.program.specs.Answers.{Said, itemCounts, said, told};
+ghost use Rattle.program.specs.Progress.{finished};
+
+// Vertices made in all by a program with these items.
+pub fn vertices(items: ItemCounts) -> u64
+    ensures { λ r. ⌜ r ≡ vertexFormula (itemCounts items) ⌝ }
+{
+    2 + items.asyncs as u64 + 2 * items.finishes as u64 + 3 * items.forks as u64
+}
+
+// Edge rows that it needs.
+pub fn edge_rows(items: ItemCounts) -> u64
+    ensures { λ r. ⌜ r ≡ edgeRowFormula (itemCounts items) ⌝ }
+{
+    1 + items.asyncs as u64 + items.finishes as u64 + 2 * items.forks as u64
+}
+
+// Steps that it takes.
+pub fn steps(items: ItemCounts) -> u64
+    ensures { λ r. ⌜ r ≡ stepFormula (itemCounts items) ⌝ }
+{
+    4
+        + items.jobs as u64
+        + 5 * items.asyncs as u64
+        + 10 * items.finishes as u64
+        + 15 * items.forks as u64
+}
+
+// The counts of a program's items, or the first refusal.
+pub fn read(program: &[u8]) -> ProgramRead
+    ensures { λ r. ⌜ said r ≡ told (reading (now (program .entry))) ⌝ }
+{
+    let length = program.len();
+    if length == 0 {
+        return refused(LENGTH_OUTSIDE, 0);
+    }
+    if PROGRAM_BYTES < length {
+        return refused(LENGTH_OUTSIDE, 0);
+    }
+    let nothing = ItemCounts {
+        jobs: 0,
+        asyncs: 0,
+        finishes: 0,
+        forks: 0,
+    };
+    let start = Reader {
+        place: 0,
+        seen: nothing,
+    };
+    let main = start.body(program, Inside { level: 1 });
+    match main {
+        Advanced::Refused(refusal) => ProgramRead::Refused(refusal),
+        Advanced::Past(end) => at_end(end, length),
+    }
+}
+
+// What a reader behind the main body's end comes to, in a program of this length.
+fn at_end(end: Reader, length: usize) -> ProgramRead
+    ensures { λ r. ⌜ said r ≡ finished length (end .place) (itemCounts (end .seen)) ⌝ }
+{
+    let place = end.place;
+    if (place as usize) < length {
+        return refused(BYTES_AFTER_END, place);
+    }
+    let seen = end.seen;
+    if VERTEX_LIMIT < vertices(seen) {
+        return refused(TOO_MANY_VERTICES, 0);
+    }
+    ProgramRead::Program(seen)
+}
+
+fn refused(number: u32, place: u32) -> ProgramRead
+    ensures { λ r. ⌜ said r ≡ Said.refused number place ⌝ }
+{
+    ProgramRead::Refused(Refusal {
+        number: number,
+        place: place,
+    })
+}
