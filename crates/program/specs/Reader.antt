@@ -52,14 +52,15 @@ unless false n place next = refused n place
 
 -- A number's groups, from the bytes that are left of it; so many bytes it may still have, and `only` tells whether these are all
 -- its bytes. "5 bytes run out, in a number before the last byte that it may have"; "2 number longer than three bytes or not
--- shortest": its last group is 0, and it is not its only one.
+-- shortest": its last group is 0, and it is not its only one. A byte is below 256; what is above that in a list is no byte.
 unfoldable pub groups : List ℕ → Bool → ℕ → List ℕ → Read ℕ
 groups start only zero left = refused number-malformed start
 groups start only (suc room) [] = refused bytes-run-out []
 groups start only (suc room) (b ∷ left) =
     cond (ltb b topBit)
     (unless (cond only true (ltb 0 b)) number-malformed start (took b left))
-    (andThen (groups start false room left) (λ high rest. took ((b - topBit) + topBit * high) rest))
+    (unless (ltb b (2 * topBit)) byte-unknown (b ∷ left)
+    (andThen (groups start false room left) (λ high rest. took ((b - topBit) + topBit * high) rest)))
 
 -- "in a number 5, 2, 7"
 unfoldable pub number : List ℕ → Read ℕ

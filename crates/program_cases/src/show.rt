@@ -1,0 +1,61 @@
+// Writes what reading answers.
+use libc::STDOUT_FILENO;
+use program::ItemRead;
+use program::ProgramRead;
+use program::items::item_at;
+use program::reading::read;
+
+pub(crate) fn text(bytes: &[u8]) {
+    io::write_all(STDOUT_FILENO, bytes);
+}
+
+pub(crate) fn number(before: &[u8], n: u32) {
+    text(before);
+    io::print_decimal(STDOUT_FILENO, n as u64);
+}
+
+pub(crate) fn hex(before: &[u8], byte: u8) {
+    text(before);
+    io::print_hex(STDOUT_FILENO, byte as u64, 2);
+}
+
+pub(crate) fn reading(program: &[u8]) {
+    let answer = read(program);
+    match answer {
+        ProgramRead::Program(items) => {
+            number(b": jobs ", items.jobs);
+            number(b" asyncs ", items.asyncs);
+            number(b" finishes ", items.finishes);
+            number(b" forks ", items.forks);
+            text(b"\n");
+        }
+        ProgramRead::Refused(refusal) => {
+            number(b": refused ", refusal.number);
+            number(b" ", refusal.place);
+            text(b"\n");
+        }
+    }
+}
+
+// What stands at a place, with the places that it names.
+pub(crate) fn item(program: &[u8], place: u32) {
+    number(b"  ", place);
+    let found = item_at(program, place);
+    match found {
+        ItemRead::Job { number: n, past } => two(b" job ", n, past),
+        ItemRead::Async { body, past } => two(b" async ", body, past),
+        ItemRead::Finish { body, past } => two(b" finish ", body, past),
+        ItemRead::Fork { left, right, past } => {
+            number(b" fork ", left);
+            two(b" ", right, past);
+        }
+        ItemRead::End => text(b" end\n"),
+        ItemRead::Refused(refusal) => two(b" refused ", refusal.number, refusal.place),
+    }
+}
+
+fn two(before: &[u8], a: u32, b: u32) {
+    number(before, a);
+    number(b" ", b);
+    text(b"\n");
+}
