@@ -2,6 +2,7 @@
 use Prim.Native.Nat.{ℕ, _+_, _*_, _^_, _<_, _≤_}
 use mathlib.Core.Path.{_≡_}
 use mathlib.Core.List.{List, [], _∷_, _++_}
+use mathlib.Core.Logic.{_⊎_}
 use lib.ListN.{length, getD}
 use Rattle.program.specs.Limits.{numberBytes, jobLimit, levelLimit, programBytes, vertexLimit}
 use Rattle.program.specs.Trees.{Body, depth, largest}
@@ -35,6 +36,14 @@ pub data Unfinished (xs : List ℕ) : Type 0 where
 -- a proper prefix, of this length, is an encoding
 pub data Overlong (xs : List ℕ) (p : ℕ) : Type 0 where
   overlong : (whole : List ℕ) (x : ℕ) (more : List ℕ) → Encoding whole → xs ≡ whole ++ (x ∷ more) → p ≡ length whole → Overlong xs p
+
+-- the encoding of a tree that makes too many vertices
+pub data Crowded (xs : List ℕ) : Type 0 where
+  crowded : (b : Body) → Fits b → xs ≡ encode b → vertexLimit < vertices firstEdition b → Crowded xs
+
+-- "2, 3, 4 and 7"
+abbrev pub ByPlace : ℕ → Type 0
+ByPlace n = (n ≡ number-malformed) ⊎ (n ≡ byte-unknown) ⊎ (n ≡ level-too-deep) ⊎ (n ≡ job-too-large)
 
 -- bytes that all have their top bit set
 abbrev pub TopBits : List ℕ → Type 0

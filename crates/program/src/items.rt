@@ -15,12 +15,13 @@ use crate::format::TOP_BIT;
 use crate::numbers::number_end;
 use crate::reading::read;
 ghost use mathlib.Core.Path.{_≡_};
-ghost use Prim.Native.Nat.{_+_, _≤_};
-ghost use lib.ListN.{length};
+ghost use Prim.Native.Nat.{_+_, _<_, _≤_};
+ghost use lib.ListN.{length, getD};
 ghost use Rattle.program.specs.Limits.{programBytes};
+ghost use Rattle.program.specs.Bytes.{endByte};
 ghost use Rattle.program.specs.Located.{itemAt};
 ghost use Rattle.program.specs.Answers.{Stands, stands, nothing-starts};
-ghost use Rattle.program.specs.Progress.{Holds, Shows, ShowsJob, Sized, inNumber};
+ghost use Rattle.program.specs.Progress.{Holds, Shows, ShowsJob, Sized, Skips, inNumber};
 
 // What stands at a place of a program; refused where the program is, and where no item or end byte starts.
 pub fn item_at(program: &[u8], place: u32) -> ItemRead
@@ -51,11 +52,12 @@ pub(crate) fn item_here(bytes: &[u8], place: u32) -> ItemRead
     if first == END {
         return ItemRead::End;
     }
-    if first == JOB {
-        return job_here(&bytes[1..], place + 1);
-    }
     let body = place + 1;
-    let past = body + body_size(&bytes[1..]) as u32;
+    if first == JOB {
+        return job_here(&bytes[1..], body);
+    }
+    let behind = 1 + body_size(&bytes[1..]);
+    let past = place + behind as u32;
     if first == ASYNC {
         return ItemRead::Async {
             body: body,
@@ -68,11 +70,10 @@ pub(crate) fn item_here(bytes: &[u8], place: u32) -> ItemRead
             past: past,
         };
     }
-    let from = (past - place) as usize;
     ItemRead::Fork {
         left: body,
         right: past,
-        past: past + body_size(&bytes[from..]) as u32,
+        past: past + body_size(&bytes[behind..]) as u32,
     }
 }
 
@@ -108,18 +109,25 @@ fn body_size(bytes: &[u8]) -> usize
 {
     let mut from = 0;
     while bytes[from] != END {
-        let first = bytes[from];
-        from = from + 1;
-        if first == JOB {
-            from = from + number_end(&bytes[from..]);
-        } else {
-            from = from + body_size(&bytes[from..]);
-            if first == FORK {
-                from = from + body_size(&bytes[from..]);
-            }
-        }
+        from = from + item_size(&bytes[from..]);
     }
     from + 1
+}
+
+// The number of bytes of the item that `bytes` start with.
+fn item_size(bytes: &[u8]) -> usize
+    requires { ⌜ Holds (now bytes) × (endByte < getD (now bytes) 0 0) ⌝ }
+    ensures { λ r. ⌜ (1 ≤ r) × Skips (now (bytes .entry)) r ⌝ }
+{
+    let first = bytes[0];
+    if first == JOB {
+        return 1 + number_end(&bytes[1..]);
+    }
+    let behind = 1 + body_size(&bytes[1..]);
+    if first != FORK {
+        return behind;
+    }
+    behind + body_size(&bytes[behind..])
 }
 
 // The byte at a place stands inside a number, of a program that is read from its first byte.

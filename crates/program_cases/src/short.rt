@@ -56,6 +56,7 @@ fn with_last(program: &mut [u8], last: u32) -> u64 {
     let answer = read(program);
     match answer {
         ProgramRead::Program(items) => 0,
-        ProgramRead::Refused(refusal) => (refusal.number as u64) * 4294967296 + (refusal.place as u64),
+        ProgramRead::Refused(refusal) => (refusal.number as u64) * 4294967296
+            + (refusal.place as u64),
     }
 }

@@ -1,0 +1,31 @@
+-- The reader is exact: it accepts the encodings of the trees within all limits, each as its own tree, and nothing else.
+use Prim.Native.Nat.{ℕ}
+use mathlib.Core.Path.{_≡_, sym, ap, _∙_}
+use mathlib.Core.List.{List, []}
+use mathlib.Core.Logic.{_↔_}
+use Rattle.program.specs.Trees.{Body}
+use Rattle.program.specs.Bytes.{encode, size}
+use Rattle.program.specs.Reader.{took, body, program, whole, reading}
+use Rattle.program.specs.Claims.{Fits, Loadable}
+use Rattle.program.proofs.ReadingLaws.{reading-comes, reading-within, counted-loads, encode-positive, all-complete, loaded-sound}
+
+-- What is accepted is the encoding of the tree that is answered, and that is within all limits.
+pub reading-sound : (bytes : List ℕ) (b : Body) → reading bytes ≡ program b → (bytes ≡ encode b) × Loadable b
+reading-sound bytes b e = loaded-sound bytes b (rw e at (reading-comes bytes))
+
+-- The encoding of a tree within all limits is accepted, as that tree.
+pub reading-complete : (b : Body) → Loadable b → reading (encode b) ≡ program b
+unfolding size whole
+reading-complete b h =
+    reading-within (encode b) (encode-positive b, h .bytes) ∙ rw (all-complete b (h .fits)) (counted-loads b (h .made))
+
+-- Bytes are accepted exactly if they are the encoding of a tree within all limits.
+pub reading-exact : (bytes : List ℕ) → ((b : Body) × (reading bytes ≡ program b)) ↔ ((b : Body) × Loadable b × (bytes ≡ encode b))
+reading-exact bytes = (
+  λ (b, e). let (p, q) = reading-sound bytes b e in (b, q, p),
+  λ (b, h, e). (b, ap reading e ∙ reading-complete b h),
+)
+
+-- No two trees have the same encoding.
+pub encode-unique : (b c : Body) → Fits b → Fits c → encode b ≡ encode c → b ≡ c
+encode-unique b c p q e = let h : took b [] ≡ took c [] = sym (all-complete b p) ∙ ap (body 1) e ∙ all-complete c q in cc

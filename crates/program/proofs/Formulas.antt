@@ -1,0 +1,101 @@
+-- What a program needs, by document 01's formulas: they are what the first edition's table of commands comes to.
+use Prim.Native.Nat.{ℕ, _+_, _*_, _<_, _≤_}
+use mathlib.Core.Path.{_≡_}
+use mathlib.Core.List.{_++_}
+use native.Mathlib.Nat.{mul-add}
+use native.Mathlib.Omega.{arith}
+use lib.ListN.{length-append}
+use Rattle.program.specs.Trees.{Kind, jobs, asyncs, finishes, forks, Body, end, job, async, finish, fork, total, same, Counts, counts}
+use Rattle.program.specs.Bytes.{encodeNumber, encode, size}
+use Rattle.program.specs.Encodings.{firstEdition, weight, makes, links, does, itemsWeight, vertices, edgeRows, steps}
+use Rattle.program.specs.Encodings.{vertexFormula, edgeRowFormula, stepFormula}
+use Rattle.program.specs.Progress.{plus}
+
+-- what so many items of each kind weigh
+weigh : (Kind → ℕ) → Counts → ℕ
+weigh g c = g jobs * c .w + g asyncs * c .a + g finishes * c .f + g forks * c .k
+
+-- counts that are added weigh what they weigh together
+weigh-plus : (g : Kind → ℕ) (c d : Counts) {x y : ℕ} → x ≡ weigh g c → y ≡ weigh g d → x + y ≡ weigh g (plus c d)
+unfolding weigh plus
+weigh-plus g c d p q =
+    rw (mul-add (g jobs) (c .w) (d .w), mul-add (g asyncs) (c .a) (d .a))
+    (rw (mul-add (g finishes) (c .f) (d .f), mul-add (g forks) (c .k) (d .k)) (omega arith))
+
+-- one item of a kind
+one : Kind → Counts
+one k = record { w = same jobs k; a = same asyncs k; f = same finishes k; k = same forks k }
+
+-- it weighs what its kind does
+weigh-one : (g : Kind → ℕ) (k : Kind) → g k ≡ weigh g (one k)
+unfolding weigh one same
+weigh-one g jobs = omega arith
+weigh-one g asyncs = omega arith
+weigh-one g finishes = omega arith
+weigh-one g forks = omega arith
+
+-- The sum over all items, by the counts of each kind.
+total-counts : (g : Kind → ℕ) (b : Body) → total g b ≡ weigh g (counts b)
+unfolding total counts plus one weigh
+total-counts g end = omega arith
+total-counts g (job n r) = weigh-plus g (one jobs) (counts r) (weigh-one g jobs) (total-counts g r)
+total-counts g (async b r) =
+    weigh-plus g (one asyncs) (plus (counts b) (counts r)) (weigh-one g asyncs)
+    (weigh-plus g (counts b) (counts r) (total-counts g b) (total-counts g r))
+total-counts g (finish b r) =
+    weigh-plus g (one finishes) (plus (counts b) (counts r)) (weigh-one g finishes)
+    (weigh-plus g (counts b) (counts r) (total-counts g b) (total-counts g r))
+total-counts g (fork b c r) =
+    weigh-plus g (one forks) (plus (counts b) (plus (counts c) (counts r))) (weigh-one g forks)
+    (weigh-plus g (counts b) (plus (counts c) (counts r)) (total-counts g b)
+    (weigh-plus g (counts c) (counts r) (total-counts g c) (total-counts g r)))
+
+-- "V = 2 + a + 2f + 3k"
+pub vertices-formula : (b : Body) → vertices firstEdition b ≡ vertexFormula (counts b)
+unfolding vertices itemsWeight weight makes firstEdition weigh
+vertices-formula b = omega (arith, total-counts (λ k. weight makes (firstEdition k .commands)) b)
+
+-- "Edge rows needed: 1 + a + f + 2k."
+pub edgeRows-formula : (b : Body) → edgeRows firstEdition b ≡ edgeRowFormula (counts b)
+unfolding edgeRows itemsWeight weight links firstEdition weigh
+edgeRows-formula b = omega (arith, total-counts (λ k. weight links (firstEdition k .commands)) b)
+
+-- demand 3's count, 4 + w + 5a + 10f + 15k
+pub steps-formula : (b : Body) → steps firstEdition b ≡ stepFormula (counts b)
+unfolding steps itemsWeight weight does firstEdition weigh
+steps-formula b = omega (arith, vertices-formula b, total-counts (λ k. weight does (firstEdition k .commands)) b)
+
+-- a kind is itself once at most
+same-le : (k j : Kind) → same k j ≤ 1
+unfolding same
+same-le jobs jobs = omega arith
+same-le jobs asyncs = omega arith
+same-le jobs finishes = omega arith
+same-le jobs forks = omega arith
+same-le asyncs jobs = omega arith
+same-le asyncs asyncs = omega arith
+same-le asyncs finishes = omega arith
+same-le asyncs forks = omega arith
+same-le finishes jobs = omega arith
+same-le finishes asyncs = omega arith
+same-le finishes finishes = omega arith
+same-le finishes forks = omega arith
+same-le forks jobs = omega arith
+same-le forks asyncs = omega arith
+same-le forks finishes = omega arith
+same-le forks forks = omega arith
+
+-- each item has a byte of its own, and so has the end
+pub count-lt : (k : Kind) (b : Body) → total (same k) b < size b
+unfolding total size encode
+count-lt k end = omega arith
+count-lt k (job n r) = omega (arith, same-le k jobs, count-lt k r, length-append (encodeNumber n) (encode r))
+count-lt k (async b r) = omega (arith, same-le k asyncs, count-lt k b, count-lt k r, length-append (encode b) (encode r))
+count-lt k (finish b r) = omega (arith, same-le k finishes, count-lt k b, count-lt k r, length-append (encode b) (encode r))
+count-lt k (fork b c r) =
+    let split = length-append (encode b) (encode c ++ encode r) in
+    omega (arith, same-le k forks, count-lt k b, count-lt k c, count-lt k r, split, length-append (encode c) (encode r))
+
+-- no more items of a kind than bytes
+pub count-le : (k : Kind) (b : Body) → total (same k) b ≤ size b
+count-le k b = omega (arith, count-lt k b)

@@ -1,0 +1,100 @@
+-- What the item reader tells at a place, where a body's bytes start: one law for each path through `item_here` and `job_here`.
+use Prim.Native.Nat.{ℕ, suc, _+_, _≤_}
+use mathlib.Core.Path.{_≡_, refl, ap, ap₂, _∙_}
+use mathlib.Core.List.{List, _++_}
+use native.Mathlib.Omega.{arith}
+use lib.ListN.{length, getD, length-append}
+use Rattle.program.specs.Limits.{jobLimit}
+use Rattle.program.specs.Trees.{Counts, Body, end, job, async, finish, fork}
+use Rattle.program.specs.Bytes.{endByte, jobByte, asyncByte, finishByte, forkByte, encodeNumber, encode, numberSize, size}
+use Rattle.program.specs.Reader.{number}
+use Rattle.program.specs.Answers.{Stands}
+use Rattle.program.specs.Located.{locate, head}
+use Rattle.program.specs.Progress.{NumberProgress, value, stopped, numberProgress, Sized, Shows, ShowsJob}
+use Rattle.program.proofs.NumberLaws.{number-complete}
+use Rattle.program.proofs.LocatedLaws.{place-locate}
+use Rattle.program.proofs.SkipLaws.{part, part-is, on-end, on-job, on-one, on-fork, past-body}
+
+-- what stands first in a body, by its first item
+head-job : (p n : ℕ) (r : Body) → Stands.job n (p + 1 + numberSize n) ≡ head (locate p (job n r))
+unfolding locate head
+head-job p n r = rw (place-locate (suc (p + numberSize n)) r) (ap (λ (o : ℕ). Stands.job n o) (omega arith))
+
+head-async : (p s : ℕ) (c r : Body) → s ≡ size c → Stands.async (p + 1) (p + (1 + s)) ≡ head (locate p (async c r))
+unfolding locate head
+head-async p s c r is =
+    rw (place-locate (suc p) c, place-locate (suc (p + size c)) r, is)
+    (ap₂ (λ (i j : ℕ). Stands.async i j) (omega arith) (omega arith))
+
+head-finish : (p s : ℕ) (c r : Body) → s ≡ size c → Stands.finish (p + 1) (p + (1 + s)) ≡ head (locate p (finish c r))
+unfolding locate head
+head-finish p s c r is =
+    rw (place-locate (suc p) c, place-locate (suc (p + size c)) r, is)
+    (ap₂ (λ (i j : ℕ). Stands.finish i j) (omega arith) (omega arith))
+
+head-fork :
+    (p s t : ℕ) (c d r : Body) → s ≡ size c → t ≡ size d
+    → Stands.fork (p + 1) (p + (1 + s)) (p + (1 + s) + t) ≡ head (locate p (fork c d r))
+unfolding locate head
+head-fork p s t c d r is is' =
+    rw (place-locate (suc p) c, place-locate (suc (p + size c)) d, place-locate (suc (p + size c + size d)) r, is, is')
+    (ap₂ (λ (i j : ℕ). Stands.fork i j (p + (1 + size c) + size d)) (omega arith) (omega arith)
+    ∙ ap (λ (o : ℕ). Stands.fork (suc p) (suc (p + size c)) o) (omega arith))
+
+-- an end byte
+pub shows-end : (xs : List ℕ) (p : ℕ) → getD xs 0 0 ≡ endByte → Shows xs p Stands.end
+unfolding locate head
+shows-end xs p is b rest f e = on-end (λ b. Stands.end ≡ head (locate p b)) xs b rest e is refl
+
+-- a job
+pub shows-job : (xs : List ℕ) (p : ℕ) (s : Stands) → getD xs 0 0 ≡ jobByte → ShowsJob (part 1 xs) (p + 1) s → Shows xs p s
+shows-job xs p s is shown b rest f e =
+    on-job (λ b. s ≡ head (locate p b)) xs b rest f e is
+    (λ n r low fr tail. shown n (encode r ++ rest) low (part-is 1 xs ∙ tail) ∙ head-job p n r)
+
+-- an async
+pub shows-async :
+    (xs : List ℕ) (p s : ℕ) → getD xs 0 0 ≡ asyncByte → Sized (part 1 xs) s → Shows xs p (Stands.async (p + 1) (p + (1 + s)))
+shows-async xs p s is sized b rest f e =
+    on-one (λ b. Stands.async (p + 1) (p + (1 + s)) ≡ head (locate p b)) xs b rest f e (omega arith) (omega arith)
+    (λ c r is fc fr tail. head-async p s c r (sized c (encode r ++ rest) fc (part-is 1 xs ∙ tail)))
+    (λ c r is' fc fr tail. absurd (omega arith))
+
+-- a finish
+pub shows-finish :
+    (xs : List ℕ) (p s : ℕ) → getD xs 0 0 ≡ finishByte → Sized (part 1 xs) s → Shows xs p (Stands.finish (p + 1) (p + (1 + s)))
+shows-finish xs p s is sized b rest f e =
+    on-one (λ b. Stands.finish (p + 1) (p + (1 + s)) ≡ head (locate p b)) xs b rest f e (omega arith) (omega arith)
+    (λ c r is' fc fr tail. absurd (omega arith))
+    (λ c r is fc fr tail. head-finish p s c r (sized c (encode r ++ rest) fc (part-is 1 xs ∙ tail)))
+
+-- a fork
+pub shows-fork :
+    (xs : List ℕ) (p s t : ℕ) → getD xs 0 0 ≡ forkByte → Sized (part 1 xs) s → Sized (part (1 + s) xs) t
+    → Shows xs p (Stands.fork (p + 1) (p + (1 + s)) (p + (1 + s) + t))
+shows-fork xs p s t is sized sized' b rest f e =
+    on-fork (λ b. Stands.fork (p + 1) (p + (1 + s)) (p + (1 + s) + t) ≡ head (locate p b)) xs b rest f e is
+    (λ c d r fc fd fr tail.
+    let long = sized c (encode d ++ (encode r ++ rest)) fc (part-is 1 xs ∙ tail) in
+    let next = past-body xs 1 s c (encode d ++ (encode r ++ rest)) tail long in
+    head-fork p s t c d r long (sized' d (encode r ++ rest) fd (part-is (1 + s) xs ∙ next)))
+
+-- a number within the limit is read
+job-progress :
+    (xs : List ℕ) (p : ℕ) (seen : Counts) (n : ℕ) (rest : List ℕ) → n ≤ jobLimit → xs ≡ encodeNumber n ++ rest
+    → numberProgress (p + length xs) seen (number xs) ≡ value n (p + numberSize n) seen
+unfolding numberProgress numberSize
+job-progress xs p seen n rest le e =
+    let long : length xs ≡ length (encodeNumber n) + length rest = ap length e ∙ length-append (encodeNumber n) rest in
+    ap (λ r. numberProgress (p + length xs) seen r) (ap number e ∙ number-complete n rest le) ∙ ap (λ (o : ℕ). value n o seen) (omega arith)
+
+-- a number that was read, or its refusal
+abbrev pub jobOr : NumberProgress → Stands
+jobOr (value n past seen) = Stands.job n past
+jobOr (stopped n place) = Stands.refused n place
+
+-- the job with the number
+pub job-shown :
+    (xs : List ℕ) (p : ℕ) (seen : Counts) (g : NumberProgress) → g ≡ numberProgress (p + length xs) seen (number xs)
+    → ShowsJob xs p (jobOr g)
+job-shown xs p seen g is n rest le e = ap jobOr (is ∙ job-progress xs p seen n rest le e)

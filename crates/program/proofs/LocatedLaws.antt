@@ -1,0 +1,359 @@
+-- Located trees: the laws of code laid out in a program, and of what starts at a place of it, so that proofs above need not look at
+-- bytes. They hold of any laid code m, and `laid-locate` says that a tree laid out from an offset is laid.
+--
+--     place-locate   place (locate o b) ≡ o
+--     last-locate    suc (last (locate o b)) ≡ o + size b
+--     laid-locate    Laid (locate o b)
+--     laid-le        Laid m → place m ≤ last m
+--
+--     code-here      codeAt m (place m) ≡ some m
+--     code-end       codeAt m (last m) ≡ some (end-at (last m))
+-- and with h : codeAt m p ≡ some c, in laid code m
+--     code-place     place c ≡ p (this needs no Laid m)
+--     code-laid      Laid c
+--     code-range     place m ≤ p, p ≤ last c, last c ≤ last m
+--     code-inner     codeAt m (place d) ≡ some d, where Inner c d: d is a body of c's first item (async-body, finish-body, fork-left,
+--                    fork-right), or what is behind this item (job-rest, async-rest, finish-rest, fork-rest)
+--     code-last      codeAt m (last c) ≡ some (end-at (last c))
+--     code-missing   codeAt m p ≡ none, where p is outside of m
+--     job-order      where c is job-at o n r: o < place r ≤ last r
+--     async-order    where c is async-at o b r: place b ≡ suc o, place b ≤ last b, suc (last b) ≡ place r, place r ≤ last r
+--     finish-order   where c is finish-at o b r: the same
+--     fork-order     where c is fork-at o b d r: the same of b and d, and of d and r
+--     item-stands    itemAt bytes p ≡ head c, where reading bytes ≡ program t and m is locate 0 t
+--
+-- `Part m c`, c is m or is anywhere inside, is what these have in common: a search finds parts (code-part), and in laid code it finds
+-- each at its place (part-code).
+use Prim.Native.Nat.{ℕ, suc, _+_, _<_, _≤_}
+use mathlib.Core.Path.{_≡_, refl, sym, _∙_, ap, subst}
+use mathlib.Core.Bool.{Bool, true, false}
+use mathlib.Core.List.{List, _++_}
+use mathlib.Core.Option.{Option, none, some, Option·some-injective, Option·none-ne-some}
+use native.Mathlib.Omega.{arith}
+use lib.Dec.{eqb}
+use lib.ListN.{length-append}
+use borrow.Author.Tests.{eqb-true, eq-eqb, ne-eqb}
+use Rattle.program.specs.Trees.{Body, end, job, async, finish, fork}
+use Rattle.program.specs.Bytes.{encodeNumber, encode, numberSize, size}
+use Rattle.program.specs.Reader.{program, reading}
+use Rattle.program.specs.Located.{Code, end-at, job-at, async-at, finish-at, fork-at, locate, place, last, here, orElse, codeAt}
+use Rattle.program.specs.Located.{head, found, standsIn, itemAt}
+
+-- a search that finds code has it here, or among the others
+pub here-cases :
+    {P : Type 0} {c : Code} (t : Bool) (m : Code) (x : Option Code) → here t m x ≡ some c → (t ≡ true → m ≡ c → P)
+    → (x ≡ some c → P) → P
+unfolding here
+here-cases true m x h f g = f refl (Option·some-injective _ _ h)
+here-cases false m x h f g = g h
+
+-- and of two, in the first or in the second
+pub orElse-cases : {P : Type 0} {c : Code} (x y : Option Code) → orElse x y ≡ some c → (x ≡ some c → P) → (y ≡ some c → P) → P
+unfolding orElse
+orElse-cases none y h f g = g h
+orElse-cases (some c) y h f g = f h
+
+-- it is here at its own place, and not here behind it
+here-now : (o : ℕ) (c : Code) (x : Option Code) → here (eqb o o) c x ≡ some c
+unfolding here
+here-now o c x = rw (eq-eqb o o refl) refl
+
+pub here-later : (o p : ℕ) (c : Code) (x : Option Code) → o < p → here (eqb p o) c x ≡ x
+unfolding here
+here-later o p c x h = rw (ne-eqb p o (λ q. absurd (omega arith))) refl
+
+-- what the first has stands, and where it has nothing, the second counts
+orElse-some : {x : Option Code} {c : Code} (y : Option Code) → x ≡ some c → orElse x y ≡ some c
+unfolding orElse
+orElse-some y q = rw q refl
+
+pub orElse-none : {x : Option Code} (y : Option Code) → x ≡ none → orElse x y ≡ y
+unfolding orElse
+orElse-none y q = rw q refl
+
+-- code right inside another: what is behind its first item, or a body that this item holds
+pub data Inner : Code → Code → Type 0 where
+  job-rest : {o n : ℕ} {r : Code} → Inner (job-at o n r) r
+  async-body : {o : ℕ} {b r : Code} → Inner (async-at o b r) b
+  async-rest : {o : ℕ} {b r : Code} → Inner (async-at o b r) r
+  finish-body : {o : ℕ} {b r : Code} → Inner (finish-at o b r) b
+  finish-rest : {o : ℕ} {b r : Code} → Inner (finish-at o b r) r
+  fork-left : {o : ℕ} {b c r : Code} → Inner (fork-at o b c r) b
+  fork-right : {o : ℕ} {b c r : Code} → Inner (fork-at o b c r) c
+  fork-rest : {o : ℕ} {b c r : Code} → Inner (fork-at o b c r) r
+
+-- code anywhere inside another, or itself
+pub data Part : Code → Code → Type 0 where
+  itself : {m : Code} → Part m m
+  inside : {m d c : Code} → Inner m d → Part d c → Part m c
+
+-- a part of a part
+join : {m d c : Code} → Part m d → Part d c → Part m c
+join itself q = q
+join (inside i p) q = inside i (join p q)
+
+-- what a search finds
+abbrev Hit : Code → ℕ → Code → Type 0
+Hit m p c = Part m c × (place c ≡ p)
+
+-- the code itself, and a part
+hit-here : (m : Code) (o p : ℕ) {c : Code} → place m ≡ o → eqb p o ≡ true → m ≡ c → Hit m p c
+hit-here m o p q t e = (subst (λ (x : Code). Part m x) e itself, ap place (sym e) ∙ q ∙ sym (eqb-true p o t))
+
+hit-inside : {m d c : Code} {p : ℕ} → Inner m d → Hit d p c → Hit m p c
+hit-inside i h = (inside i (h .0), h .1)
+
+-- a search finds parts, each at its place
+code-hit : (m : Code) (p : ℕ) {c : Code} → codeAt m p ≡ some c → Hit m p c
+unfolding codeAt place
+code-hit (end-at o) p h = here-cases (eqb p o) _ _ h (hit-here _ o p refl) (λ q. absurd (Option·none-ne-some _ q))
+code-hit (job-at o n r) p h = here-cases (eqb p o) _ _ h (hit-here _ o p refl) (λ q. hit-inside job-rest (code-hit r p q))
+code-hit (async-at o b r) p h =
+    here-cases (eqb p o) _ _ h (hit-here _ o p refl)
+    (λ q. orElse-cases _ _ q (λ q. hit-inside async-body (code-hit b p q)) (λ q. hit-inside async-rest (code-hit r p q)))
+code-hit (finish-at o b r) p h =
+    here-cases (eqb p o) _ _ h (hit-here _ o p refl)
+    (λ q. orElse-cases _ _ q (λ q. hit-inside finish-body (code-hit b p q)) (λ q. hit-inside finish-rest (code-hit r p q)))
+code-hit (fork-at o b c r) p h =
+    here-cases (eqb p o) _ _ h (hit-here _ o p refl)
+    (λ q. orElse-cases _ _ q (λ q. hit-inside fork-left (code-hit b p q))
+    (λ q. orElse-cases _ _ q (λ q. hit-inside fork-right (code-hit c p q)) (λ q. hit-inside fork-rest (code-hit r p q))))
+
+pub code-part : (m : Code) (p : ℕ) {c : Code} → codeAt m p ≡ some c → Part m c
+code-part m p h = code-hit m p h .0
+
+pub code-place : (m : Code) (p : ℕ) {c : Code} → codeAt m p ≡ some c → place c ≡ p
+code-place m p h = code-hit m p h .1
+
+-- the rest r of a body, behind a job at o
+pub record Behind (o : ℕ) (r : Code) : Type 0 where
+  pub starts : o < place r
+  pub rest : place r ≤ last r
+
+-- the body b that an item at o holds, and the rest r
+pub record OneBody (o : ℕ) (b r : Code) : Type 0 where
+  pub starts : place b ≡ suc o
+  pub body : place b ≤ last b
+  pub ends : suc (last b) ≡ place r
+  pub rest : place r ≤ last r
+
+-- the bodies b and c that an item at o holds, and the rest r
+pub record TwoBodies (o : ℕ) (b c r : Code) : Type 0 where
+  pub starts : place b ≡ suc o
+  pub left : place b ≤ last b
+  pub between : suc (last b) ≡ place c
+  pub right : place c ≤ last c
+  pub ends : suc (last c) ≡ place r
+  pub rest : place r ≤ last r
+
+-- code whose parts stand one behind the other
+unfoldable pub Laid : Code → Type 0
+Laid (end-at o) = Unit {0}
+Laid (job-at o n r) = Behind o r × Laid r
+Laid (async-at o b r) = OneBody o b r × Laid b × Laid r
+Laid (finish-at o b r) = OneBody o b r × Laid b × Laid r
+Laid (fork-at o b c r) = TwoBodies o b c r × Laid b × Laid c × Laid r
+
+-- where a body that is laid out starts and ends
+pub place-locate : (o : ℕ) (b : Body) → place (locate o b) ≡ o
+unfolding locate place
+place-locate o end = refl
+place-locate o (job n r) = refl
+place-locate o (async b r) = refl
+place-locate o (finish b r) = refl
+place-locate o (fork b c r) = refl
+
+pub last-locate : (o : ℕ) (b : Body) → suc (last (locate o b)) ≡ o + size b
+unfolding locate last size numberSize encode
+last-locate o end = omega arith
+last-locate o (job n r) = omega (arith, last-locate (suc (o + numberSize n)) r, length-append (encodeNumber n) (encode r))
+last-locate o (async b r) = omega (arith, last-locate (suc (o + size b)) r, length-append (encode b) (encode r))
+last-locate o (finish b r) = omega (arith, last-locate (suc (o + size b)) r, length-append (encode b) (encode r))
+last-locate o (fork b c r) =
+    let split = length-append (encode b) (encode c ++ encode r) in
+    omega (arith, last-locate (suc (o + size b + size c)) r, split, length-append (encode c) (encode r))
+
+-- a body has a byte
+size-some : (b : Body) → 0 < size b
+unfolding size encode
+size-some end = omega arith
+size-some (job n r) = omega arith
+size-some (async b r) = omega arith
+size-some (finish b r) = omega arith
+size-some (fork b c r) = omega arith
+
+-- so it ends where it starts, or behind
+le-locate : (o : ℕ) (b : Body) → place (locate o b) ≤ last (locate o b)
+le-locate o b = omega (arith, place-locate o b, last-locate o b, size-some b)
+
+-- and what is laid out behind it starts there
+next-locate : (o o' : ℕ) (b r : Body) → o' ≡ o + size b → suc (last (locate o b)) ≡ place (locate o' r)
+next-locate o o' b r e = last-locate o b ∙ sym e ∙ sym (place-locate o' r)
+
+-- the parts of an item
+one-locate : (o o' : ℕ) (b r : Body) → o' ≡ suc o + size b → OneBody o (locate (suc o) b) (locate o' r)
+one-locate o o' b r e =
+    record {
+      starts = place-locate (suc o) b;
+      body = le-locate (suc o) b;
+      ends = next-locate (suc o) o' b r e;
+      rest = le-locate o' r;
+    }
+
+two-locate :
+    (o o' o'' : ℕ) (b c r : Body) → o' ≡ suc o + size b → o'' ≡ o' + size c
+    → TwoBodies o (locate (suc o) b) (locate o' c) (locate o'' r)
+two-locate o o' o'' b c r e e' =
+    record {
+      starts = place-locate (suc o) b;
+      left = le-locate (suc o) b;
+      between = next-locate (suc o) o' b c e;
+      right = le-locate o' c;
+      ends = next-locate o' o'' c r e';
+      rest = le-locate o'' r;
+    }
+
+-- a tree that is laid out is laid
+pub laid-locate : (o : ℕ) (b : Body) → Laid (locate o b)
+unfolding Laid locate
+laid-locate o end = tt
+laid-locate o (job n r) =
+    (record { starts = omega (arith, place-locate (suc (o + numberSize n)) r); rest = le-locate _ r }, laid-locate _ r)
+laid-locate o (async b r) = (one-locate o _ b r (omega arith), laid-locate _ b, laid-locate _ r)
+laid-locate o (finish b r) = (one-locate o _ b r (omega arith), laid-locate _ b, laid-locate _ r)
+laid-locate o (fork b c r) = (two-locate o _ _ b c r (omega arith) (omega arith), laid-locate _ b, laid-locate _ c, laid-locate _ r)
+
+-- laid code ends where it starts, or behind
+pub laid-le : (m : Code) → Laid m → place m ≤ last m
+unfolding Laid place last
+laid-le (end-at o) l = omega arith
+laid-le (job-at o n r) l = omega (arith, l .0 .starts, l .0 .rest)
+laid-le (async-at o b r) l = omega (arith, l .0 .starts, l .0 .body, l .0 .ends, l .0 .rest)
+laid-le (finish-at o b r) l = omega (arith, l .0 .starts, l .0 .body, l .0 .ends, l .0 .rest)
+laid-le (fork-at o b c r) l = omega (arith, l .0 .starts, l .0 .left, l .0 .between, l .0 .right, l .0 .ends, l .0 .rest)
+
+-- what is inside laid code is laid, and stands behind its start and before its end
+laid-inner : {m d : Code} → Inner m d → Laid m → Laid d × (place m < place d) × (last d ≤ last m)
+unfolding Laid place last
+laid-inner job-rest l = (l .1, l .0 .starts, omega arith)
+laid-inner async-body l = (l .1, omega (arith, l .0 .starts), omega (arith, l .0 .ends, l .0 .rest))
+laid-inner async-rest l = (l .2, omega (arith, l .0 .starts, l .0 .body, l .0 .ends), omega arith)
+laid-inner finish-body l = (l .1, omega (arith, l .0 .starts), omega (arith, l .0 .ends, l .0 .rest))
+laid-inner finish-rest l = (l .2, omega (arith, l .0 .starts, l .0 .body, l .0 .ends), omega arith)
+laid-inner fork-left l = (l .1, omega (arith, l .0 .starts), omega (arith, l .0 .between, l .0 .right, l .0 .ends, l .0 .rest))
+laid-inner fork-right l = (l .2, omega (arith, l .0 .starts, l .0 .left, l .0 .between), omega (arith, l .0 .ends, l .0 .rest))
+laid-inner fork-rest l = (l .3, omega (arith, l .0 .starts, l .0 .left, l .0 .between, l .0 .right, l .0 .ends), omega arith)
+
+-- the same of any part
+laid-part : {m c : Code} → Part m c → Laid m → Laid c × (place m ≤ place c) × (last c ≤ last m)
+laid-part itself l = (l, omega arith, omega arith)
+laid-part (inside i p) l =
+    let (k, s, e) = laid-inner i l in
+    let (k', s', e') = laid-part p k in
+    (k', omega (arith, s, s'), omega (arith, e, e'))
+
+-- code starts at its own place
+pub code-here : (m : Code) → codeAt m (place m) ≡ some m
+unfolding codeAt place
+code-here (end-at o) = here-now o _ _
+code-here (job-at o n r) = here-now o _ _
+code-here (async-at o b r) = here-now o _ _
+code-here (finish-at o b r) = here-now o _ _
+code-here (fork-at o b c r) = here-now o _ _
+
+-- what starts at a place is laid, and stands within
+pub code-laid : (m : Code) (p : ℕ) {c : Code} → Laid m → codeAt m p ≡ some c → Laid c
+code-laid m p l h = laid-part (code-part m p h) l .0
+
+pub code-range :
+    (m : Code) (p : ℕ) {c : Code} → Laid m → codeAt m p ≡ some c → (place m ≤ p) × (p ≤ last c) × (last c ≤ last m)
+code-range m p {c} l h =
+    let at : place c ≡ p = code-place m p h in
+    let (k, s, e) = laid-part (code-part m p h) l in
+    (omega (arith, s), omega (arith, laid-le c k), e)
+
+-- nothing starts outside
+pub code-missing : (m : Code) (p : ℕ) → Laid m → (place m ≤ p → p ≤ last m → ⊥) → codeAt m p ≡ none
+code-missing m p l out = go (codeAt m p) refl
+  where
+    go : (x : Option Code) → codeAt m p ≡ x → x ≡ none
+    go none h = refl
+    go (some c) h = let (s, i, e) = code-range m p l h in absurd (out s (omega (arith, i, e)))
+
+-- in particular behind its end
+code-behind : (m : Code) (p : ℕ) → Laid m → last m < p → codeAt m p ≡ none
+code-behind m p l h = code-missing m p l (λ u v. absurd (omega arith))
+
+-- what starts inside starts there in the whole
+code-within :
+    {m d c : Code} (p : ℕ) → Inner m d → Laid m → place m < p → place d ≤ p → codeAt d p ≡ some c → codeAt m p ≡ some c
+unfolding Laid codeAt place
+code-within p job-rest l lt le h = here-later _ p _ _ lt ∙ h
+code-within p async-body l lt le h = here-later _ p _ _ lt ∙ orElse-some _ h
+code-within p (async-rest {b = b}) l lt le h =
+    here-later _ p _ _ lt ∙ orElse-none _ (code-behind b p (l .1) (omega (arith, l .0 .ends))) ∙ h
+code-within p finish-body l lt le h = here-later _ p _ _ lt ∙ orElse-some _ h
+code-within p (finish-rest {b = b}) l lt le h =
+    here-later _ p _ _ lt ∙ orElse-none _ (code-behind b p (l .1) (omega (arith, l .0 .ends))) ∙ h
+code-within p fork-left l lt le h = here-later _ p _ _ lt ∙ orElse-some _ h
+code-within p (fork-right {b = b}) l lt le h =
+    here-later _ p _ _ lt ∙ orElse-none _ (code-behind b p (l .1) (omega (arith, l .0 .between))) ∙ orElse-some _ h
+code-within p (fork-rest {b = b} {c = c}) l lt le h =
+    here-later _ p _ _ lt
+    ∙ orElse-none _ (code-behind b p (l .1) (omega (arith, l .0 .between, l .0 .right, l .0 .ends)))
+    ∙ orElse-none _ (code-behind c p (l .2) (omega (arith, l .0 .ends)))
+    ∙ h
+
+-- each part starts at its place
+pub part-code : {m c : Code} → Part m c → Laid m → codeAt m (place c) ≡ some c
+part-code {m} itself l = code-here m
+part-code {c = c} (inside i q) l =
+    let (k, s, e) = laid-inner i l in
+    let (k', s', e') = laid-part q k in
+    code-within (place c) i l (omega (arith, s, s')) s' (part-code q k)
+
+-- what is right inside code that starts at a place starts at its own place
+pub code-inner : (m : Code) (p : ℕ) {c d : Code} → Laid m → codeAt m p ≡ some c → Inner c d → codeAt m (place d) ≡ some d
+code-inner m p l h i = part-code (join (code-part m p h) (inside i itself)) l
+
+-- code ends with an end byte
+last-part : (m : Code) → Part m (end-at (last m))
+unfolding last
+last-part (end-at o) = itself
+last-part (job-at o n r) = inside job-rest (last-part r)
+last-part (async-at o b r) = inside async-rest (last-part r)
+last-part (finish-at o b r) = inside finish-rest (last-part r)
+last-part (fork-at o b c r) = inside fork-rest (last-part r)
+
+-- so an end byte stands at its last place
+pub code-end : (m : Code) → Laid m → codeAt m (last m) ≡ some (end-at (last m))
+unfolding place
+code-end m l = part-code (last-part m) l
+
+pub code-last : (m : Code) (p : ℕ) {c : Code} → Laid m → codeAt m p ≡ some c → codeAt m (last c) ≡ some (end-at (last c))
+unfolding place
+code-last m p {c} l h = part-code (join (code-part m p h) (last-part c)) l
+
+-- where the parts of an item stand
+pub job-order : (m : Code) (p : ℕ) {o n : ℕ} {r : Code} → Laid m → codeAt m p ≡ some (job-at o n r) → Behind o r
+unfolding Laid
+job-order m p l h = code-laid m p l h .0
+
+pub async-order : (m : Code) (p : ℕ) {o : ℕ} {b r : Code} → Laid m → codeAt m p ≡ some (async-at o b r) → OneBody o b r
+unfolding Laid
+async-order m p l h = code-laid m p l h .0
+
+pub finish-order : (m : Code) (p : ℕ) {o : ℕ} {b r : Code} → Laid m → codeAt m p ≡ some (finish-at o b r) → OneBody o b r
+unfolding Laid
+finish-order m p l h = code-laid m p l h .0
+
+pub fork-order : (m : Code) (p : ℕ) {o : ℕ} {b c r : Code} → Laid m → codeAt m p ≡ some (fork-at o b c r) → TwoBodies o b c r
+unfolding Laid
+fork-order m p l h = code-laid m p l h .0
+
+-- what stands at a place of a program
+pub item-stands :
+    (bytes : List ℕ) (t : Body) (p : ℕ) {c : Code} → reading bytes ≡ program t → codeAt (locate 0 t) p ≡ some c
+    → itemAt bytes p ≡ head c
+unfolding itemAt standsIn found
+item-stands bytes t p r h = rw (r, h) refl

@@ -1,0 +1,129 @@
+-- Reading a whole program, by what its main body comes to.
+use Prim.Native.Nat.{ℕ, _-_, _<_, _≤_}
+use mathlib.Core.Path.{_≡_, refl, sym, ap, _∙_}
+use mathlib.Core.Bool.{Bool, true, false, cond}
+use mathlib.Core.List.{List, [], _∷_, _++_, append-nil}
+use mathlib.Core.Logic.{_⊎_, inl, inr}
+use native.Mathlib.Omega.{arith}
+use lib.Dec.{eqb, leb}
+use lib.ListN.{length}
+use borrow.Author.Tests.{eqb-true, eqb-false, ne-eqb, eq-eqb, leb-true, leb-false, le-leb, lt-leb}
+use Rattle.program.specs.Limits.{programBytes, vertexLimit}
+use Rattle.program.specs.Trees.{Body, end, job, async, finish, fork}
+use Rattle.program.specs.Bytes.{encode, size}
+use Rattle.program.specs.Encodings.{firstEdition, vertices}
+use Rattle.program.specs.Reader.{Read, took, refused, body, Reading, program, refusal, counted, whole, reading, length-outside, bytes-after-end, too-many-vertices}
+use Rattle.program.specs.Claims.{Fits, Loadable}
+use Rattle.program.proofs.Soundness.{body-sound, body-fits}
+use Rattle.program.proofs.Completeness.{body-complete}
+
+-- a program's length
+abbrev pub Within : List ℕ → Type 0
+Within bytes = (0 < length bytes) × (length bytes ≤ programBytes)
+
+abbrev pub Outside : List ℕ → Type 0
+Outside bytes = (length bytes ≡ 0) ⊎ (programBytes < length bytes)
+
+-- What reading a whole program comes to, and why.
+pub data Comes (bytes : List ℕ) : Reading → Type 0 where
+  outside : Outside bytes → Comes bytes (refusal length-outside 0)
+  stopped : (n : ℕ) (left : List ℕ) → Within bytes → body 1 bytes ≡ refused n left → Comes bytes (refusal n (length bytes - length left))
+  overran :
+      (b : Body) (x : ℕ) (left : List ℕ) → Within bytes → body 1 bytes ≡ took b (x ∷ left)
+      → Comes bytes (refusal bytes-after-end (length bytes - length (x ∷ left)))
+  crowds :
+      (b : Body) → Within bytes → body 1 bytes ≡ took b [] → vertexLimit < vertices firstEdition b
+      → Comes bytes (refusal too-many-vertices 0)
+  loaded : (b : Body) → Within bytes → body 1 bytes ≡ took b [] → vertices firstEdition b ≤ vertexLimit → Comes bytes (program b)
+
+-- a length outside is refused
+pub reading-outside : (bytes : List ℕ) → Outside bytes → reading bytes ≡ refusal length-outside 0
+unfolding reading
+reading-outside bytes (inl e) = rw (eq-eqb (length bytes) 0 e) refl
+reading-outside bytes (inr l) =
+    let ne : length bytes ≡ 0 → ⊥ = omega arith in
+    rw (ne-eqb (length bytes) 0 ne, lt-leb (length bytes) programBytes l) refl
+
+-- within, it is up to the main body
+pub reading-within : (bytes : List ℕ) → Within bytes → reading bytes ≡ whole (length bytes) (body 1 bytes)
+unfolding reading
+reading-within bytes (p, q) =
+    let ne : length bytes ≡ 0 → ⊥ = omega arith in
+    rw (ne-eqb (length bytes) 0 ne, le-leb (length bytes) programBytes q) refl
+
+counted-comes : (bytes : List ℕ) → Within bytes → (b : Body) → body 1 bytes ≡ took b [] → Comes bytes (counted b)
+unfolding counted
+counted-comes bytes w b e = go (leb (vertices firstEdition b) vertexLimit) refl
+  where
+    go : (t : Bool) → leb (vertices firstEdition b) vertexLimit ≡ t → Comes bytes (cond t (program b) (refusal too-many-vertices 0))
+    go true h = loaded b w e (leb-true (vertices firstEdition b) vertexLimit h)
+    go false h = crowds b w e (leb-false (vertices firstEdition b) vertexLimit h)
+
+main-comes : (bytes : List ℕ) → Within bytes → (o : Read Body) → body 1 bytes ≡ o → Comes bytes (whole (length bytes) o)
+unfolding whole
+main-comes bytes w (took b []) e = counted-comes bytes w b e
+main-comes bytes w (took b (x ∷ left)) e = overran b x left w e
+main-comes bytes w (refused n left) e = stopped n left w e
+
+pub reading-comes : (bytes : List ℕ) → Comes bytes (reading bytes)
+reading-comes bytes = first (eqb (length bytes) 0) refl
+  where
+    second : 0 < length bytes → (t : Bool) → leb (length bytes) programBytes ≡ t → Comes bytes (reading bytes)
+    second p true h =
+        let w : Within bytes = (p, leb-true (length bytes) programBytes h) in
+        rw (reading-within bytes w) (main-comes bytes w (body 1 bytes) refl)
+    second p false h =
+        let o : Outside bytes = inr (leb-false (length bytes) programBytes h) in
+        rw (reading-outside bytes o) (outside o)
+
+    first : (t : Bool) → eqb (length bytes) 0 ≡ t → Comes bytes (reading bytes)
+    first true h =
+        let o : Outside bytes = inl (eqb-true (length bytes) 0 h) in
+        rw (reading-outside bytes o) (outside o)
+    first false h =
+        let ne = eqb-false (length bytes) 0 h in
+        second (omega arith) (leb (length bytes) programBytes) refl
+
+-- the end of a main body that takes all bytes
+pub counted-loads : (b : Body) → vertices firstEdition b ≤ vertexLimit → counted b ≡ program b
+unfolding counted
+counted-loads b h = rw (le-leb (vertices firstEdition b) vertexLimit h) refl
+
+pub counted-crowded : (b : Body) → vertexLimit < vertices firstEdition b → counted b ≡ refusal too-many-vertices 0
+unfolding counted
+counted-crowded b h = rw (lt-leb (vertices firstEdition b) vertexLimit h) refl
+
+-- a tree that fits is read back from its bytes, whatever stands behind them
+pub main-complete : (b : Body) (rest : List ℕ) → Fits b → body 1 (encode b ++ rest) ≡ took b rest
+main-complete b rest f = let l = f .levels in body-complete 1 b rest (f .numbers) (omega arith)
+
+-- and what is read from the start of bytes is such a tree, and stands there
+pub main-sound : (bytes : List ℕ) (b : Body) (rest : List ℕ) → body 1 bytes ≡ took b rest → (bytes ≡ encode b ++ rest) × Fits b
+main-sound bytes b rest e =
+    let (p, q) = body-fits 1 bytes b rest e (omega arith) in
+    (body-sound 1 bytes b rest e, record { numbers = p; levels = omega arith })
+
+-- an encoding has a byte at least
+pub encode-positive : (b : Body) → 0 < length (encode b)
+unfolding encode
+encode-positive end = omega arith
+encode-positive (job n r) = omega arith
+encode-positive (async b r) = omega arith
+encode-positive (finish b r) = omega arith
+encode-positive (fork b c r) = omega arith
+
+-- the same of bytes that the main body takes all,
+pub all-sound : (bytes : List ℕ) (b : Body) → body 1 bytes ≡ took b [] → (bytes ≡ encode b) × Fits b
+all-sound bytes b e = let (p, q) = main-sound bytes b [] e in (p ∙ append-nil (encode b), q)
+
+-- and of all bytes of a tree that fits
+pub all-complete : (b : Body) → Fits b → body 1 (encode b) ≡ took b []
+all-complete b f = ap (body 1) (sym (append-nil (encode b))) ∙ main-complete b [] f
+
+-- what is accepted
+pub loaded-sound : (bytes : List ℕ) (b : Body) → Comes bytes (program b) → (bytes ≡ encode b) × Loadable b
+unfolding size
+loaded-sound bytes b (loaded _ w e v) =
+    let (p, q) = all-sound bytes b e in
+    let l : length bytes ≤ programBytes = w .1 in
+    (p, record { fits = q; bytes = (rw p at l); made = v })

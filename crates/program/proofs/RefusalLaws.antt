@@ -1,0 +1,153 @@
+-- From why reading stops to what the refusals say.
+use Prim.Native.Nat.{ℕ, _-_, _<_}
+use mathlib.Core.Path.{_≡_, refl, sym, ap, subst, _∙_}
+use mathlib.Core.List.{List, [], _∷_, _++_, append-assoc}
+use mathlib.Core.Logic.{_⊎_, inl, inr}
+use native.Mathlib.Omega.{arith}
+use lib.ListN.{length, length-append}
+use Rattle.program.specs.Limits.{programBytes}
+use Rattle.program.specs.Trees.{Body}
+use Rattle.program.specs.Bytes.{encode}
+use Rattle.program.specs.Reader.{Read, took, refused, body, refusal, whole, reading, length-outside, bytes-run-out, bytes-after-end, too-many-vertices}
+use Rattle.program.specs.Claims.{Fits, Encoding, encoding, Extends, extended, Unfinished, unfinished, Overlong, overlong, Crowded, crowded, ByPlace, Offends, too-long, not-shortest, unknown, opener, too-large, Blamed, blamed}
+use Rattle.program.proofs.Soundness.{FitsAt, fits-limits}
+use Rattle.program.proofs.StopLaws.{Stop, ran-out, offended, body-stop}
+use Rattle.program.proofs.ReadingLaws.{Within, Comes, outside, stopped, overran, crowds, reading-within, counted-crowded, main-sound, main-complete, all-sound, all-complete}
+
+-- a tree that may stand at level 1 is within the limits
+fits-main : (b : Body) → FitsAt 1 b → Fits b
+fits-main b f = let (p, q) = fits-limits 1 b f (omega arith) in record { numbers = p; levels = omega arith }
+
+-- no other refusal is one of these
+by-place : (n : ℕ) → ByPlace n → (length-outside < n) × (n < too-many-vertices) × (n ≡ bytes-run-out → ⊥) × (n ≡ bytes-after-end → ⊥)
+by-place n (inl e) = omega arith
+by-place n (inr (inl e)) = omega arith
+by-place n (inr (inr (inl e))) = omega arith
+by-place n (inr (inr (inr e))) = omega arith
+
+-- an offence is one
+offence : (n : ℕ) (bad : List ℕ) → Offends n bad → ByPlace n
+offence n bad (too-long number e t) = inl refl
+offence n bad (not-shortest b groups t) = inl refl
+offence n bad (unknown x l) = inr (inl refl)
+offence n bad (opener x p q) = inr (inr (inl refl))
+offence n bad (too-large m l r) = inr (inr (inr refl))
+
+-- bytes that are refused whatever stands behind them begin no encoding
+refused-for-good : (before bad : List ℕ) (n : ℕ) → ((zs : List ℕ) → body 1 (before ++ (bad ++ zs)) ≡ refused n (bad ++ zs))
+    → (zs : List ℕ) → Encoding (before ++ (bad ++ zs)) → ⊥
+refused-for-good before bad n s zs (encoding b f e) =
+    let h : took b [] ≡ refused n (bad ++ zs) = sym (all-complete b f) ∙ ap (body 1) (sym e) ∙ s zs in
+    let z : _≡_ {A = ℕ} 0 1 = cc in
+    omega arith
+
+-- a main body is refused by 2 to 5 or by 7
+stop-number : (bytes : List ℕ) (n : ℕ) (left : List ℕ) → Stop encode (FitsAt 1) (body 1) bytes n left
+    → (length-outside < n) × (n < too-many-vertices) × (n ≡ bytes-after-end → ⊥)
+stop-number bytes n left (ran-out b x more f e) = omega arith
+stop-number bytes n left (offended before bad rest e q o b more f t s) = let c = by-place n (offence n bad o) in omega arith
+
+-- the length of what stands before the rest
+before-length : (xs before rest : List ℕ) → xs ≡ before ++ rest → length xs - length rest ≡ length before
+before-length xs before rest e =
+    let h : length xs ≡ length (before ++ rest) = ap length e in
+    omega (arith, length-append before rest)
+
+-- a main body that ran out
+out-stop : (bytes : List ℕ) (n : ℕ) (left : List ℕ) → n ≡ bytes-run-out → Stop encode (FitsAt 1) (body 1) bytes n left
+    → Unfinished bytes × (length bytes - length left ≡ length bytes)
+out-stop bytes n left h (ran-out b x more f e) = (unfinished x more (encoding b (fits-main b f) (sym e)), omega arith)
+out-stop bytes n left h (offended before bad rest e q o b more f t s) = let c = by-place n (offence n bad o) in absurd (omega arith)
+
+pub out-comes : (bytes : List ℕ) (n p : ℕ) → n ≡ bytes-run-out → Comes bytes (refusal n p) → Unfinished bytes × (p ≡ length bytes)
+out-comes bytes n p h (outside o) = absurd (omega arith)
+out-comes bytes n p h (stopped _ left w e) = out-stop bytes n left h (body-stop 1 bytes n left e)
+out-comes bytes n p h (overran b x left w e) = absurd (omega arith)
+out-comes bytes n p h (crowds b w e v) = absurd (omega arith)
+
+-- bytes that hold a whole main body are no proper prefix of an encoding
+took-whole : (bytes : List ℕ) (c : Body) (rest : List ℕ) → body 1 bytes ≡ took c rest → (x : ℕ) (more : List ℕ)
+    → Encoding (bytes ++ (x ∷ more)) → ⊥
+took-whole bytes c rest e x more (encoding b g q) =
+    let (p, f) = main-sound bytes c rest e in
+    let h : took b [] ≡ took c (rest ++ (x ∷ more)) =
+    sym (all-complete b g)
+    ∙ ap (body 1) (sym q ∙ ap (λ (l : List ℕ). l ++ (x ∷ more)) p ∙ append-assoc (encode c) rest (x ∷ more))
+    ∙ main-complete c (rest ++ (x ∷ more)) f
+    in
+    let k : [] ≡ rest ++ (x ∷ more) = cc in
+    let l : 0 ≡ length (rest ++ (x ∷ more)) = ap length k in
+    omega (arith, length-append rest (x ∷ more))
+
+split : (before bad rest more : List ℕ) → (before ++ (bad ++ rest)) ++ more ≡ before ++ (bad ++ (rest ++ more))
+split before bad rest more = simp append-assoc
+
+-- nor are bytes that offend
+offended-whole : (bytes : List ℕ) (n : ℕ) (left : List ℕ) → Stop encode (FitsAt 1) (body 1) bytes n left → (x : ℕ) (more : List ℕ)
+    → Encoding (bytes ++ (x ∷ more)) → _≡_ {A = Read Body} (refused n left) (refused bytes-run-out [])
+offended-whole bytes n left (ran-out b y others f e) x more h = refl
+offended-whole bytes n left (offended before bad rest e q o b others f t s) x more h =
+    absurd (refused-for-good before bad n s (rest ++ (x ∷ more))
+    (subst Encoding (ap (λ (l : List ℕ). l ++ (x ∷ more)) e ∙ split before bad rest (x ∷ more)) h))
+
+-- a proper prefix of an encoding runs out
+pub prefix-out : (bytes : List ℕ) → Unfinished bytes → body 1 bytes ≡ refused bytes-run-out []
+prefix-out bytes (unfinished x more h) = go (body 1 bytes) refl
+  where
+    go : (o : Read Body) → body 1 bytes ≡ o → o ≡ refused bytes-run-out []
+    go (took c rest) e = absurd (took-whole bytes c rest e x more h)
+    go (refused n left) e = offended-whole bytes n left (body-stop 1 bytes n left e) x more h
+
+-- a main body with bytes behind it
+pub after-comes : (bytes : List ℕ) (n p : ℕ) → n ≡ bytes-after-end → Comes bytes (refusal n p) → Overlong bytes p
+after-comes bytes n p h (outside o) = absurd (omega arith)
+after-comes bytes n p h (stopped _ left w e) = let c = stop-number bytes n left (body-stop 1 bytes n left e) in absurd (omega arith)
+after-comes bytes n p h (overran b x left w e) =
+    let (q, f) = main-sound bytes b (x ∷ left) e in
+    overlong (encode b) x left (encoding b f refl) q (before-length bytes (encode b) (x ∷ left) q)
+after-comes bytes n p h (crowds b w e v) = absurd (omega arith)
+
+pub overlong-after : (bytes : List ℕ) (p : ℕ) → Within bytes → Overlong bytes p → reading bytes ≡ refusal bytes-after-end p
+unfolding whole
+overlong-after bytes p w (overlong begun x more (encoding b f e) q h) =
+    let k : bytes ≡ encode b ++ (x ∷ more) = q ∙ ap (λ (l : List ℕ). l ++ (x ∷ more)) e in
+    let t : body 1 bytes ≡ took b (x ∷ more) = ap (body 1) k ∙ main-complete b (x ∷ more) f in
+    reading-within bytes w
+    ∙ rw t (ap (refusal bytes-after-end) (before-length bytes begun (x ∷ more) q ∙ sym h))
+
+none-extends : (before bad : List ℕ) (n : ℕ) → ((zs : List ℕ) → body 1 (before ++ (bad ++ zs)) ≡ refused n (bad ++ zs))
+    → Extends (before ++ bad) → ⊥
+none-extends before bad n s (extended more h) = refused-for-good before bad n s more (rw (append-assoc before bad more) at h)
+
+-- a main body that is refused for bytes that offend
+blamed-stop : (bytes : List ℕ) (n : ℕ) (left : List ℕ) → ByPlace n → Stop encode (FitsAt 1) (body 1) bytes n left
+    → Blamed bytes n (length bytes - length left)
+blamed-stop bytes n left h (ran-out b x more f e) = let c = by-place n h in absurd (omega arith)
+blamed-stop bytes n left h (offended before bad rest e q o b more f t s) =
+    blamed before bad rest e (ap (λ (l : List ℕ). length bytes - length l) q ∙ before-length bytes before (bad ++ rest) e) o
+    (extended more (encoding b (fits-main b f) (sym t))) (none-extends before bad n s)
+
+pub blamed-comes : (bytes : List ℕ) (n p : ℕ) → ByPlace n → Comes bytes (refusal n p) → Blamed bytes n p
+blamed-comes bytes n p h (outside o) = let c = by-place n h in absurd (omega arith)
+blamed-comes bytes n p h (stopped _ left w e) = blamed-stop bytes n left h (body-stop 1 bytes n left e)
+blamed-comes bytes n p h (overran b x left w e) = let c = by-place n h in absurd (omega arith)
+blamed-comes bytes n p h (crowds b w e v) = let c = by-place n h in absurd (omega arith)
+
+pub outside-comes : (bytes : List ℕ) (n p : ℕ) → n ≡ length-outside → Comes bytes (refusal n p)
+    → ((length bytes ≡ 0) ⊎ (programBytes < length bytes)) × (p ≡ 0)
+outside-comes bytes n p h (outside o) = (o, refl)
+outside-comes bytes n p h (stopped _ left w e) = let c = stop-number bytes n left (body-stop 1 bytes n left e) in absurd (omega arith)
+outside-comes bytes n p h (overran b x left w e) = absurd (omega arith)
+outside-comes bytes n p h (crowds b w e v) = absurd (omega arith)
+
+pub crowded-comes : (bytes : List ℕ) (n p : ℕ) → n ≡ too-many-vertices → Comes bytes (refusal n p) → Crowded bytes × (p ≡ 0)
+crowded-comes bytes n p h (outside o) = absurd (omega arith)
+crowded-comes bytes n p h (stopped _ left w e) = let c = stop-number bytes n left (body-stop 1 bytes n left e) in absurd (omega arith)
+crowded-comes bytes n p h (overran b x left w e) = absurd (omega arith)
+crowded-comes bytes n p h (crowds b w e v) = let (q, f) = all-sound bytes b e in (crowded b f q v, refl)
+
+pub crowded-reads : (bytes : List ℕ) → Within bytes → Crowded bytes → reading bytes ≡ refusal too-many-vertices 0
+unfolding whole
+crowded-reads bytes w (crowded b f e v) =
+    let t : body 1 bytes ≡ took b [] = ap (body 1) e ∙ all-complete b f in
+    reading-within bytes w ∙ rw t (counted-crowded b v)

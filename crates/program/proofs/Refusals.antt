@@ -1,0 +1,52 @@
+-- The refusals of a program's writer say what the paper says of them. A refusal names bytes that run out exactly if the program is a
+-- proper prefix of an encoding, bytes after the end exactly if a proper prefix of it is one, and 2, 3, 4 and 7 blame the first bytes
+-- that cannot be completed.
+use Prim.Native.Nat.{ℕ, _<_, _≤_}
+use mathlib.Core.Path.{_≡_, refl, sym, ap, _∙_}
+use mathlib.Core.List.{List}
+use mathlib.Core.Logic.{_⊎_, _↔_}
+use native.Mathlib.Nat.{sub-zero}
+use lib.ListN.{length}
+use Rattle.program.specs.Limits.{programBytes}
+use Rattle.program.specs.Reader.{refusal, whole, reading, length-outside, bytes-run-out, bytes-after-end, too-many-vertices}
+use Rattle.program.specs.Claims.{Unfinished, Overlong, Crowded, ByPlace, Blamed}
+use Rattle.program.proofs.ReadingLaws.{reading-comes, reading-outside, reading-within}
+use Rattle.program.proofs.RefusalLaws.{out-comes, prefix-out, after-comes, overlong-after, blamed-comes, outside-comes, crowded-comes, crowded-reads}
+
+-- "1": exactly where a program has no bytes, or more than the limit; it has no place.
+pub outside-exactly : (bytes : List ℕ) (p : ℕ)
+    → (reading bytes ≡ refusal length-outside p) ↔ (((length bytes ≡ 0) ⊎ (programBytes < length bytes)) × (p ≡ 0))
+outside-exactly bytes p = (
+  λ e. outside-comes bytes length-outside p refl (rw e at (reading-comes bytes)),
+  λ (o, q). reading-outside bytes o ∙ ap (refusal length-outside) (sym q),
+)
+
+-- "5 bytes run out": exactly where the program is a proper prefix of an encoding, and at its end.
+pub run-out : (bytes : List ℕ) (p : ℕ) → 0 < length bytes → length bytes ≤ programBytes
+    → (reading bytes ≡ refusal bytes-run-out p) ↔ (Unfinished bytes × (p ≡ length bytes))
+unfolding whole
+run-out bytes p l m = (
+  λ e. out-comes bytes bytes-run-out p refl (rw e at (reading-comes bytes)),
+  λ (u, q). reading-within bytes (l, m) ∙ rw (prefix-out bytes u) (ap (refusal bytes-run-out) (sub-zero (length bytes) ∙ sym q)),
+)
+
+-- "6 bytes after the end": exactly where a proper prefix of the program is an encoding, and at the end of that.
+pub after-end : (bytes : List ℕ) (p : ℕ) → 0 < length bytes → length bytes ≤ programBytes
+    → (reading bytes ≡ refusal bytes-after-end p) ↔ Overlong bytes p
+after-end bytes p l m = (
+  λ e. after-comes bytes bytes-after-end p refl (rw e at (reading-comes bytes)),
+  λ o. overlong-after bytes p (l, m) o,
+)
+
+-- "2, 3, 4 and 7 at p": the bytes before p can be completed to an encoding, the bytes at p offend as the number says, and together they
+-- cannot be completed.
+pub blame : (bytes : List ℕ) (n p : ℕ) → ByPlace n → reading bytes ≡ refusal n p → Blamed bytes n p
+blame bytes n p h e = blamed-comes bytes n p h (rw e at (reading-comes bytes))
+
+-- "8 V above 1,024": exactly where the program is the encoding of a tree that makes too many vertices; it has no place.
+pub crowded-exactly : (bytes : List ℕ) (p : ℕ) → 0 < length bytes → length bytes ≤ programBytes
+    → (reading bytes ≡ refusal too-many-vertices p) ↔ (Crowded bytes × (p ≡ 0))
+crowded-exactly bytes p l m = (
+  λ e. crowded-comes bytes too-many-vertices p refl (rw e at (reading-comes bytes)),
+  λ (c, q). crowded-reads bytes (l, m) c ∙ ap (refusal too-many-vertices) (sym q),
+)

@@ -1,0 +1,76 @@
+-- What reading a whole program comes to: one law for each path through `read` and `at_end`.
+use Prim.Native.Nat.{ℕ, _+_, _-_, _<_, _≤_}
+use mathlib.Core.Path.{_≡_, refl, sym, ap, ap₂, _∙_}
+use mathlib.Core.Bool.{Bool, true, false, cond}
+use mathlib.Core.List.{List, [], _∷_}
+use native.Mathlib.Nat.{zero-add, sub-zero}
+use native.Mathlib.Omega.{arith}
+use lib.Dec.{leb}
+use lib.ListN.{length}
+use borrow.Author.Tests.{lt-ltb, le-ltb, le-leb, lt-leb}
+use Rattle.program.specs.Limits.{vertexLimit}
+use Rattle.program.specs.Trees.{Body, Counts, counts}
+use Rattle.program.specs.Encodings.{vertexFormula}
+use Rattle.program.specs.Reader.{Read, took, refused, bytes-after-end, length-outside, too-many-vertices, body, program, refusal, counted, whole, reading}
+use Rattle.program.specs.Answers.{Said, loads, told}
+use Rattle.program.specs.Progress.{plus, Progress, past, stopped, progress, finished}
+use Rattle.program.proofs.Formulas.{vertices-formula}
+use Rattle.program.proofs.ReadingLaws.{Within, Outside, reading-outside, reading-within}
+
+-- bytes are left behind the main body's end
+pub bytes-left : (len place : ℕ) (c : Counts) → place < len → Said.refused bytes-after-end place ≡ finished len place c
+unfolding finished
+bytes-left len place c lt = rw (lt-ltb place len lt) refl
+
+-- none are, and there are too many vertices
+pub vertices-over :
+    (len place : ℕ) (c : Counts) → len ≤ place → vertexLimit < vertexFormula c → Said.refused too-many-vertices 0 ≡ finished len place c
+unfolding finished
+vertices-over len place c le over = rw (le-ltb place len le, lt-leb (vertexFormula c) vertexLimit over) refl
+
+-- none are, and there are not
+pub all-read : (len place : ℕ) (c : Counts) → len ≤ place → vertexFormula c ≤ vertexLimit → loads c ≡ finished len place c
+unfolding finished
+all-read len place c le few = rw (le-ltb place len le, le-leb (vertexFormula c) vertexLimit few) refl
+
+-- there are no bytes, or too many
+pub read-outside : (xs : List ℕ) → Outside xs → Said.refused length-outside 0 ≡ told (reading xs)
+unfolding told
+read-outside xs out = sym (ap told (reading-outside xs out))
+
+-- what was counted before the first item
+abbrev none-seen : Counts
+none-seen = record { w = 0; a = 0; f = 0; k = 0 }
+
+plus-none : (c : Counts) → plus none-seen c ≡ c
+unfolding plus
+plus-none c = rw (zero-add (c .w), zero-add (c .a), zero-add (c .f), zero-add (c .k)) refl
+
+-- the main body ends with the program
+counted-said : (len : ℕ) (b : Body) → finished len len (counts b) ≡ told (counted b)
+unfolding finished counted told
+counted-said len b = rw (le-ltb len len (omega arith), vertices-formula b) (go (leb (vertexFormula (counts b)) vertexLimit))
+  where
+    go : (t : Bool) → cond t (loads (counts b)) (Said.refused too-many-vertices 0) ≡ told (cond t (program b) (refusal too-many-vertices 0))
+    go true = refl
+    go false = refl
+
+-- a reader behind the main body, or its refusal
+abbrev pub concluded : ℕ → Progress → Said
+concluded len (past p c) = finished len p c
+concluded len (stopped n p) = Said.refused n p
+
+body-said : (len : ℕ) (r : Read Body) → 0 < len → concluded len (progress counts len none-seen r) ≡ told (whole len r)
+unfolding progress whole told
+body-said len (took b []) some = ap₂ (λ (o : ℕ) (d : Counts). finished len o d) (sub-zero len) (plus-none (counts b)) ∙ counted-said len b
+body-said len (took b (x ∷ left)) some = sym (bytes-left len (len - length (x ∷ left)) (plus none-seen (counts b)) (omega arith))
+body-said len (refused n left) some = refl
+
+-- the program comes to what its main body does
+pub main-said :
+    (xs : List ℕ) (g : Progress) → Within xs → g ≡ progress counts (0 + length xs) none-seen (body 1 xs)
+    → concluded (length xs) g ≡ told (reading xs)
+main-said xs g within is =
+    ap (concluded (length xs)) (is ∙ ap (λ (m : ℕ). progress counts m none-seen (body 1 xs)) (zero-add (length xs)))
+    ∙ body-said (length xs) (body 1 xs) (within .0)
+    ∙ ap told (sym (reading-within xs within))

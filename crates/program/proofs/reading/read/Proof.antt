@@ -1,0 +1,29 @@
+-- The length is outside the limits, the main body is refused, or it ended.
+use mathlib.Core.Path.{sym, ap, _∙_}
+use mathlib.Core.Logic.{inl, inr}
+use native.Mathlib.Omega.{arith}
+use borrow.Author.Needs.{needs}
+use Rattle.program.specs.Progress.{reached}
+use Rattle.program.proofs.WholeLaws.{read-outside, main-said}
+use Rattle.program.proofs.reading.read.Statement.{statement}
+use Rattle.program.proofs.reading.read.Tie as tie
+
+pub read-spec : {M : Type 1} → statement M
+read-spec =
+    tie.close
+    (tie.spec
+    (λ c κs. search needs)
+    (λ c. c .refused .ensures ∙ read-outside _ (inl (c .before .if1 .taken)))
+    (λ c κs. search needs)
+    (λ c. c .refused2 .ensures ∙ read-outside _ (inr (c .before .if2 .taken)))
+    (λ c κs. search needs)
+    (λ c. search needs)
+    (λ c. search needs)
+    (λ c κs. search needs)
+    (λ c.
+    main-said _ _ (omega arith, c .before .before .before .before .if2 .left)
+    (ap reached (sym (c .before .main .given .1)) ∙ c .before .before .before .body .ensures))
+    (λ c.
+    c .at-end .ensures
+    ∙ main-said _ _ (omega arith, c .before .before .before .before .before .if2 .left)
+    (ap reached (sym (c .before .before .main2 .given .1)) ∙ c .before .before .before .before .body .ensures)))
