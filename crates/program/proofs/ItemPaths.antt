@@ -31,10 +31,12 @@ grown c (Progress.stopped n p) = Progress.stopped n p
 
 -- ---- a job
 
+-- what a job comes to whose number comes to this
 unfoldable counted-job : NumberProgress → Progress
 counted-job (value n p s) = past p (plus s (oneOf jobByte))
 counted-job (NumberProgress.stopped n p) = Progress.stopped n p
 
+-- as the definition has it
 job-is : (len : ℕ) (s : Counts) (o : Read ℕ)
     → counted-job (numberProgress len s o) ≡ progress countsOf len s (andThen o (λ n rest. took (a-job n) rest))
 unfolding counted-job numberProgress progress andThen countsOf counts total same ahead oneOf
@@ -74,6 +76,7 @@ same-seen len s n p t (refused m left) h = absurd (subst Is-value h tt)
     Is-value (value m q c) = Unit {0}
     Is-value (NumberProgress.stopped m q) = ⊥
 
+-- so it has few behind a job's number
 pub job-few : (len : ℕ) (r : Reader) (xs : List ℕ) {res : NumberRead} (n : ℕ) (r' : Reader) → Ready r xs → res ≡ of-number.Number n r'
     → reachedNumber res ≡ numberProgress len (itemCounts (r .seen)) (number xs) → Few (itemCounts (r' .seen))
 job-few len r xs n r' h p q =
@@ -88,6 +91,7 @@ data Opener (x : ℕ) : Type 0 where
   of-finish : x ≡ finishByte → Opener x
   of-fork : x ≡ forkByte → Opener x
 
+-- one of three
 opener : (x : ℕ) → asyncByte ≤ x → x ≤ forkByte → Opener x
 opener zero ge le = absurd (omega arith)
 opener (suc zero) ge le = absurd (omega arith)
@@ -114,15 +118,17 @@ opens level x left (of-fork p) lt = ap (λ (y : ℕ). item body level (y ∷ lef
 equal-counts : (c d : Counts) → c .w ≡ d .w → c .a ≡ d .a → c .f ≡ d .f → c .k ≡ d .k → c ≡ d
 equal-counts c d p q r s = λ i. record { w = p i; a = q i; f = r i; k = s i }
 
--- the counts of an item that holds bodies
+-- what an async counts,
 async-counts : (b : Body) → plus (counts b) (oneOf asyncByte) ≡ countsOf (an-async b)
 unfolding plus counts countsOf oneOf total same ahead
 async-counts b = equal-counts _ _ (omega arith) (omega arith) (omega arith) (omega arith)
 
+-- a finish
 finish-counts : (b : Body) → plus (counts b) (oneOf finishByte) ≡ countsOf (a-finish b)
 unfolding plus counts countsOf oneOf total same ahead
 finish-counts b = equal-counts _ _ (omega arith) (omega arith) (omega arith) (omega arith)
 
+-- and a fork
 fork-counts : (b c : Body) → plus (counts b) (plus (counts c) (oneOf forkByte)) ≡ countsOf (a-fork b c)
 unfolding plus counts countsOf oneOf total same ahead
 fork-counts b c = equal-counts _ _ (omega arith) (omega arith) (omega arith) (omega arith)

@@ -13,7 +13,7 @@ use Rattle.program.specs.Limits.{numberBytes, jobLimit}
 use Rattle.program.specs.Bytes.{topBit, groupBytes, encodeNumber}
 use Rattle.program.specs.Reader.{Read, took, refused, andThen, unless, groups, number, number-malformed, byte-unknown, bytes-run-out, job-too-large}
 use Rattle.program.specs.Claims.{TopBits}
-use Rattle.program.proofs.ReadLaws.{Outcome, was-took, was-refused, took-bytes, took-fits, refused-left, behind-shorter, guarded}
+use Rattle.program.proofs.ReadLaws.{Outcome, was-took, was-refused, took-bytes, took-fits, behind-shorter, guarded}
 
 -- the largest number has room
 limit-in-room : jobLimit < topBit ^ numberBytes
@@ -279,9 +279,3 @@ unfolding number andThen unless
 number-complete n rest h =
     let room : n < topBit ^ numberBytes = (let l = limit-in-room in omega arith) in
     rw (encoded-back (encodeNumber n ++ rest) n rest room, le-leb n jobLimit h) refl
-
--- the place of a number's refusal is in the bytes
-pub number-left : (xs : List ℕ) (k : ℕ) (left : List ℕ) → number xs ≡ refused k left → length left ≤ length xs
-number-left xs k left e =
-    let h : Outcome encodeNumber Small xs (refused k left) = rw e at (number-outcome xs) in
-    refused-left h

@@ -113,19 +113,21 @@ weight-small start i v w h = (
   h .below,
 )
 
--- one more group, and the next weight, fit
+-- what is computed of one more group fits: its product with the weight,
 pub product-fits : (start : List ℕ) (i v w x : ℕ) → After start i v w → x < 2 * topBit → Fits w64 (w * x)
 product-fits start i v w x h byte =
     let small = weight-small start i v w h in
     let p : w * x ≤ w * 255 = mul-le-mul-left w (omega arith) in
     record { fits = omega arith }
 
+-- the value with it,
 pub sum-fits : (start : List ℕ) (i v w x : ℕ) → After start i v w → x < 2 * topBit → Fits w64 (v + w * x)
 sum-fits start i v w x h byte =
     let small = weight-small start i v w h in
     let p : w * x ≤ w * 255 = mul-le-mul-left w (omega arith) in
     record { fits = omega arith }
 
+-- and the next weight
 pub weight-fits : (start : List ℕ) (i v w : ℕ) → After start i v w → Fits w64 (w * topBit)
 weight-fits start i v w h = let small = weight-small start i v w h in record { fits = omega arith }
 
@@ -175,8 +177,8 @@ limit-test true seen len place past n start left p q = ap (λ (m : ℕ). value n
 limit-test false seen len place past n start left p q = ap (NumberProgress.stopped job-too-large) p
 
 -- the test of the shortest form, and then that
-form-test : (t : Bool) (seen : Counts) (len place past v w x : ℕ) (start left : List ℕ) → place ≡ len - length start → past
-    ≡ len - length left
+form-test : (t : Bool) (seen : Counts) (len place past v w x : ℕ) (start left : List ℕ)
+    → place ≡ len - length start → past ≡ len - length left
     → cond t (cond (leb (v + w * x) jobLimit) (value (v + w * x) past seen) (NumberProgress.stopped job-too-large place))
     (NumberProgress.stopped number-malformed place)
     ≡ numberProgress len seen (limited start (shifted v w (unless t number-malformed start (took x left))))

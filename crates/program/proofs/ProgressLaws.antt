@@ -22,6 +22,7 @@ use Rattle.program.proofs.Soundness.{itemBytes, encode-ahead}
 abbrev pub slice : List ℕ → ℕ → List ℕ
 slice xs k = take (length xs - k) (drop k xs)
 
+-- its length
 pub slice-length : (xs : List ℕ) (k : ℕ) → length (slice xs k) ≡ length xs - k
 slice-length xs k = ap length (part-to-end xs k) ∙ length-drop k xs
 
@@ -44,7 +45,7 @@ pub plus-end : (c : Counts) → plus c (counts end) ≡ c
 unfolding plus counts total
 plus-end c = λ i. record { w = add-zero (c .w) i; a = add-zero (c .a) i; f = add-zero (c .f) i; k = add-zero (c .k) i }
 
--- what a body counts, by its first item
+-- what a body weighs, by its first item
 total-ahead : (g : Kind → ℕ) (i : Item) (b : Body) → total g (ahead i b) ≡ total g (ahead i end) + total g b
 unfolding total ahead
 total-ahead g (a-job n) b = omega arith
@@ -52,6 +53,7 @@ total-ahead g (an-async c) b = omega arith
 total-ahead g (a-finish c) b = omega arith
 total-ahead g (a-fork c d) b = omega arith
 
+-- what it counts
 pub counts-ahead : (i : Item) (b : Body) → counts (ahead i b) ≡ plus (countsOf i) (counts b)
 unfolding counts countsOf plus
 counts-ahead i b =
@@ -82,6 +84,7 @@ item-few k i =
     let h : length (encode (ahead i end)) ≡ length (itemBytes i ++ encode end) = ap length (encode-ahead i end) in
     omega (arith, count-lt k (ahead i end), length-append (itemBytes i) (encode end))
 
+-- of no kind
 pub item-most : (i : Item) → AtMost (length (itemBytes i)) (countsOf i)
 unfolding counts countsOf
 item-most i = record { w-most = item-few jobs i; a-most = item-few asyncs i; f-most = item-few finishes i; k-most = item-few forks i }

@@ -24,11 +24,6 @@ pub took-fits : {A : Type 0} {bytesOf : A → List ℕ} {Fit : A → Type 0} {xs
     → Outcome bytesOf Fit xs (took a rest) → Fit a
 took-fits (was-took e f) = f
 
--- a refusal's place is in the bytes
-pub refused-left : {A : Type 0} {bytesOf : A → List ℕ} {Fit : A → Type 0} {xs : List ℕ} {n : ℕ} {left : List ℕ}
-    → Outcome bytesOf Fit xs (refused n left) → length left ≤ length xs
-refused-left (was-refused l) = l
-
 -- what stands behind some bytes is no longer than all
 pub behind-shorter : (front xs rest : List ℕ) → xs ≡ front ++ rest → length rest ≤ length xs
 behind-shorter front xs rest e =

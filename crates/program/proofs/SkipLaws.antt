@@ -1,5 +1,5 @@
 -- The search for a body's end. By its first byte a body is of one form, and so many of its bytes are its first item's.
-use Prim.Native.Nat.{ℕ, _+_, _-_, _*_, _<_, _≤_}
+use Prim.Native.Nat.{ℕ, _+_, _-_, _<_, _≤_}
 use mathlib.Core.Path.{_≡_, refl, sym, ap, _∙_}
 use mathlib.Core.Bool.{Bool, true, false}
 use mathlib.Core.List.{List, _++_, append-assoc}
@@ -13,7 +13,7 @@ use Rattle.program.specs.Limits.{jobLimit}
 use Rattle.program.specs.Trees.{Body, end, job, async, finish, fork, largest, depth}
 use Rattle.program.specs.Bytes.{endByte, jobByte, asyncByte, finishByte, forkByte, encodeNumber, encode, numberSize, size}
 use Rattle.program.specs.Claims.{Fits}
-use Rattle.program.specs.Progress.{Holds, holds, Sized, Remains, remains, Skips, numberEnd}
+use Rattle.program.specs.Progress.{Holds, holds, Sized, numberEnd}
 use Rattle.program.proofs.ReadingLaws.{encode-positive}
 use Rattle.program.proofs.NumberEnds.{number-end}
 
@@ -29,9 +29,6 @@ part-length k xs = ap length (part-is k xs) ∙ length-drop k xs
 
 first-behind : (k : ℕ) (xs : List ℕ) → getD (drop k xs) 0 0 ≡ getD xs k 0
 first-behind k xs = getD-drop k xs 0 0 ∙ ap (λ (j : ℕ). getD xs j 0) (add-zero k)
-
-pub part-first : (k : ℕ) (xs : List ℕ) → getD (part k xs) 0 0 ≡ getD xs k 0
-part-first k xs = ap (λ l. getD l 0 0) (part-is k xs) ∙ first-behind k xs
 
 -- the number of bytes of a body, by its first item
 size-end : size end ≡ 1
@@ -179,114 +176,133 @@ past-number xs k s n tail e is =
     ∙ ap (λ (m : ℕ). drop m (encodeNumber n ++ tail)) is
     ∙ drop-append-seam (encodeNumber n) tail
 
+-- behind the first k of these bytes, a body's, stands what is left of that body
+pub data Remains (xs rest : List ℕ) (b : Body) (k : ℕ) : Type 0 where
+  remains : (r : Body) → Fits r → drop k xs ≡ encode r ++ rest → k + size r ≡ size b → Remains xs rest b k
+
+-- the first k of these bytes are items of the body that they begin with
+abbrev pub Skips : List ℕ → ℕ → Type 0
+Skips xs k = (b : Body) (rest : List ℕ) → Fits b → xs ≡ encode b ++ rest → Remains xs rest b k
+
+-- The search has come to k: it has skipped items, and stands at one of the five bytes that an item or an end can begin with.
+abbrev pub Searched : List ℕ → ℕ → Type 0
+Searched xs k = (k < length xs) × (getD xs k 0 ≤ forkByte) × Holds xs × Skips xs k
+
+-- behind items that are skipped it stands at such a byte
+searched : (xs : List ℕ) (k : ℕ) → Holds xs → Skips xs k → Searched xs k
+searched xs k (holds b f rest e) skips = go (skips b rest f e)
+  where
+    go : Remains xs rest b k → Searched xs k
+    go (remains r fr tail total) = (
+      omega (arith, size-within (drop k xs) r rest tail, length-drop k xs),
+      omega (arith, first-of (drop k xs) r rest tail, first-behind k xs, first-most r),
+      holds b f rest e,
+      skips,
+    )
+
 -- no item
-pub skip-none : (xs : List ℕ) → Skips xs 0
-skip-none xs b rest f e = remains b f e (omega arith)
+pub skip-none : (xs : List ℕ) → Holds xs → Searched xs 0
+skip-none xs held = searched xs 0 held (λ b rest f e. remains b f e (omega arith))
 
 -- a job
-pub skip-job : (xs : List ℕ) → getD xs 0 0 ≡ jobByte → Skips xs (1 + numberEnd (part 1 xs))
-skip-job xs is b rest f e =
-    on-job (λ b. Remains xs rest b (1 + numberEnd (part 1 xs))) xs b rest f e is
-    (λ n r low fr tail.
-    let long : numberEnd (part 1 xs) ≡ numberSize n = ap numberEnd (part-is 1 xs ∙ tail) ∙ number-end n (encode r ++ rest) low in
-    remains r fr (past-number xs 1 (numberEnd (part 1 xs)) n (encode r ++ rest) tail long) (omega (arith, size-job n r)))
+pub skip-job :
+    (xs : List ℕ) (k s : ℕ) → Searched xs k → getD xs k 0 ≡ jobByte → s ≡ numberEnd (part (k + 1) xs) → Searched xs (k + 1 + s)
+skip-job xs k s (lt, most, held, skips) is ends = searched xs (k + 1 + s) held (λ b rest f e. go b rest (skips b rest f e))
+  where
+    go : (b : Body) (rest : List ℕ) → Remains xs rest b k → Remains xs rest b (k + 1 + s)
+    go b rest (remains r fr tail total) =
+        on-job (λ r. k + size r ≡ size b → Remains xs rest b (k + 1 + s)) (drop k xs) r rest fr tail (first-behind k xs ∙ is)
+        (λ n q low fq tail total.
+        let next : drop (k + 1) xs ≡ encodeNumber n ++ (encode q ++ rest) = sym (drop-drop 1 k xs) ∙ tail in
+        let long : s ≡ numberSize n = ends ∙ ap numberEnd (part-is (k + 1) xs ∙ next) ∙ number-end n (encode q ++ rest) low in
+        remains q fq (past-number xs (k + 1) s n (encode q ++ rest) next long) (omega (arith, size-job n q)))
+        total
 
 -- an async or a finish
-pub skip-one : (xs : List ℕ) (s : ℕ) → asyncByte ≤ getD xs 0 0 → getD xs 0 0 < forkByte → Sized (part 1 xs) s → Skips xs (1 + s)
-skip-one xs s ge lt sized b rest f e =
-    on-one (λ b. Remains xs rest b (1 + s)) xs b rest f e ge lt
-    (λ c r is fc fr tail.
-    let long : s ≡ size c = sized c (encode r ++ rest) fc (part-is 1 xs ∙ tail) in
-    remains r fr (past-body xs 1 s c (encode r ++ rest) tail long) (omega (arith, size-async c r)))
-    (λ c r is fc fr tail.
-    let long : s ≡ size c = sized c (encode r ++ rest) fc (part-is 1 xs ∙ tail) in
-    remains r fr (past-body xs 1 s c (encode r ++ rest) tail long) (omega (arith, size-finish c r)))
+pub skip-one :
+    (xs : List ℕ) (k s : ℕ) → Searched xs k → asyncByte ≤ getD xs k 0 → getD xs k 0 < forkByte → Sized (part (k + 1) xs) s
+    → Searched xs (k + 1 + s)
+skip-one xs k s (lt, most, held, skips) ge below sized = searched xs (k + 1 + s) held (λ b rest f e. go b rest (skips b rest f e))
+  where
+    over : (b c q : Body) (rest : List ℕ) → Fits c → Fits q → drop 1 (drop k xs) ≡ encode c ++ (encode q ++ rest)
+        → k + (1 + size c + size q) ≡ size b → Remains xs rest b (k + 1 + s)
+    over b c q rest fc fq tail total =
+        let next : drop (k + 1) xs ≡ encode c ++ (encode q ++ rest) = sym (drop-drop 1 k xs) ∙ tail in
+        let long : s ≡ size c = sized c (encode q ++ rest) fc (part-is (k + 1) xs ∙ next) in
+        remains q fq (past-body xs (k + 1) s c (encode q ++ rest) next long) (omega arith)
+
+    go : (b : Body) (rest : List ℕ) → Remains xs rest b k → Remains xs rest b (k + 1 + s)
+    go b rest (remains r fr tail total) =
+        on-one (λ r. k + size r ≡ size b → Remains xs rest b (k + 1 + s)) (drop k xs) r rest fr tail
+        (omega (arith, first-behind k xs)) (omega (arith, first-behind k xs))
+        (λ c q is fc fq tail total. over b c q rest fc fq tail (omega (arith, size-async c q)))
+        (λ c q is fc fq tail total. over b c q rest fc fq tail (omega (arith, size-finish c q)))
+        total
 
 -- a fork
 pub skip-fork :
-    (xs : List ℕ) (s t : ℕ) → getD xs 0 0 ≡ forkByte → Sized (part 1 xs) s → Sized (part (1 + s) xs) t → Skips xs (1 + s + t)
-skip-fork xs s t is sized sized' b rest f e =
-    on-fork (λ b. Remains xs rest b (1 + s + t)) xs b rest f e is
-    (λ c d r fc fd fr tail.
-    let long : s ≡ size c = sized c (encode d ++ (encode r ++ rest)) fc (part-is 1 xs ∙ tail) in
-    let next = past-body xs 1 s c (encode d ++ (encode r ++ rest)) tail long in
-    let long' : t ≡ size d = sized' d (encode r ++ rest) fd (part-is (1 + s) xs ∙ next) in
-    remains r fr (past-body xs (1 + s) t d (encode r ++ rest) next long') (omega (arith, size-fork c d r)))
-
--- items behind items
-pub skip-more : (xs : List ℕ) (k m : ℕ) → Skips xs k → Skips (part k xs) m → Skips xs (k + m)
-skip-more xs k m first next b rest f e = go (first b rest f e)
+    (xs : List ℕ) (k s t : ℕ) → Searched xs k → getD xs k 0 ≡ forkByte → Sized (part (k + 1) xs) s → Sized (part (k + 1 + s) xs) t
+    → Searched xs (k + 1 + s + t)
+skip-fork xs k s t (lt, most, held, skips) is sized sized' = searched xs (k + 1 + s + t) held (λ b rest f e. go b rest (skips b rest f e))
   where
-    further : (r : Body) → k + size r ≡ size b → Remains (part k xs) rest r m → Remains xs rest b (k + m)
-    further r total (remains q fq tail total') =
-        remains q fq (sym (drop-drop m k xs) ∙ ap (λ l. drop m l) (sym (part-is k xs)) ∙ tail) (omega arith)
-
-    go : Remains xs rest b k → Remains xs rest b (k + m)
-    go (remains r fr tail total) = further r total (next r rest fr (part-is k xs ∙ tail))
+    go : (b : Body) (rest : List ℕ) → Remains xs rest b k → Remains xs rest b (k + 1 + s + t)
+    go b rest (remains r fr tail total) =
+        on-fork (λ r. k + size r ≡ size b → Remains xs rest b (k + 1 + s + t)) (drop k xs) r rest fr tail (first-behind k xs ∙ is)
+        (λ c d q fc fd fq tail total.
+        let next : drop (k + 1) xs ≡ encode c ++ (encode d ++ (encode q ++ rest)) = sym (drop-drop 1 k xs) ∙ tail in
+        let long : s ≡ size c = sized c (encode d ++ (encode q ++ rest)) fc (part-is (k + 1) xs ∙ next) in
+        let next' = past-body xs (k + 1) s c (encode d ++ (encode q ++ rest)) next long in
+        let long' : t ≡ size d = sized' d (encode q ++ rest) fd (part-is (k + 1 + s) xs ∙ next') in
+        remains q fq (past-body xs (k + 1 + s) t d (encode q ++ rest) next' long') (omega (arith, size-fork c d q)))
+        total
 
 -- an end byte behind items is the body's last
-pub skip-end : (xs : List ℕ) (k : ℕ) → Skips xs k → getD xs k 0 ≡ endByte → Sized xs (k + 1)
-skip-end xs k skips is b rest f e = go (skips b rest f e)
+pub skip-end : (xs : List ℕ) (k : ℕ) → Searched xs k → getD xs k 0 ≡ endByte → Sized xs (k + 1)
+skip-end xs k (lt, most, held, skips) is b rest f e = go (skips b rest f e)
   where
     go : Remains xs rest b k → k + 1 ≡ size b
     go (remains r fr tail total) =
         on-end (λ q. k + size q ≡ size b → k + 1 ≡ size b) (drop k xs) r rest tail (first-behind k xs ∙ is)
         (λ total. omega (arith, size-end)) total
 
--- bytes that a body's begin with: there is a first one, of five
-pub held-first : (xs : List ℕ) → Holds xs → (0 < length xs) × (getD xs 0 0 ≤ forkByte)
-held-first xs (holds b f rest e) = (size-within xs b rest e .0, omega (arith, first-of xs b rest e, first-most b))
-
--- what stands behind items of a body
-pub skip-holds : (xs : List ℕ) (k : ℕ) → Holds xs → Skips xs k → Holds (part k xs)
-skip-holds xs k (holds b f rest e) skips = go (skips b rest f e)
-  where
-    go : Remains xs rest b k → Holds (part k xs)
-    go (remains r fr tail total) = holds r fr rest (part-is k xs ∙ tail)
-
--- items of a body end before the bytes do
-pub skip-within : (xs : List ℕ) (k : ℕ) → Holds xs → Skips xs k → k < length xs
-skip-within xs k held skips = omega (arith, held-first (part k xs) (skip-holds xs k held skips), part-length k xs)
-
 -- the first body that an item holds
-pub first-holds : (xs : List ℕ) → Holds xs → asyncByte ≤ getD xs 0 0 → Holds (part 1 xs)
-first-holds xs (holds b f rest e) ge = go (ltb (getD xs 0 0) forkByte) refl
+pub first-holds : (xs : List ℕ) (k : ℕ) → Searched xs k → asyncByte ≤ getD xs k 0 → Holds (part (k + 1) xs)
+first-holds xs k (lt, most, holds b f rest e, skips) ge = go (skips b rest f e) (ltb (getD xs k 0) forkByte) refl
   where
-    go : (one : Bool) → ltb (getD xs 0 0) forkByte ≡ one → Holds (part 1 xs)
-    go true is =
-        on-one (λ b. Holds (part 1 xs)) xs b rest f e ge (ltb-true (getD xs 0 0) forkByte is)
-        (λ c r is fc fr tail. holds c fc (encode r ++ rest) (part-is 1 xs ∙ tail))
-        (λ c r is fc fr tail. holds c fc (encode r ++ rest) (part-is 1 xs ∙ tail))
-    go false is =
-        let most = held-first xs (holds b f rest e) in
-        let least = ltb-false (getD xs 0 0) forkByte is in
-        on-fork (λ b. Holds (part 1 xs)) xs b rest f e (omega arith)
-        (λ c d r fc fd fr tail. holds c fc (encode d ++ (encode r ++ rest)) (part-is 1 xs ∙ tail))
+    here : (c : Body) (tail : List ℕ) → Fits c → drop 1 (drop k xs) ≡ encode c ++ tail → Holds (part (k + 1) xs)
+    here c tail fc e = holds c fc tail (part-is (k + 1) xs ∙ sym (drop-drop 1 k xs) ∙ e)
+
+    go : Remains xs rest b k → (one : Bool) → ltb (getD xs k 0) forkByte ≡ one → Holds (part (k + 1) xs)
+    go (remains r fr tail total) true is =
+        on-one (λ r. Holds (part (k + 1) xs)) (drop k xs) r rest fr tail
+        (omega (arith, first-behind k xs)) (omega (arith, first-behind k xs, ltb-true (getD xs k 0) forkByte is))
+        (λ c q is fc fq tail. here c (encode q ++ rest) fc tail)
+        (λ c q is fc fq tail. here c (encode q ++ rest) fc tail)
+    go (remains r fr tail total) false is =
+        on-fork (λ r. Holds (part (k + 1) xs)) (drop k xs) r rest fr tail
+        (omega (arith, first-behind k xs, ltb-false (getD xs k 0) forkByte is))
+        (λ c d q fc fd fq tail. here c (encode d ++ (encode q ++ rest)) fc tail)
+
+-- it ends within the bytes
+pub first-within : (xs : List ℕ) (k s : ℕ) → Searched xs k → asyncByte ≤ getD xs k 0 → Sized (part (k + 1) xs) s → k + 1 + s ≤ length xs
+first-within xs k s at ge sized = go (first-holds xs k at ge)
+  where
+    go : Holds (part (k + 1) xs) → k + 1 + s ≤ length xs
+    go (holds c fc rest e) = omega (arith, at .0, sized c rest fc e, size-within (part (k + 1) xs) c rest e, part-length (k + 1) xs)
 
 -- the second body of a fork
-pub second-holds : (xs : List ℕ) (s : ℕ) → Holds xs → getD xs 0 0 ≡ forkByte → Sized (part 1 xs) s → Holds (part (1 + s) xs)
-second-holds xs s (holds b f rest e) is sized =
-    on-fork (λ b. Holds (part (1 + s) xs)) xs b rest f e is
-    (λ c d r fc fd fr tail.
-    let long : s ≡ size c = sized c (encode d ++ (encode r ++ rest)) fc (part-is 1 xs ∙ tail) in
-    holds d fd (encode r ++ rest) (part-is (1 + s) xs ∙ past-body xs 1 s c (encode d ++ (encode r ++ rest)) tail long))
+pub second-holds :
+    (xs : List ℕ) (k s : ℕ) → Searched xs k → getD xs k 0 ≡ forkByte → Sized (part (k + 1) xs) s → Holds (part (k + 1 + s) xs)
+second-holds xs k s (lt, most, holds b f rest e, skips) is sized = go (skips b rest f e)
+  where
+    go : Remains xs rest b k → Holds (part (k + 1 + s) xs)
+    go (remains r fr tail total) =
+        on-fork (λ r. Holds (part (k + 1 + s) xs)) (drop k xs) r rest fr tail (first-behind k xs ∙ is)
+        (λ c d q fc fd fq tail.
+        let next : drop (k + 1) xs ≡ encode c ++ (encode d ++ (encode q ++ rest)) = sym (drop-drop 1 k xs) ∙ tail in
+        let long : s ≡ size c = sized c (encode d ++ (encode q ++ rest)) fc (part-is (k + 1) xs ∙ next) in
+        holds d fd (encode q ++ rest) (part-is (k + 1 + s) xs ∙ past-body xs (k + 1) s c (encode d ++ (encode q ++ rest)) next long))
 
--- a body that begins at k ends within the bytes
-part-within : (xs : List ℕ) (k s : ℕ) → k ≤ length xs → Holds (part k xs) → Sized (part k xs) s → k + s ≤ length xs
-part-within xs k s le (holds b f rest e) sized =
-    omega (arith, sized b rest f e, size-within (part k xs) b rest e, part-length k xs)
-
-pub first-within : (xs : List ℕ) (s : ℕ) → Holds xs → asyncByte ≤ getD xs 0 0 → Sized (part 1 xs) s → 1 + s ≤ length xs
-first-within xs s held ge sized = part-within xs 1 s (held-first xs held .0) (first-holds xs held ge) sized
-
-pub second-within :
-    (xs : List ℕ) (s t : ℕ) → Holds xs → getD xs 0 0 ≡ forkByte → Sized (part 1 xs) s → Sized (part (1 + s) xs) t → 1 + s + t ≤ length xs
-second-within xs s t held is sized sized' =
-    part-within xs (1 + s) t (first-within xs s held (omega arith) sized) (second-holds xs s held is sized) sized'
-
--- the measure falls from a body to its items, and from an item to its bodies
-pub item-falls : (xs : List ℕ) (k t : ℕ) → 2 * length xs + 1 ≡ t → 2 * length (part k xs) < t
-item-falls xs k t is = omega (arith, part-length k xs)
-
-pub body-falls : (xs : List ℕ) (k t : ℕ) → Holds xs → 1 ≤ k → 2 * length xs ≡ t → 2 * length (part k xs) + 1 < t
-body-falls xs k t held le is = omega (arith, held-first xs held, part-length k xs)
+-- the measure falls from a body to a body that an item of it holds
+pub part-falls : (xs : List ℕ) (k j t : ℕ) → Searched xs k → 1 ≤ j → length xs ≡ t → length (part j xs) < t
+part-falls xs k j t at le is = omega (arith, part-length j xs)

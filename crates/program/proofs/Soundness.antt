@@ -11,8 +11,8 @@ use borrow.Author.Tests.{eqb-true, ltb-true}
 use Rattle.program.specs.Limits.{jobLimit, levelLimit}
 use Rattle.program.specs.Trees.{jobs, forks, Body, end, job, async, finish, fork, Item, a-job, an-async, a-finish, a-fork, ahead, depth, largest}
 use Rattle.program.specs.Bytes.{endByte, jobByte, asyncByte, finishByte, forkByte, encodeNumber, encode}
-use Rattle.program.specs.Reader.{Read, took, refused, andThen, kindOf, deeper, number, jobOf, itemOf, item, bodyOf, body, byte-unknown, level-too-deep, bytes-run-out}
-use Rattle.program.proofs.ReadLaws.{Outcome, was-took, refused-here, refused-end, took-bytes, took-fits, refused-left, go-on, guarded}
+use Rattle.program.specs.Reader.{Read, took, andThen, kindOf, deeper, number, jobOf, itemOf, item, bodyOf, body, byte-unknown, level-too-deep, bytes-run-out}
+use Rattle.program.proofs.ReadLaws.{Outcome, was-took, refused-here, refused-end, took-bytes, took-fits, go-on, guarded}
 use Rattle.program.proofs.NumberLaws.{number-outcome}
 
 -- the bytes of an item
@@ -240,10 +240,6 @@ pub body-fits : (level : ℕ) (xs : List ℕ) (b : Body) (rest : List ℕ) → b
     → (largest b ≤ jobLimit) × (depth b + level ≤ suc levelLimit)
 body-fits level xs b rest e l = fits-limits level b (body-fits-at level xs b rest e) l
 
--- the place of a refusal is in the bytes
-pub body-left : (level : ℕ) (xs : List ℕ) (n : ℕ) (left : List ℕ) → body level xs ≡ refused n left → length left ≤ length xs
-body-left level xs n left e = refused-left (rw e at (body-outcome level xs))
-
 -- An item that is read stands at the start of the bytes,
 pub item-sound : (level : ℕ) (xs : List ℕ) (i : Item) (rest : List ℕ) → item body level xs ≡ took i rest → xs ≡ itemBytes i ++ rest
 item-sound level xs i rest e = took-bytes (rw e at (item-outcome body body-outcome level xs))
@@ -256,7 +252,3 @@ item-fits level xs i rest e = took-fits (rw e at (item-outcome body body-outcome
 pub behind-item : (level x : ℕ) (left : List ℕ) (i : Item) (rest : List ℕ) → item body level (x ∷ left) ≡ took i rest
     → length rest ≤ length left
 behind-item level x left i rest e = behind-item-of level x left body body-outcome i rest e
-
--- and the place of its refusal is in the bytes
-pub item-left : (level : ℕ) (xs : List ℕ) (n : ℕ) (left : List ℕ) → item body level xs ≡ refused n left → length left ≤ length xs
-item-left level xs n left e = refused-left (rw e at (item-outcome body body-outcome level xs))

@@ -1,7 +1,6 @@
 -- What the reader's two entry points answer. "Where an answer is an enum, a definition gives this paper's number and values for
 -- each of its cases."
 use Prim.Native.Nat.{ℕ}
-use Rattle.program.specs.declared.Refusal.{Refusal}
 use Rattle.program.specs.declared.ItemCounts.{ItemCounts}
 use Rattle.program.specs.declared.ProgramRead.{ProgramRead}
 use Rattle.program.specs.declared.ProgramRead.the-variants as of-program

@@ -1,5 +1,5 @@
 -- The words in which the reader's theorems are stated. The theorems are in proofs/Exactness.antt and proofs/Refusals.antt.
-use Prim.Native.Nat.{ℕ, _+_, _*_, _^_, _<_, _≤_}
+use Prim.Native.Nat.{ℕ, _^_, _<_, _≤_}
 use mathlib.Core.Path.{_≡_}
 use mathlib.Core.List.{List, [], _∷_, _++_}
 use mathlib.Core.Logic.{_⊎_}

@@ -4,7 +4,7 @@ use mathlib.Core.Path.{_≡_}
 use mathlib.Core.Bool.{Bool, true, false, cond}
 use mathlib.Core.List.{List, [], _∷_, _++_}
 use lib.Dec.{eqb, ltb, leb}
-use lib.ListN.{length, getD, drop}
+use lib.ListN.{length, getD}
 use Rattle.program.specs.declared.Reader.{Reader}
 use Rattle.program.specs.declared.Advanced.{Advanced}
 use Rattle.program.specs.declared.Advanced.the-variants as of-reader
@@ -98,14 +98,6 @@ pub data Holds (xs : List ℕ) : Type 0 where
 -- r is the number of bytes of the body that these bytes begin with
 abbrev pub Sized : List ℕ → ℕ → Type 0
 Sized xs r = (b : Body) (rest : List ℕ) → Fits b → xs ≡ encode b ++ rest → r ≡ size b
-
--- behind the first k of these bytes, a body's, stands what is left of that body
-pub data Remains (xs rest : List ℕ) (b : Body) (k : ℕ) : Type 0 where
-  remains : (r : Body) → Fits r → drop k xs ≡ encode r ++ rest → k + size r ≡ size b → Remains xs rest b k
-
--- the first k of these bytes are items of the body that they begin with
-abbrev pub Skips : List ℕ → ℕ → Type 0
-Skips xs k = (b : Body) (rest : List ℕ) → Fits b → xs ≡ encode b ++ rest → Remains xs rest b k
 
 -- s is what stands at a place, where these bytes start: what the body begins with that they begin with
 abbrev pub Shows : List ℕ → ℕ → Stands → Type 0

@@ -1,5 +1,5 @@
 -- "A program is one body; a body is items and an item may hold bodies."
-use Prim.Native.Nat.{ℕ, zero, suc, _+_, max}
+use Prim.Native.Nat.{ℕ, suc, _+_, max}
 
 -- the kinds of items
 pub data Kind : Type 0 where

@@ -15,13 +15,12 @@ use crate::format::TOP_BIT;
 use crate::numbers::number_end;
 use crate::reading::read;
 ghost use mathlib.Core.Path.{_≡_};
-ghost use Prim.Native.Nat.{_+_, _<_, _≤_};
-ghost use lib.ListN.{length, getD};
+ghost use Prim.Native.Nat.{_+_, _≤_};
+ghost use lib.ListN.{length};
 ghost use Rattle.program.specs.Limits.{programBytes};
-ghost use Rattle.program.specs.Bytes.{endByte};
 ghost use Rattle.program.specs.Located.{itemAt};
 ghost use Rattle.program.specs.Answers.{Stands, stands, nothing-starts};
-ghost use Rattle.program.specs.Progress.{Holds, Shows, ShowsJob, Sized, Skips, inNumber};
+ghost use Rattle.program.specs.Progress.{Holds, Shows, ShowsJob, Sized, inNumber};
 
 // What stands at a place of a program; refused where the program is, and where no item or end byte starts.
 pub fn item_at(program: &[u8], place: u32) -> ItemRead
@@ -109,25 +108,19 @@ fn body_size(bytes: &[u8]) -> usize
 {
     let mut from = 0;
     while bytes[from] != END {
-        from = from + item_size(&bytes[from..]);
+        let first = bytes[from];
+        if first == JOB {
+            from = from + 1 + number_end(&bytes[from + 1..]);
+            continue;
+        }
+        let behind = from + 1 + body_size(&bytes[from + 1..]);
+        if first != FORK {
+            from = behind;
+            continue;
+        }
+        from = behind + body_size(&bytes[behind..]);
     }
     from + 1
-}
-
-// The number of bytes of the item that `bytes` start with.
-fn item_size(bytes: &[u8]) -> usize
-    requires { ⌜ Holds (now bytes) × (endByte < getD (now bytes) 0 0) ⌝ }
-    ensures { λ r. ⌜ (1 ≤ r) × Skips (now (bytes .entry)) r ⌝ }
-{
-    let first = bytes[0];
-    if first == JOB {
-        return 1 + number_end(&bytes[1..]);
-    }
-    let behind = 1 + body_size(&bytes[1..]);
-    if first != FORK {
-        return behind;
-    }
-    behind + body_size(&bytes[behind..])
 }
 
 // The byte at a place stands inside a number, of a program that is read from its first byte.

@@ -1,5 +1,4 @@
 // Reading a number.
-use crate::ItemCounts;
 use crate::NumberRead;
 use crate::Reader;
 use crate::Refusal;

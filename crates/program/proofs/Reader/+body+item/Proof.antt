@@ -70,20 +70,34 @@ abbrev μ-loop : body-lts.MeasureT-loop
 
 -- an item was read, and the reader is further
 read-on : (t : ℕ) (c : body-lts.After-struct-known (body-calls t) (body-at t) body.Post Inv-loop μ-loop)
-    → Along (c .before .before .before .before .before .before .before .before .before .before .before .args .bytes .now) (c .before .before .before .before .before .before .before .before .before .before .before .args .inside .level) (c .before .before .before .before .before .before .before .before .before .before .before .args .self .place) (itemCounts (c .before .before .before .before .before .before .before .before .before .before .before .args .self .seen)) (c .before .before .item3 .given .0 .0)
-    (c .before .before .item3 .given .0 .0 .place - c .before .before .before .before .before .before .before .before .before .before .before .args .self .place)
-    × (c .before .before .before .before .before .before .before .before .before .loop .from < c .before .before .item3 .given .0 .0 .place - c .before .before .before .before .before .before .before .before .before .before .before .args .self .place)
+    → let start = c .before .before .before .before .before .before .before .before .before .before .before in
+    let r = c .before .before .item3 .given .0 .0 in
+    Along (start .args .bytes .now) (start .args .inside .level) (start .args .self .place) (itemCounts (start .args .self .seen)) r
+    (r .place - start .args .self .place)
+    × (c .before .before .before .before .before .before .before .before .before .loop .from < r .place - start .args .self .place)
 read-on t c =
-    along-more _ _ _ _ _ _ _ (c .before .before .before .before .before .before .before .before .before .loop .inv) (c .before .before .before .before .before .before .before .before .loop-test .taken) (c .before .before .before .before .before .before .if1 .left) (c .before .before .item3 .given .1) (c .before .before .before .before .item .ensures)
+    let turn = c .before .before .before .before .before .before in
+    along-more _ _ _ _ _ _ _ (turn .before .before .before .loop .inv) (turn .before .before .loop-test .taken) (turn .if1 .left)
+    (c .before .before .item3 .given .1) (c .before .before .before .before .item .ensures)
 
 -- the reader behind an item's first byte
 opened : (t : ℕ) (c : item-lts.After-moved (item-calls t) (item-at t) item.Post)
-    → Opened (c .before .before .before .before .args .inside .level) (c .before .before .before .before .args .bytes .now) (c .before .before .before .before .args .self) (c .moved .result)
+    → Opened (c .before .before .before .before .args .inside .level) (c .before .before .before .before .args .bytes .now)
+    (c .before .before .before .before .args .self) (c .moved .result)
 opened t c = record { some = c .before .before .if1 .left; ready = c .before .before .before .before .pre .1; moved = c .moved .ensures }
 
+-- the same, from behind its first body
+opened-before : (t : ℕ) (c : item-lts.After-known-told2 (item-calls t) (item-at t) item.Post)
+    → let first = c .before .before .before .before .before .before .before .before .before .before .before in
+    let start = first .before .before .before .before in
+    Opened (start .args .inside .level) (start .args .bytes .now) (start .args .self) (first .moved .result)
+opened-before t c = opened t (c .before .before .before .before .before .before .before .before .before .before .before)
+
 -- the reader behind its first body
-first-read : (t : ℕ) (c : item-lts.After-known-told2 (item-calls t) (item-at t) item.Post) → Held (opened t (c .before .before .before .before .before .before .before .before .before .before .before)) (c .before .held2 .given .0 .0)
-first-read t c = first-held (opened t (c .before .before .before .before .before .before .before .before .before .before .before)) (c .before .held2 .given .0 .0) (c .before .held2 .given .1) (c .before .before .before .body .ensures)
+first-read : (t : ℕ) (c : item-lts.After-known-told2 (item-calls t) (item-at t) item.Post)
+    → Held (opened-before t c) (c .before .held2 .given .0 .0)
+first-read t c = first-held (opened-before t c) (c .before .held2 .given .0 .0) (c .before .held2 .given .1)
+    (c .before .before .before .body .ensures)
 
 pub +body+item-spec : {M : Type 1} → statement M
 +body+item-spec =
@@ -92,14 +106,29 @@ pub +body+item-spec : {M : Type 1} → statement M
     body-lts.spec (body-calls t) (body-at t) body.Post Inv-loop μ-loop
     (λ c. along-none _ _ _ (c .before .pre .1))
     (λ c. omega arith)
-    (λ c κs. omega (arith, c .before .before .before .loop .inv .here, c .before .before .before .loop .inv .ready .within, length-drop (c .before .before .before .loop .from) (c .before .before .before .before .before .args .bytes .now)))
-    (λ c. along-end _ _ _ _ _ _ _ (c .before .before .before .before .loop .inv) (c .before .before .before .loop-test .taken) (c .before .if1 .taken) (c .moved .ensures))
+    (λ c κs.
+    let turn = c .before .before .before in
+    omega (
+      arith,
+      turn .loop .inv .here,
+      turn .loop .inv .ready .within,
+      length-drop (turn .loop .from)
+          (turn .before .before .args .bytes .now),
+    ))
+    (λ c. along-end _ _ _ _ _ _ _ (c .before .before .before .before .loop .inv) (c .before .before .before .loop-test .taken)
+    (c .before .if1 .taken) (c .moved .ensures))
     (λ c. omega arith)
     (λ c. search needs)
     (λ c. search needs)
-    (λ c κs. (along-falls (c .before .before .before .before .before .before .args .bytes .now) (c .before .before .before .before .loop .from) _ (c .before .before .before .before .before .before .pre .0), along-ready _ _ _ _ _ _ (c .before .before .before .before .loop .inv)))
+    (λ c κs.
+    let turn = c .before .before .before .before in
+    let start = turn .before .before in
+    (along-falls (start .args .bytes .now) (turn .loop .from) _ (start .pre .0), along-ready _ _ _ _ _ _ (turn .loop .inv)))
     (λ c. search needs)
-    (λ c. along-stopped _ _ _ _ _ _ _ (c .before .before .before .before .before .before .before .before .loop .inv) (c .before .before .before .before .before .before .before .loop-test .taken) (c .before .before .before .before .before .if1 .left) (c .before .item2 .given .1) (c .before .before .before .item .ensures))
+    (λ c.
+    let turn = c .before .before .before .before .before in
+    along-stopped _ _ _ _ _ _ _ (turn .before .before .before .loop .inv) (turn .before .before .loop-test .taken) (turn .if1 .left)
+    (c .before .item2 .given .1) (c .before .before .before .item .ensures))
     (λ c. search needs)
     (λ c. omega (arith, read-on t c .1))
     (λ c. search needs)
@@ -109,7 +138,11 @@ pub +body+item-spec : {M : Type 1} → statement M
     (λ t.
     item-lts.spec (item-calls t) (item-at t) item.Post
     (λ c κs. search needs)
-    (λ c. c .refused .ensures ∙ path-out (c .before .before .before .args .inside .level) (c .before .before .before .args .bytes .now) (c .before .before .before .args .self .place) (itemCounts (c .before .before .before .args .self .seen)) (c .before .if1 .taken))
+    (λ c.
+    let start = c .before .before .before in
+    c .refused .ensures
+    ∙ path-out (start .args .inside .level) (start .args .bytes .now) (start .args .self .place)
+    (itemCounts (start .args .self .seen)) (c .before .if1 .taken))
     (λ c. omega arith)
     (λ c κs. omega (arith, c .before .before .before .pre .1 .within))
     (λ c. omega arith)
@@ -122,25 +155,67 @@ pub +body+item-spec : {M : Type 1} → statement M
     (λ c κs. search needs)
     (λ c. c .refused3 .ensures ∙ path-high (opened t (c .before .before .before .before)) (c .before .if4 .taken))
     (λ c κs. search needs)
-    (λ c. c .refused4 .ensures ∙ path-deep (opened t (c .before .before .before .before .before .before)) (c .before .before .before .before .if3 .left) (c .before .before .before .if4 .left) (c .before .if5 .taken))
+    (λ c.
+    let known = c .before .before .before in
+    c .refused4 .ensures ∙ path-deep (opened t (known .before .before .before)) (known .before .if3 .left) (known .if4 .left)
+    (c .before .if5 .taken))
     (λ c. search needs)
     (λ c. omega arith)
     (λ c. search needs)
     (λ c. search needs)
-    (λ c κs. (opened-falls (c .before .before .before .before .before .before .before .before .before .before .before .args .bytes .now) 1 _ (omega arith) (c .before .before .before .before .before .before .before .before .before .if1 .left) (c .before .before .before .before .before .before .before .before .before .before .before .pre .0), opened-ready (opened t (c .before .before .before .before .before .before .before))))
+    (λ c κs.
+    let at = c .before .before .before .before .before .before .before in
+    let start = at .before .before .before .before in (
+      opened-falls (start .args .bytes .now) 1 _ (omega arith) (at .before .before .if1 .left) (start .pre .0),
+      opened-ready
+          (opened t at),
+    ))
     (λ c. search needs)
     (λ c. search needs)
-    (λ c κs. first-few (opened t (c .before .before .before .before .before .before .before .before .before .before .before .before)) (first-read t (c .before)))
-    (λ c. path-one (opened t (c .before .before .before .before .before .before .before .before .before .before .before .before .before)) (c .before .before .before .before .before .before .before .before .before .before .before .if3 .left) (c .before .before .before .before .before .before .before .before .before .before .if4 .left) (c .before .if6 .taken) (c .before .before .before .before .before .before .before .before .if5 .left) (c .before .before .before .held2 .given .1) (c .before .before .before .before .before .body .ensures) (c .counting .ensures))
-    (λ c. omega (arith, second-at (opened t (c .before .before .before .before .before .before .before .before .before .before .before .before .before .before)) (first-read t (c .before .before .before)) .0))
+    (λ c κs. first-few (opened-before t (c .before)) (first-read t (c .before)))
+    (λ c.
+    let held = c .before .before in
+    let known = held .before .before .before .before .before .before in
+    path-one (opened-before t held) (known .before .before .before .if3 .left) (known .before .before .if4 .left)
+    (c .before .if6 .taken) (known .if5 .left) (held .before .held2 .given .1) (held .before .before .before .body .ensures)
+    (c .counting .ensures))
+    (λ c.
+    let held = c .before .before .before in
+    omega (arith, second-at (opened-before t held) (first-read t held) .0))
     (λ c. search needs)
-    (λ c. second-at (opened t (c .before .before .before .before .before .before .before .before .before .before .before .before .before .before)) (first-read t (c .before .before .before)) .1)
-    (λ c. second-at (opened t (c .before .before .before .before .before .before .before .before .before .before .before .before .before .before)) (first-read t (c .before .before .before)) .1)
+    (λ c.
+    let held = c .before .before .before in
+    second-at (opened-before t held) (first-read t held) .1)
+    (λ c.
+    let held = c .before .before .before in
+    second-at (opened-before t held) (first-read t held) .1)
     (λ c. search needs)
-    (λ c κs. (opened-falls (c .before .before .before .before .before .before .before .before .before .before .before .before .before .before .before .before .before .before .before .args .bytes .now) (c .before .before .before .before .before .held2 .given .0 .0 .place - c .before .before .before .before .before .before .before .before .before .before .before .before .before .before .before .before .before .before .before .args .self .place) _ (omega (arith, second-at (opened t (c .before .before .before .before .before .before .before .before .before .before .before .before .before .before .before)) (first-read t (c .before .before .before .before)) .0)) (c .before .before .before .before .before .before .before .before .before .before .before .before .before .before .before .before .before .if1 .left) (c .before .before .before .before .before .before .before .before .before .before .before .before .before .before .before .before .before .before .before .pre .0), second-ready (opened t (c .before .before .before .before .before .before .before .before .before .before .before .before .before .before .before)) (first-read t (c .before .before .before .before))))
+    (λ c κs.
+    let held = c .before .before .before .before in
+    let first = held .before .before .before .before .before .before .before .before .before .before .before in
+    let start = first .before .before .before .before in (
+      opened-falls (start .args .bytes .now) (held .before .held2 .given .0 .0 .place - start .args .self .place) _
+          (omega (arith, second-at (opened-before t held) (first-read t held) .0)) (opened-before t held .some)
+          (start .pre .0),
+      second-ready (opened-before t held) (first-read t held),
+    ))
     (λ c. search needs)
     (λ c. search needs)
-    (λ c κs. second-few (opened t (c .before .before .before .before .before .before .before .before .before .before .before .before .before .before .before .before .before .before .before)) (first-read t (c .before .before .before .before .before .before .before .before)) (c .before .second2 .given .1) (c .before .before .before .body2 .ensures))
-    (λ c. path-stopped (opened t (c .before .before .before .before .before .before .before .before .before .before .before)) _ (c .before .before .before .before .before .before .before .before .before .if3 .left) (c .before .before .before .before .before .before .before .before .if4 .left) (c .before .before .before .before .before .before .if5 .left) (c .before .held .given .1) (c .before .before .before .body .ensures))
-    (λ c. path-second-stopped (opened t (c .before .before .before .before .before .before .before .before .before .before .before .before .before .before .before .before .before .before .before)) _ (first-read t (c .before .before .before .before .before .before .before .before)) (c .before .before .before .before .before .before .before .if6 .left) (c .before .before .before .before .before .before .before .before .before .before .before .before .before .before .if5 .left) (c .before .second .given .1) (c .before .before .before .body2 .ensures))
-    (λ c. path-two (opened t (c .before .before .before .before .before .before .before .before .before .before .before .before .before .before .before .before .before .before .before .before)) (first-read t (c .before .before .before .before .before .before .before .before .before)) (c .before .before .before .before .before .before .before .before .if6 .left) (c .before .before .before .before .before .before .before .before .before .before .before .before .before .before .before .if5 .left) (c .before .before .second2 .given .1) (c .before .before .before .before .body2 .ensures) (c .counting2 .ensures)))
+    (λ c κs.
+    let held = c .before .before .before .before .before .before .before .before in
+    second-few (opened-before t held) (first-read t held) (c .before .second2 .given .1) (c .before .before .before .body2 .ensures))
+    (λ c.
+    let known = c .before .before .before .before .before .before in
+    path-stopped (opened t (known .before .before .before .before .before)) _ (known .before .before .before .if3 .left)
+    (known .before .before .if4 .left) (known .if5 .left) (c .before .held .given .1) (c .before .before .before .body .ensures))
+    (λ c.
+    let held = c .before .before .before .before .before .before .before .before in
+    path-second-stopped (opened-before t held) _ (first-read t held)
+    (c .before .before .before .before .before .before .before .if6 .left)
+    (held .before .before .before .before .before .before .if5 .left) (c .before .second .given .1)
+    (c .before .before .before .body2 .ensures))
+    (λ c.
+    let held = c .before .before .before .before .before .before .before .before .before in
+    path-two (opened-before t held) (first-read t held) (c .before .before .before .before .before .before .before .before .if6 .left)
+    (held .before .before .before .before .before .before .if5 .left) (c .before .before .second2 .given .1)
+    (c .before .before .before .before .body2 .ensures) (c .counting2 .ensures)))

@@ -6,15 +6,16 @@ use Rattle.program.proofs.Reader.job.Tie as tie
 
 counting-requires : tie.Need-counting-requires
 counting-requires c κs =
-    job-few _ _ _ _ _ (c .before .before .before .before .before .pre) (c .before .number3 .given .1) (c .before .before .before .number .ensures)
+    let read = c .before .before .before in
+    job-few _ _ _ _ _ (read .before .before .pre) (c .before .number3 .given .1) (read .number .ensures)
 
 returns : tie.Need-returns
 returns c = job-stopped _ _ _ _ (c .before .number2 .given .1) (c .before .before .before .number .ensures)
 
 returns-2 : tie.Need-returns-2
 returns-2 c =
-    job-counted _ _ _ _ _ _ (c .before .before .number3 .given .1) (c .before .before .before .before .number .ensures) (c .counting .ensures)
+    let read = c .before .before .before .before in
+    job-counted _ _ _ _ _ _ (c .before .before .number3 .given .1) (read .number .ensures) (c .counting .ensures)
 
 pub job-spec : {M : Type 1} → statement M
-job-spec =
-    tie.close (tie.spec (λ c κs. search needs) (λ c. search needs) (λ c. search needs) counting-requires returns returns-2)
+job-spec = tie.close (tie.spec (λ c κs. search needs) (λ c. search needs) (λ c. search needs) counting-requires returns returns-2)

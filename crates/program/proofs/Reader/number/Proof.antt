@@ -16,41 +16,35 @@ abbrev μ-loop : tie.MeasureT-loop
 returns : tie.Need-returns Inv-loop μ-loop
 returns c = run-out _ _ _ _ _ _ (c .before .before .before .loop .inv) (c .before .before .loop-test .taken) (c .before .if1 .taken)
 
-cast-number-ended : tie.Need-cast-number-ended Inv-loop μ-loop
-cast-number-ended c = omega arith
+-- the last group
+product : tie.Need-mul-number-ended Inv-loop μ-loop
+product c = product-fits _ _ _ _ _ (c .before .before .before .before .loop .inv) (omega arith)
 
-mul-number-ended : tie.Need-mul-number-ended Inv-loop μ-loop
-mul-number-ended c = product-fits _ _ _ _ _ (c .before .before .before .before .loop .inv) (omega arith)
-
-add-number-ended : tie.Need-add-number-ended Inv-loop μ-loop
-add-number-ended c = sum-fits _ _ _ _ _ (c .before .before .before .before .loop .inv) (omega arith)
-
-cast-number-ended-2 : tie.Need-cast-number-ended-2 Inv-loop μ-loop
-cast-number-ended-2 c = omega (arith, c .before .before .before .before .loop .inv .bounded)
-
-number-ended-requires : tie.Need-number-ended-requires Inv-loop μ-loop
-number-ended-requires c κs = omega arith
+sum : tie.Need-add-number-ended Inv-loop μ-loop
+sum c = sum-fits _ _ _ _ _ (c .before .before .before .before .loop .inv) (omega arith)
 
 returns-2 : tie.Need-returns-2 Inv-loop μ-loop
 returns-2 c =
     c .number-ended .ensures
-    ∙ found _ _ _ _ _ _ (c .before .before .before .before .before .loop .inv) (c .before .before .before .before .loop-test .taken) (omega arith)
-    (c .before .if2 .taken)
+    ∙ found _ _ _ _ _ _ (c .before .before .before .before .before .loop .inv) (c .before .before .before .before .loop-test .taken)
+    (omega arith) (c .before .if2 .taken)
 
-cast-value : tie.Need-cast-value Inv-loop μ-loop
-cast-value c = omega (arith, c .before .shared-slice-known2 .given (c .before .before .before .before .loop .i))
+-- a group before others
+product-2 : tie.Need-mul-value Inv-loop μ-loop
+product-2 c =
+    let turn = c .before .before .before .before in
+    product-fits _ _ _ _ _ (turn .loop .inv) (omega (arith, c .before .shared-slice-known2 .given (turn .loop .i)))
 
-mul-value : tie.Need-mul-value Inv-loop μ-loop
-mul-value c = product-fits _ _ _ _ _ (c .before .before .before .before .loop .inv) (omega (arith, c .before .shared-slice-known2 .given (c .before .before .before .before .loop .i)))
-
-add-value : tie.Need-add-value Inv-loop μ-loop
-add-value c = sum-fits _ _ _ _ _ (c .before .before .before .before .loop .inv) (omega (arith, c .before .shared-slice-known2 .given (c .before .before .before .before .loop .i)))
-
-mul-weight : tie.Need-mul-weight Inv-loop μ-loop
-mul-weight c = weight-fits _ _ _ _ (c .before .before .before .before .loop .inv)
+sum-2 : tie.Need-add-value Inv-loop μ-loop
+sum-2 c =
+    let turn = c .before .before .before .before in
+    sum-fits _ _ _ _ _ (turn .loop .inv) (omega (arith, c .before .shared-slice-known2 .given (turn .loop .i)))
 
 loop-again : tie.Need-loop-again Inv-loop μ-loop
-loop-again c = after-more _ _ _ _ (c .before .before .before .before .loop .inv) (c .before .before .before .loop-test .taken) (omega arith) (omega (arith, c .before .shared-slice-known2 .given (c .before .before .before .before .loop .i))) (c .if2 .left)
+loop-again c =
+    let turn = c .before .before .before .before in
+    after-more _ _ _ _ (turn .loop .inv) (c .before .before .before .loop-test .taken) (omega arith)
+    (omega (arith, c .before .shared-slice-known2 .given (turn .loop .i))) (c .if2 .left)
 
 returns-3 : tie.Need-returns-3 Inv-loop μ-loop
 returns-3 c = over _ _ _ _ _ _ (c .before .loop .inv) (c .loop-test .left)
@@ -66,16 +60,16 @@ number-spec =
     (λ c. omega arith)
     returns
     (λ c. omega arith)
-    cast-number-ended
-    mul-number-ended
-    add-number-ended
-    cast-number-ended-2
-    number-ended-requires
+    (λ c. omega arith)
+    product
+    sum
+    (λ c. omega (arith, c .before .before .before .before .loop .inv .bounded))
+    (λ c κs. omega arith)
     returns-2
-    cast-value
-    mul-value
-    add-value
-    mul-weight
+    (λ c. omega (arith, c .before .shared-slice-known2 .given (c .before .before .before .before .loop .i)))
+    product-2
+    sum-2
+    (λ c. weight-fits _ _ _ _ (c .before .before .before .before .loop .inv))
     (λ c. omega arith)
     (λ c. omega arith)
     loop-again

@@ -1,53 +1,53 @@
 -- By the first byte: an end byte, a job, an async, a finish or a fork.
-use Prim.Native.Nat.{_+_, _≤_}
+use Prim.Native.Nat.{_+_, _<_, _≤_}
 use mathlib.Core.Path.{_≡_}
 use native.Mathlib.Omega.{arith}
 use lib.ListN.{length, getD}
 use borrow.Author.Needs.{needs}
 use Rattle.program.specs.Bytes.{forkByte}
-use Rattle.program.proofs.SkipLaws.{part-length, held-first, first-holds, second-holds, first-within, second-within}
+use Rattle.program.proofs.SkipLaws.{part-length, skip-none, skip-fork, first-holds, second-holds, first-within}
 use Rattle.program.proofs.ItemLaws.{shows-end, shows-job, shows-async, shows-finish, shows-fork}
 use Rattle.program.proofs.items.item_here.Statement.{statement}
 use Rattle.program.proofs.items.item_here.Tie as tie
 
 -- the first body ends within the bytes
 first : (c : tie.After-body-size) → 1 + c .body-size .result ≤ length (c .before .before .before .before .before .before .args .bytes .now)
-first c = first-within _ _ (c .before .before .before .before .before .before .pre .0) (omega arith) (c .body-size .ensures)
+first c = first-within _ 0 _ (skip-none _ (c .before .before .before .before .before .before .pre .0)) (omega arith) (c .body-size .ensures)
 
 -- no other byte is left
 forked : (c : tie.Else4) → getD (c .before .before .before .before .before .before .before .before .args .bytes .now) 0 0 ≡ forkByte
-forked c = omega (arith, held-first _ (c .before .before .before .before .before .before .before .before .pre .0))
+forked c = omega (arith, skip-none _ (c .before .before .before .before .before .before .before .before .pre .0))
 
 -- so does a fork's second
 second :
     (c : tie.After-body-size2)
     → 1 + c .before .before .before .before .body-size .result + c .body-size2 .result
-    ≤ length (c .before .before .before .before .before .before .before .before .before .before .args .bytes .now)
+    < length (c .before .before .before .before .before .before .before .before .before .before .args .bytes .now)
 second c =
-    second-within _ _ _ (c .before .before .before .before .before .before .before .before .before .before .pre .0)
-    (forked (c .before .before)) (c .before .before .before .before .body-size .ensures) (c .body-size2 .ensures)
+    skip-fork _ 0 _ _ (skip-none _ (c .before .before .before .before .before .before .before .before .before .before .pre .0))
+    (forked (c .before .before)) (c .before .before .before .before .body-size .ensures) (c .body-size2 .ensures) .0
 
 pub item-here-spec : {M : Type 1} → statement M
 item-here-spec =
     tie.close
     (tie.spec
-    (λ c. held-first _ (c .before .before .pre .0) .0)
+    (λ c. skip-none _ (c .before .before .pre .0) .0)
     (λ c. shows-end _ _ (c .if1 .taken))
     (λ c. search needs)
-    (λ c. omega (arith, held-first _ (c .before .before .before .before .pre .0)))
-    (λ c. omega (arith, held-first _ (c .before .before .before .before .pre .0)))
+    (λ c. omega (arith, skip-none _ (c .before .before .before .before .pre .0)))
+    (λ c. omega (arith, skip-none _ (c .before .before .before .before .pre .0)))
     (λ c. search needs)
     (λ c κs.
     omega (
       arith,
       part-length 1 (c .before .before .before .before .before .args .bytes .now),
-      held-first _ (c .before .before .before .before .before .pre .0),
+      skip-none _ (c .before .before .before .before .before .pre .0),
     ))
     (λ c. shows-job _ _ _ (c .before .before .if2 .taken) (c .job-here .ensures))
-    (λ c. omega (arith, held-first _ (c .before .before .before .before .pre .0)))
-    (λ c. omega (arith, held-first _ (c .before .before .before .before .pre .0)))
+    (λ c. omega (arith, skip-none _ (c .before .before .before .before .pre .0)))
+    (λ c. omega (arith, skip-none _ (c .before .before .before .before .pre .0)))
     (λ c. search needs)
-    (λ c κs. first-holds _ (c .before .before .before .before .before .pre .0) (omega arith))
+    (λ c κs. first-holds _ 0 (skip-none _ (c .before .before .before .before .before .pre .0)) (omega arith))
     (λ c. omega (arith, first c))
     (λ c. omega (arith, first c))
     (λ c. omega (arith, first c))
@@ -57,8 +57,8 @@ item-here-spec =
     (λ c. omega (arith, first (c .before .before)))
     (λ c. search needs)
     (λ c κs.
-    second-holds _ _ (c .before .before .before .before .before .before .before .before .before .pre .0) (forked (c .before))
-    (c .before .before .before .body-size .ensures))
+    second-holds _ 0 _ (skip-none _ (c .before .before .before .before .before .before .before .before .before .pre .0))
+    (forked (c .before)) (c .before .before .before .body-size .ensures))
     (λ c. omega (arith, second c))
     (λ c. omega (arith, second c))
     (λ c. shows-fork _ _ _ _ (forked (c .before .before)) (c .before .before .before .before .body-size .ensures) (c .body-size2 .ensures)))
