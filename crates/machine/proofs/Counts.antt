@@ -1,0 +1,444 @@
+-- What is counted, as instances of the conservation law: vertices, edge rows, steps, and each job.
+--
+-- At the beginning a program's state weighs what the table of commands says of its items; so what has been done in a run never weighs more,
+-- and weighs as much once every vertex is over. A job is weighed by its offset, which no other job of laid code has.
+--
+-- Of beginning p L, where p is locate o t:
+--     steps-total       total each ≡ steps firstEdition t
+--     vertices-total    2 + total news ≡ vertices firstEdition t
+--     edges-total       1 + total links ≡ edgeRows firstEdition t
+-- Of what Runs from there to S with the events es:
+--     steps-run         length es + total each S ≡ steps firstEdition t
+--     steps-bound       length es ≤ steps firstEdition t
+--     vertices-bound    S .count ≤ vertices firstEdition t
+--     edges-bound       1 + spent links es ≤ edgeRows firstEdition t
+-- and for any laid p, where spent (jobAt q) es is how often the job at q was done:
+--     job-once          it is at most 1
+--     job-never         it is 0, if no job is written at q
+--     job-done          it is 1, if one is, and total each S ≡ 0
+-- Of any state S:
+--     all-over          total each S ≡ 0 → every vertex is over
+--     over-all          every vertex is over → total ω S ≡ 0, for any ω
+-- JobIn c q n, a job with number n is written at q in c: by codeAt (job-found, job-written), and by weight (jobs-le, jobs-one, jobs-none).
+use Prim.Native.Nat.{ℕ, zero, suc, _+_, _*_, _<_, _≤_}
+use mathlib.Core.Path.{_≡_, refl, _∙_, ap, subst}
+use mathlib.Core.Bool.{cond}
+use mathlib.Core.Logic.{_⊎_, inl, inr, ⊎-elim, _↔_}
+use mathlib.Core.List.{List, [], _∷_}
+use mathlib.Core.Option.{some}
+use native.Mathlib.Nat.{eq-or-lt-of-le, le-of-suc-le-suc}
+use native.Mathlib.Omega.{arith}
+use lib.Dec.{eqb}
+use lib.ListN.{length}
+use borrow.Author.Tests.{eq-eqb, ne-eqb}
+use Rattle.graph.proofs.TestLaws.{equal?}
+use Rattle.program.specs.Trees.{Kind, jobs, asyncs, finishes, forks, Body, end, job, async, finish, fork}
+use Rattle.program.specs.Trees as trees
+use Rattle.program.specs.Encodings as table
+use Rattle.program.specs.Encodings.{Command, perform, newTd, newEdge, transfer, release, firstEdition, weight}
+use Rattle.program.specs.Encodings.{itemsWeight, vertices, edgeRows, steps}
+use Rattle.program.specs.Bytes.{numberSize, size}
+use Rattle.program.specs.Located.{Code, end-at, job-at, async-at, finish-at, fork-at, locate, place, last, codeAt}
+use Rattle.program.proofs.LocatedLaws.{Laid, Part, itself, inside, code-part, part-code}
+use Rattle.program.proofs.LocatedLaws.{Inner, job-rest, async-body, async-rest, finish-body, finish-rest, fork-left, fork-right, fork-rest}
+use Rattle.machine.proofs.Ghost.{Event, a-start, a-new, an-edge, a-release, a-transfer, a-job, a-stop, eventOf}
+use Rattle.machine.proofs.Ghost.{Do, link, hand, free, over, State, Move, begins, performs, stops, makes, splits, acts}
+use Rattle.machine.proofs.Beginning.{beginning}
+use Rattle.machine.proofs.Weights.{joinWeight, joinsWeight, bodyWeight, left, sumBelow, total, spent, each}
+use Rattle.machine.proofs.Conservation.{nothing-left, done-count, Beyond, Runs, no-move, and-then, runs-pay}
+
+-- 1 for a new vertex
+unfoldable pub news : Event → ℕ
+news a-start = 0
+news a-new = 1
+news an-edge = 0
+news a-release = 0
+news a-transfer = 0
+news (a-job o) = 0
+news a-stop = 0
+
+-- 1 for a new edge
+unfoldable pub links : Event → ℕ
+links a-start = 0
+links a-new = 0
+links an-edge = 1
+links a-release = 0
+links a-transfer = 0
+links (a-job o) = 0
+links a-stop = 0
+
+-- 1 for the job at offset q
+unfoldable pub jobAt : ℕ → Event → ℕ
+jobAt q a-start = 0
+jobAt q a-new = 0
+jobAt q an-edge = 0
+jobAt q a-release = 0
+jobAt q a-transfer = 0
+jobAt q (a-job o) = cond (eqb o q) 1 0
+jobAt q a-stop = 0
+
+-- Code by its items.
+
+-- what a command weighs, with j for a job
+unfoldable commandWeight : (Event → ℕ) → ℕ → Command → ℕ
+commandWeight ω j perform = j
+commandWeight ω j (newTd p a) = ω a-new
+commandWeight ω j (newEdge a b) = ω an-edge
+commandWeight ω j (transfer a) = ω a-transfer
+commandWeight ω j (release a) = ω a-release
+
+-- an item's commands, and a start and a stop for each vertex that it makes
+unfoldable kindWeight : (Event → ℕ) → ℕ → Kind → ℕ
+kindWeight ω j k =
+    weight (commandWeight ω j) (firstEdition k .commands) + weight table.makes (firstEdition k .commands) * (ω a-start + ω a-stop)
+
+-- where all jobs weigh the same, code weighs what its items do, and one stop
+items-weight :
+    (ω : Event → ℕ) (j : ℕ) → ((o : ℕ) → ω (a-job o) ≡ j) → (o : ℕ) (b : Body)
+    → bodyWeight ω (locate o b) ≡ ω a-stop + trees.total (kindWeight ω j) b
+unfolding locate bodyWeight joinsWeight joinWeight trees.total kindWeight commandWeight weight table.makes firstEdition
+items-weight ω j same o end = omega arith
+items-weight ω j same o (job n r) = omega (arith, same o, items-weight ω j same (suc (o + numberSize n)) r)
+items-weight ω j same o (async b r) = omega (arith, items-weight ω j same (suc o) b, items-weight ω j same (suc (o + size b)) r)
+items-weight ω j same o (finish b r) = omega (arith, items-weight ω j same (suc o) b, items-weight ω j same (suc (o + size b)) r)
+items-weight ω j same o (fork b c r) =
+    let past = items-weight ω j same (suc (o + size b + size c)) r in
+    omega (arith, items-weight ω j same (suc o) b, items-weight ω j same (suc (o + size b)) c, past)
+
+-- sums over the items of the same weights
+total-same : (f g : Kind → ℕ) → ((k : Kind) → f k ≡ g k) → (b : Body) → trees.total f b ≡ trees.total g b
+unfolding trees.total
+total-same f g same end = refl
+total-same f g same (job n r) = omega (arith, same jobs, total-same f g same r)
+total-same f g same (async b r) = omega (arith, same asyncs, total-same f g same b, total-same f g same r)
+total-same f g same (finish b r) = omega (arith, same finishes, total-same f g same b, total-same f g same r)
+total-same f g same (fork b c r) =
+    omega (arith, same forks, total-same f g same b, total-same f g same c, total-same f g same r)
+
+-- with a second sum counted twice
+total-plus : (f g : Kind → ℕ) (b : Body) → trees.total (λ k. f k + 2 * g k) b ≡ trees.total f b + 2 * trees.total g b
+unfolding trees.total
+total-plus f g end = omega arith
+total-plus f g (job n r) = omega (arith, total-plus f g r)
+total-plus f g (async b r) = omega (arith, total-plus f g b, total-plus f g r)
+total-plus f g (finish b r) = omega (arith, total-plus f g b, total-plus f g r)
+total-plus f g (fork b c r) = omega (arith, total-plus f g b, total-plus f g c, total-plus f g r)
+
+-- each kind, by the weights of the table
+each-kind :
+    (k : Kind) → kindWeight each 1 k ≡ weight table.does (firstEdition k .commands) + 2 * weight table.makes (firstEdition k .commands)
+unfolding kindWeight commandWeight weight table.makes table.does firstEdition
+each-kind jobs = omega arith
+each-kind asyncs = omega arith
+each-kind finishes = omega arith
+each-kind forks = omega arith
+
+-- and so all items
+each-items :
+    (b : Body) → trees.total (kindWeight each 1) b ≡ itemsWeight firstEdition table.does b + 2 * itemsWeight firstEdition table.makes b
+unfolding itemsWeight
+each-items b = total-same _ _ each-kind b ∙ total-plus _ _ b
+
+news-kind : (k : Kind) → kindWeight news 0 k ≡ weight table.makes (firstEdition k .commands)
+unfolding kindWeight commandWeight weight news table.makes firstEdition
+news-kind jobs = omega arith
+news-kind asyncs = omega arith
+news-kind finishes = omega arith
+news-kind forks = omega arith
+
+links-kind : (k : Kind) → kindWeight links 0 k ≡ weight table.links (firstEdition k .commands)
+unfolding kindWeight commandWeight weight links table.makes table.links firstEdition
+links-kind jobs = omega arith
+links-kind asyncs = omega arith
+links-kind finishes = omega arith
+links-kind forks = omega arith
+
+-- The beginning: two vertices are ready, one at the program's start and one at its last byte.
+
+-- both start, and the second only stops
+opening : (ω : Event → ℕ) (p : Code) (L : ℕ) → total ω (beginning p L) ≡ 2 * ω a-start + ω a-stop + bodyWeight ω p
+unfolding beginning total sumBelow left bodyWeight
+opening ω p L = omega arith
+
+-- what is counted at the beginning is what the program needs
+pub steps-total : (o L : ℕ) (t : Body) → total each (beginning (locate o t) L) ≡ steps firstEdition t
+unfolding steps vertices
+steps-total o L t = omega (arith, opening each (locate o t) L, items-weight each 1 (λ o. refl) o t, each-items t)
+
+pub vertices-total : (o L : ℕ) (t : Body) → 2 + total news (beginning (locate o t) L) ≡ vertices firstEdition t
+unfolding vertices itemsWeight news
+vertices-total o L t =
+    omega (arith, opening news (locate o t) L, items-weight news 0 (λ o. refl) o t, total-same _ _ news-kind t)
+
+pub edges-total : (o L : ℕ) (t : Body) → 1 + total links (beginning (locate o t) L) ≡ edgeRows firstEdition t
+unfolding edgeRows itemsWeight links
+edges-total o L t =
+    omega (arith, opening links (locate o t) L, items-weight links 0 (λ o. refl) o t, total-same _ _ links-kind t)
+
+-- Jobs.
+
+-- a job with number n is written at offset q
+unfoldable pub JobIn : Code → ℕ → ℕ → Type 0
+JobIn (end-at o) q n = ⊥
+JobIn (job-at o m r) q n = ((o ≡ q) × (m ≡ n)) ⊎ JobIn r q n
+JobIn (async-at o b r) q n = JobIn b q n ⊎ JobIn r q n
+JobIn (finish-at o b r) q n = JobIn b q n ⊎ JobIn r q n
+JobIn (fork-at o b c r) q n = JobIn b q n ⊎ (JobIn c q n ⊎ JobIn r q n)
+
+-- what is inside a part is inside the whole
+deeper : {c d : Code} {q n : ℕ} → Inner c d → ((r : Code) × Part d (job-at q n r)) → (r : Code) × Part c (job-at q n r)
+deeper i h = (h .0, inside i (h .1))
+
+-- it begins a part of the code
+job-part : (c : Code) (q n : ℕ) → JobIn c q n → (r : Code) × Part c (job-at q n r)
+unfolding JobIn
+job-part (end-at o) q n h = absurd h
+job-part (job-at o m r) q n (inl h) =
+    let same : job-at o m r ≡ job-at q n r = ap (λ x. job-at x m r) (h .0) ∙ ap (λ x. job-at q x r) (h .1) in
+    (r, subst (λ x. Part (job-at o m r) x) same itself)
+job-part (job-at o m r) q n (inr h) = deeper job-rest (job-part r q n h)
+job-part (async-at o b r) q n (inl h) = deeper async-body (job-part b q n h)
+job-part (async-at o b r) q n (inr h) = deeper async-rest (job-part r q n h)
+job-part (finish-at o b r) q n (inl h) = deeper finish-body (job-part b q n h)
+job-part (finish-at o b r) q n (inr h) = deeper finish-rest (job-part r q n h)
+job-part (fork-at o b c r) q n (inl h) = deeper fork-left (job-part b q n h)
+job-part (fork-at o b c r) q n (inr (inl h)) = deeper fork-right (job-part c q n h)
+job-part (fork-at o b c r) q n (inr (inr h)) = deeper fork-rest (job-part r q n h)
+
+-- which is what starts at q
+pub job-found : (c : Code) (q n : ℕ) → Laid c → JobIn c q n → (r : Code) × (codeAt c q ≡ some (job-at q n r))
+unfolding place
+job-found c q n l h = let (r, p) = job-part c q n h in (r, part-code p l)
+
+-- and the other way round: a job written in a part is written in the whole
+job-inner : {c d : Code} (q n : ℕ) → Inner c d → JobIn d q n → JobIn c q n
+unfolding JobIn
+job-inner q n job-rest h = inr h
+job-inner q n async-body h = inl h
+job-inner q n async-rest h = inr h
+job-inner q n finish-body h = inl h
+job-inner q n finish-rest h = inr h
+job-inner q n fork-left h = inl h
+job-inner q n fork-right h = inr (inl h)
+job-inner q n fork-rest h = inr (inr h)
+
+job-inside : {c d : Code} (q n : ℕ) → Part c d → JobIn d q n → JobIn c q n
+job-inside q n itself h = h
+job-inside q n (inside i p) h = job-inner q n i (job-inside q n p h)
+
+-- so is one that starts somewhere
+pub job-written : (c : Code) (p : ℕ) {q n : ℕ} {r : Code} → codeAt c p ≡ some (job-at q n r) → JobIn c q n
+unfolding JobIn
+job-written c p {q} {n} h = job-inside q n (code-part c p h) (inl (refl, refl))
+
+-- the jobs at q, counted
+abbrev pub jobsAt : ℕ → Code → ℕ
+jobsAt q c = bodyWeight (jobAt q) c
+
+-- a job is counted at its own offset only
+this-job : (o q : ℕ) → o ≡ q → jobAt q (a-job o) ≡ 1
+unfolding jobAt
+this-job o q e = rw (eq-eqb o q e) refl
+
+other-job : (o q : ℕ) → (o ≡ q → ⊥) → jobAt q (a-job o) ≡ 0
+unfolding jobAt
+other-job o q ne = rw (ne-eqb o q ne) refl
+
+-- and nothing else is counted: code has the jobs of its parts
+jobs-end : (q o : ℕ) → jobsAt q (end-at o) ≡ 0
+unfolding bodyWeight jobAt
+jobs-end q o = refl
+
+jobs-job : (q o n : ℕ) (r : Code) → jobsAt q (job-at o n r) ≡ jobAt q (a-job o) + jobsAt q r
+unfolding bodyWeight
+jobs-job q o n r = refl
+
+jobs-async : (q o : ℕ) (b r : Code) → jobsAt q (async-at o b r) ≡ jobsAt q b + jobsAt q r
+unfolding bodyWeight joinsWeight joinWeight weight firstEdition jobAt
+jobs-async q o b r = omega arith
+
+jobs-finish : (q o : ℕ) (b r : Code) → jobsAt q (finish-at o b r) ≡ jobsAt q b + jobsAt q r
+unfolding bodyWeight joinsWeight joinWeight weight firstEdition jobAt
+jobs-finish q o b r = omega arith
+
+jobs-fork : (q o : ℕ) (b c r : Code) → jobsAt q (fork-at o b c r) ≡ jobsAt q b + (jobsAt q c + jobsAt q r)
+unfolding bodyWeight joinsWeight joinWeight weight firstEdition jobAt
+jobs-fork q o b c r = omega arith
+
+-- Of jobs J between lo and hi, w are at q: none, or the one with number n.
+data Told (q w : ℕ) (J : ℕ → Type 0) (lo hi : ℕ) : Type 0 where
+  none-there : w ≡ 0 → ((n : ℕ) → J n → ⊥) → Told q w J lo hi
+  one-there : (n : ℕ) → w ≡ 1 → J n → lo ≤ q → q ≤ hi → Told q w J lo hi
+
+-- of those in two ranges one behind the other
+beside :
+    {q w w' all lo hi lo' hi' from : ℕ} {J J' : ℕ → Type 0} → Told q w J lo hi → Told q w' J' lo' hi' → all ≡ w + w' → hi < lo'
+    → from ≤ lo → lo ≤ hi → lo' ≤ hi' → Told q all (λ n. J n ⊎ J' n) from hi'
+beside (none-there e f) (none-there e' f') sum apart s l l' = none-there (omega arith) (λ n. ⊎-elim (f n) (f' n))
+beside (none-there e f) (one-there n e' j s' i') sum apart s l l' = one-there n (omega arith) (inr j) (omega arith) (omega arith)
+beside (one-there n e j s' i') (none-there e' f') sum apart s l l' = one-there n (omega arith) (inl j) (omega arith) (omega arith)
+beside (one-there n e j s' i') (one-there n' e' j' s'' i'') sum apart s l l' = absurd (omega arith)
+
+-- a job by itself
+told-job : (q o m : ℕ) → Told q (jobAt q (a-job o)) (λ n. (o ≡ q) × (m ≡ n)) o o
+told-job q o m =
+    ⊎-elim (λ e. one-there m (this-job o q e) (e, refl) (omega arith) (omega arith))
+    (λ ne. none-there (other-job o q ne) (λ n h. ne (h .0)))
+    (equal? o q)
+
+-- the jobs of laid code
+told : (q : ℕ) (c : Code) → Laid c → Told q (jobsAt q c) (JobIn c q) (place c) (last c)
+unfolding JobIn Laid place last
+told q (end-at o) l = none-there (jobs-end q o) (λ n h. h)
+told q (job-at o m r) l =
+    beside (told-job q o m) (told q r (l .1)) (jobs-job q o m r) (l .0 .starts) (omega arith) (omega arith) (l .0 .rest)
+told q (async-at o b r) l =
+    beside (told q b (l .1)) (told q r (l .2)) (jobs-async q o b r) (omega (arith, l .0 .ends)) (omega (arith, l .0 .starts)) (l .0 .body)
+    (l .0 .rest)
+told q (finish-at o b r) l =
+    beside (told q b (l .1)) (told q r (l .2)) (jobs-finish q o b r) (omega (arith, l .0 .ends)) (omega (arith, l .0 .starts)) (l .0 .body)
+    (l .0 .rest)
+told q (fork-at o b c r) l =
+    beside (told q b (l .1))
+    (beside {from = place c} (told q c (l .2)) (told q r (l .3)) refl (omega (arith, l .0 .ends)) (omega arith) (l .0 .right) (l .0 .rest))
+    (jobs-fork q o b c r) (omega (arith, l .0 .between)) (omega (arith, l .0 .starts)) (l .0 .left)
+    (omega (arith, l .0 .right, l .0 .ends, l .0 .rest))
+
+-- so no two are at the same offset, and one is counted exactly if it is written
+pub jobs-le : (q : ℕ) (c : Code) → Laid c → jobsAt q c ≤ 1
+jobs-le q c l = go (told q c l)
+  where
+    go : Told q (jobsAt q c) (JobIn c q) (place c) (last c) → jobsAt q c ≤ 1
+    go (none-there e f) = omega arith
+    go (one-there n e j s i) = omega arith
+
+pub jobs-one : (q : ℕ) (c : Code) → Laid c → (jobsAt q c ≡ 1) ↔ ((n : ℕ) × JobIn c q n)
+jobs-one q c l = go (told q c l)
+  where
+    go : Told q (jobsAt q c) (JobIn c q) (place c) (last c) → (jobsAt q c ≡ 1) ↔ ((n : ℕ) × JobIn c q n)
+    go (none-there e f) = (λ h. absurd (omega arith), λ h. absurd (f (h .0) (h .1)))
+    go (one-there n e j s i) = (λ h. (n, j), λ h. e)
+
+pub jobs-none : (q : ℕ) (c : Code) → Laid c → (jobsAt q c ≡ 0) ↔ ((n : ℕ) → JobIn c q n → ⊥)
+jobs-none q c l = go (told q c l)
+  where
+    go : Told q (jobsAt q c) (JobIn c q) (place c) (last c) → (jobsAt q c ≡ 0) ↔ ((n : ℕ) → JobIn c q n → ⊥)
+    go (none-there e f) = (λ h. f, λ h. e)
+    go (one-there n e j s i) = (λ h. absurd (omega arith), λ h. absurd (h n j))
+
+-- Nothing is left exactly if every vertex is over.
+
+-- where a sum is 0, every summand is
+sum-zero : (f : ℕ → ℕ) (n : ℕ) → sumBelow f n ≡ 0 → (u : ℕ) → u < n → f u ≡ 0
+unfolding sumBelow
+sum-zero f zero h u l = absurd (omega arith)
+sum-zero f (suc n) h u l =
+    ⊎-elim (λ (e : u ≡ n). ap f e ∙ omega arith) (λ k. sum-zero f n (omega arith) u k) (eq-or-lt-of-le (le-of-suc-le-suc l))
+
+-- and the other way round
+zero-sum : (f : ℕ → ℕ) (n : ℕ) → ((u : ℕ) → u < n → f u ≡ 0) → sumBelow f n ≡ 0
+unfolding sumBelow
+zero-sum f zero h = refl
+zero-sum f (suc n) h = omega (arith, h n (omega arith), zero-sum f n (λ u l. h u (omega arith)))
+
+pub all-over : (S : State) → total each S ≡ 0 → (v : ℕ) → v < S .count → S .control v ≡ over
+unfolding total
+all-over S h v l = nothing-left (S .control v) (sum-zero (λ v. left each (S .control v)) (S .count) h v l)
+
+pub over-all : (ω : Event → ℕ) (S : State) → ((v : ℕ) → v < S .count → S .control v ≡ over) → total ω S ≡ 0
+unfolding total left
+over-all ω S h = zero-sum (λ v. left ω (S .control v)) (S .count) (λ v l. ap (left ω) (h v l))
+
+-- Runs from the beginning.
+
+-- only these two have anything to do
+beginning-beyond : (p : Code) (L : ℕ) → Beyond (beginning p L)
+unfolding beginning
+beginning-beyond p L u l = rw (ne-eqb u 0 (λ q. absurd (omega arith)), ne-eqb u 1 (λ q. absurd (omega arith))) refl
+
+-- what has been done and what is left is what a program's state weighs at the beginning
+runs-on :
+    (ω : Event → ℕ) (p : Code) (L : ℕ) {es : List Event} {S : State} → Runs L (beginning p L) es S
+    → total ω (beginning p L) ≡ spent ω es + total ω S
+runs-on ω p L r = runs-pay ω (beginning-beyond p L) r
+
+-- Steps.
+
+spent-each : (es : List Event) → spent each es ≡ length es
+unfolding spent
+spent-each [] = refl
+spent-each (e ∷ es) = omega (arith, spent-each es)
+
+pub steps-run :
+    (o : ℕ) (t : Body) (L : ℕ) {es : List Event} {S : State} → Runs L (beginning (locate o t) L) es S
+    → length es + total each S ≡ steps firstEdition t
+steps-run o t L {es} r = omega (arith, runs-on each (locate o t) L r, spent-each es, steps-total o L t)
+
+pub steps-bound :
+    (o : ℕ) (t : Body) (L : ℕ) {es : List Event} {S : State} → Runs L (beginning (locate o t) L) es S
+    → length es ≤ steps firstEdition t
+steps-bound o t L r = omega (arith, steps-run o t L r)
+
+-- Vertices: each new one is counted.
+
+news-none : (d : Do) → news (eventOf d) ≡ 0
+unfolding news eventOf
+news-none (link a b) = refl
+news-none (hand h) = refl
+news-none (free m) = refl
+
+pub move-count : {L v : ℕ} {S S' : State} {e : Event} → Move L S v e S' → S' .count ≡ news e + S .count
+unfolding news
+move-count (begins q bare) = omega arith
+move-count (performs q) = omega arith
+move-count (stops q) = omega arith
+move-count (makes q e) = omega arith
+move-count (splits q e) = omega arith
+move-count {v = v} {S = S} (acts {d = d} q) = omega (arith, done-count S v d, news-none d)
+
+runs-count : {L : ℕ} {S S' : State} {es : List Event} → Runs L S es S' → S' .count ≡ spent news es + S .count
+unfolding spent
+runs-count no-move = omega arith
+runs-count (and-then r m) = omega (arith, runs-count r, move-count m)
+
+pub vertices-bound :
+    (o : ℕ) (t : Body) (L : ℕ) {es : List Event} {S : State} → Runs L (beginning (locate o t) L) es S → S .count ≤ vertices firstEdition t
+unfolding beginning
+vertices-bound o t L r = omega (arith, runs-on news (locate o t) L r, runs-count r, vertices-total o L t)
+
+-- Edge rows: the one that is held at the beginning, and each new one.
+
+pub edges-bound :
+    (o : ℕ) (t : Body) (L : ℕ) {es : List Event} {S : State} → Runs L (beginning (locate o t) L) es S
+    → 1 + spent links es ≤ edgeRows firstEdition t
+edges-bound o t L r = omega (arith, runs-on links (locate o t) L r, edges-total o L t)
+
+-- Jobs.
+
+-- at the beginning, those that are written
+jobs-total : (q : ℕ) (p : Code) (L : ℕ) → total (jobAt q) (beginning p L) ≡ jobsAt q p
+unfolding jobAt
+jobs-total q p L = omega (arith, opening (jobAt q) p L)
+
+-- a job is done once at most
+pub job-once :
+    (q : ℕ) (p : Code) (L : ℕ) {es : List Event} {S : State} → Laid p → Runs L (beginning p L) es S → spent (jobAt q) es ≤ 1
+job-once q p L l r = omega (arith, runs-on (jobAt q) p L r, jobs-total q p L, jobs-le q p l)
+
+-- never, if it is not written
+pub job-never :
+    (q : ℕ) (p : Code) (L : ℕ) {es : List Event} {S : State} → Laid p → ((n : ℕ) → JobIn p q n → ⊥) → Runs L (beginning p L) es S
+    → spent (jobAt q) es ≡ 0
+job-never q p L l h r = omega (arith, runs-on (jobAt q) p L r, jobs-total q p L, jobs-none q p l .1 h)
+
+-- exactly once, if it is, when nothing of it is left
+pub job-past :
+    (q n : ℕ) (p : Code) (L : ℕ) {es : List Event} {S : State} → Laid p → JobIn p q n → Runs L (beginning p L) es S
+    → total (jobAt q) S ≡ 0 → spent (jobAt q) es ≡ 1
+job-past q n p L l h r z = omega (arith, runs-on (jobAt q) p L r, jobs-total q p L, jobs-one q p l .1 (n, h), z)
+
+-- so it is when all is done
+pub job-done :
+    (q n : ℕ) (p : Code) (L : ℕ) {es : List Event} {S : State} → Laid p → JobIn p q n → Runs L (beginning p L) es S → total each S ≡ 0
+    → spent (jobAt q) es ≡ 1
+job-done q n p L {S = S} l h r z = job-past q n p L l h r (over-all (jobAt q) S (all-over S z))

@@ -1,0 +1,98 @@
+-- The order of jobs: it holds after loading, and every move keeps it. With `in-order` of WaitLaws this is the order of the answers.
+--
+--     orders-beginning   Orders p (beginning p L)
+--     orders-kept        Orders p S → Move L S v e S' → Orders p S', where p is laid and S has its invariants
+use Prim.Native.Nat.{ℕ}
+use mathlib.Core.Path.{_≡_, refl, sym, _∙_, ap, subst}
+use mathlib.Core.Bool.{true, false}
+use mathlib.Core.Logic.{inr, ⊎-elim}
+use mathlib.Core.List.{[], _∷_, _++_}
+use mathlib.Core.Option.{some, Option·some-injective, Option·none-ne-some}
+use native.Mathlib.Omega.{arith}
+use Rattle.graph.proofs.TestLaws.{equal?, true-false}
+use Rattle.program.specs.Located.{Code, end-at}
+use Rattle.program.proofs.LocatedLaws.{Laid}
+use Rattle.machine.proofs.Ghost.{link, hand, free, ready, over, State, put, done, Event, Move, begins, performs, stops, makes}
+use Rattle.machine.proofs.Ghost.{splits, acts}
+use Rattle.machine.proofs.Invariant.{tasks, tasksOf, Settled, held, given, planned, Shape, Roads, Coded}
+use Rattle.machine.proofs.GhostLaws.{put-other, splits-at}
+use Rattle.machine.proofs.RoadLaws.{put-all, in-empty, linked-cases}
+use Rattle.machine.proofs.SettledLaws.{acts-did, link-back, link-on, hand-back, hand-on, free-back, free-on}
+use Rattle.machine.proofs.RoadsKept.{roads-kept}
+use Rattle.machine.proofs.Beginning.{beginning}
+use Rattle.machine.proofs.BeginningRoads.{roads-beginning}
+use Rattle.machine.proofs.Order.{Job, Pre, holds, Held, Orders}
+use Rattle.machine.proofs.WaitLaws.{end-job, waits-led}
+use Rattle.machine.proofs.OrderMoves.{begins-orders, performs-orders, stops-orders, makes-orders, acts-orders}
+use Rattle.machine.proofs.OrderSplit.{splits-orders}
+
+-- after loading, no item is under way
+beginning-idle : (p : Code) (L u : ℕ) → tasksOf (beginning p L) u ≡ []
+unfolding beginning tasks
+beginning-idle p L = put-all (λ x. tasks x ≡ []) _ 0 (ready p) (put-all (λ x. tasks x ≡ []) _ 1 (ready (end-at L)) (λ u. refl) refl) refl
+
+-- nothing leads to vertex 0
+edge-first : (p : Code) (L x : ℕ) → beginning p L .edge x 0 ≡ true → ⊥
+unfolding beginning
+edge-first p L x e = linked-cases (λ a b. false) 0 1 x 0 e (λ z. true-false z refl) (λ q r. absurd (omega arith))
+
+into-first : (p : Code) (L x : ℕ) → Settled (beginning p L) x 0 → ⊥
+into-first p L x (held e n) = edge-first p L x e
+into-first p L x (given t i e) = edge-first p L t e
+into-first p L x (planned t i) = in-empty (beginning-idle p L t) i
+
+-- and it alone holds jobs, those of the program
+holder : (p : Code) (L u q : ℕ) {c : Code} → holds (beginning p L .control u) ≡ some c → Job c q → (u ≡ 0) × (p ≡ c)
+unfolding beginning holds
+holder p L u q {c} h j =
+    ⊎-elim
+    (λ e. (e, Option·some-injective p c (subst (λ (z : ℕ). holds (beginning p L .control z) ≡ some c) e h)))
+    (λ n.
+    ⊎-elim
+    (λ e.
+    let at : end-at L ≡ c = Option·some-injective (end-at L) c (subst (λ (z : ℕ). holds (beginning p L .control z) ≡ some c) e h) in
+    absurd (end-job L q (subst (λ (z : Code). Job z q) (sym at) j)))
+    (λ n'.
+    let at = put-other (put (λ u. over) 1 (ready (end-at L))) 0 (ready p) u n ∙ put-other (λ u. over) 1 (ready (end-at L)) u n' in
+    absurd (Option·none-ne-some c (sym (ap holds at) ∙ h)))
+    (equal? u 1))
+    (equal? u 0)
+
+pub orders-beginning : (p : Code) (L : ℕ) → Orders p (beginning p L)
+orders-beginning p L =
+    record {
+      alone = λ u v q h k. first h ∙ sym (first k);
+      only = λ v q c h j u x k a. inr (subst (λ (z : Code). Pre z x q) (holder p L v q h j .1) a);
+      each =
+          λ v q c h j u x k a.
+          let (e, e') = holder p L v q h j in
+          ⊎-elim
+          (λ w.
+          let (y, s) = waits-led (roads-beginning p L) w in
+          absurd (into-first p L y (subst (λ (z : ℕ). Settled (beginning p L) y z) e s)))
+          (λ f. subst (λ (z : Code). Pre z x q) (sym e') f)
+          a;
+    }
+  where
+    first : {u q : ℕ} → Held (beginning p L) u q → u ≡ 0
+    first {u} {q} (Held.held c h j) = holder p L u q h j .0
+
+-- every move keeps the order
+pub orders-kept :
+    {p : Code} {L v : ℕ} {S S' : State} {e : Event} → Laid p → Shape S → Roads S → Coded p S → Orders p S → Move L S v e S' → Orders p S'
+unfolding done
+orders-kept lp sh rs cd os (begins q f) = begins-orders os q
+orders-kept lp sh rs cd os (performs q) = performs-orders lp cd os q
+orders-kept lp sh rs cd os (stops q) = stops-orders rs os q
+orders-kept {S = S} lp sh rs cd os (makes {ms = ms} {k = k} q w) = makes-orders k (ms ++ (S .count ∷ [])) _ _ _ sh os q
+orders-kept {p} {L} lp sh rs cd os (splits {c = c} {ms = ms} q w) =
+    splits-orders p L lp cd sh rs (roads-kept sh rs (splits q w)) os q (splits-at c ms w)
+orders-kept lp sh rs cd os (acts {d = link a b} q) =
+    let D = acts-did q in
+    acts-orders os q (λ u. refl) (λ u. refl) (λ x y. link-back sh D (λ x y. refl)) (λ x y. link-on sh D (λ x y. refl))
+orders-kept lp sh rs cd os (acts {d = hand h} q) =
+    let D = acts-did q in
+    acts-orders os q (λ u. refl) (λ u. refl) (λ x y. hand-back sh D (λ x y. refl)) (λ x y. hand-on sh D (λ x y. refl))
+orders-kept lp sh rs cd os (acts {d = free m} q) =
+    let D = acts-did q in
+    acts-orders os q (λ u. refl) (λ u. refl) (λ x y. free-back D (λ x y. refl)) (λ x y. free-on D (λ x y. refl))

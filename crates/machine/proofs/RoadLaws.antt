@@ -1,0 +1,201 @@
+-- More laws of the parts that states and moves are made of: a function changed in one place, what is seen of a control, and edges.
+use Prim.Native.Nat.{ℕ, _<_}
+use mathlib.Core.Path.{_≡_, refl, sym, _∙_, ap, subst}
+use mathlib.Core.Bool.{Bool, true, false, cond}
+use mathlib.Core.Logic.{⊎-elim}
+use mathlib.Core.List.{List, [], _∷_}
+use mathlib.Core.Option.{some}
+use lib.Dec.{eqb}
+use borrow.Author.Tests.{eq-eqb, ne-eqb, eqb-true, eqb-false, not-true}
+use Rattle.graph.proofs.TestLaws.{not-of-false, both-true, both-left, both-right, either-left, either-right, either-cases}
+use Rattle.program.specs.Located.{Code}
+use Rattle.machine.proofs.Ghost.{Do, link, hand, free, Control, draft, fresh, ready, busy, joining, over, State, put, onward}
+use Rattle.machine.proofs.Ghost.{woken, freed, done, linked, handed, dropped}
+use Rattle.machine.proofs.Invariant.{In, tasks, codeOf, waits, isDraft, Shape}
+use Rattle.machine.proofs.GhostLaws.{clash, in-none, below}
+
+-- a function changed in one place: what holds of its values and of the new one
+pub put-all : {A : Type 0} (P : A → Type 0) (f : ℕ → A) (v : ℕ) (x : A) → ((u : ℕ) → P (f u)) → P x → (u : ℕ) → P (put f v x u)
+put-all P f v x h p u = go (eqb u v)
+  where
+    go : (b : Bool) → P (cond b x (f u))
+    go true = p
+    go false = h u
+
+-- what is seen of the new value as it was of the old one is seen everywhere as before
+pub put-keeps :
+    {A B : Type 0} (g : A → B) (f : ℕ → A) (v : ℕ) (x : A) → g x ≡ g (f v) → (u : ℕ) → g (put f v x u) ≡ g (f u)
+put-keeps g f v x e u = go (eqb u v) refl
+  where
+    go : (b : Bool) → eqb u v ≡ b → g (cond b x (f u)) ≡ g (f u)
+    go true h = e ∙ ap (λ (w : ℕ). g (f w)) (sym (eqb-true u v h))
+    go false h = refl
+
+-- the same of two changes
+pub puts-keep :
+    {A B : Type 0} (g : A → B) (f : ℕ → A) (n v : ℕ) (y x : A) → g y ≡ g (f n) → g x ≡ g (f v) → (u : ℕ)
+    → g (put (put f n y) v x u) ≡ g (f u)
+puts-keep g f n v y x e d u =
+    let inner = put-keeps g f n y e in put-keeps g (put f n y) v x (d ∙ sym (inner v)) u ∙ inner u
+
+-- nothing is in a list that is empty
+pub in-empty : {A B : Type 0} {x : A} {l : List A} → l ≡ [] → In x l → B
+in-empty {x = x} e i = in-none (subst (λ l. In x l) e i)
+
+-- what is seen of controls
+pub fresh-idle : {x : Control} {c : Code} → x ≡ fresh c → tasks x ≡ []
+unfolding tasks
+fresh-idle e = ap tasks e
+
+pub over-idle : {x : Control} → x ≡ over → tasks x ≡ []
+unfolding tasks
+over-idle e = ap tasks e
+
+pub busy-code : {x : Control} {c : Code} {ms : List ℕ} → x ≡ busy c ms → codeOf x ≡ some c
+unfolding codeOf
+busy-code e = ap codeOf e
+
+pub busy-waits : {x : Control} {c : Code} {ms : List ℕ} → x ≡ busy c ms → waits x ≡ false
+unfolding waits
+busy-waits e = ap waits e
+
+pub draft-waits : {x : Control} {c : Code} → x ≡ draft c → waits x ≡ true
+unfolding waits
+draft-waits e = ap waits e
+
+pub over-waits : {x : Control} → x ≡ over → waits x ≡ false
+unfolding waits
+over-waits e = ap waits e
+
+pub busy-draft : {x : Control} {c : Code} {ms : List ℕ} → x ≡ busy c ms → isDraft x ≡ false
+unfolding isDraft
+busy-draft e = ap isDraft e
+
+-- a vertex that executes has been made
+pub busy-below : {S : State} {c : Code} {ms : List ℕ} → Shape S → (v : ℕ) → S .control v ≡ busy c ms → v < S .count
+busy-below sh v q = below sh v (λ o. let z = sym q ∙ o in clash cc)
+
+-- an edge besides those that were there: it is old, or it is that one
+pub linked-cases :
+    {P : Type 0} (e : ℕ → ℕ → Bool) (a b x y : ℕ) → linked e a b x y ≡ true → (e x y ≡ true → P) → (x ≡ a → y ≡ b → P) → P
+linked-cases e a b x y h f g =
+    ⊎-elim f (λ q. g (eqb-true x a (both-left _ _ q)) (eqb-true y b (both-right _ _ q))) (either-cases _ _ h)
+
+pub linked-old : (e : ℕ → ℕ → Bool) (a b x y : ℕ) → e x y ≡ true → linked e a b x y ≡ true
+linked-old e a b x y h = either-left _ h
+
+pub linked-new : (e : ℕ → ℕ → Bool) (a b : ℕ) → linked e a b a b ≡ true
+linked-new e a b = either-right (e a b) (both-true (eq-eqb a a refl) (eq-eqb b b refl))
+
+-- edges out of v given to h: an edge is out of another vertex and old, or it is one of h, and was one of v
+pub handed-cases :
+    {P : Type 0} (e : ℕ → ℕ → Bool) (v h x y : ℕ) → handed e v h x y ≡ true → (e x y ≡ true → (x ≡ v → ⊥) → P)
+    → (x ≡ h → e v y ≡ true → P) → P
+handed-cases e v h x y q f g =
+    ⊎-elim
+    (λ q. f (both-left _ _ q) (eqb-false x v (not-true _ (both-right _ _ q))))
+    (λ q. g (eqb-true x h (both-left _ _ q)) (both-right _ _ q))
+    (either-cases _ _ q)
+
+pub handed-old : (e : ℕ → ℕ → Bool) (v h x y : ℕ) → e x y ≡ true → (x ≡ v → ⊥) → handed e v h x y ≡ true
+handed-old e v h x y q n = either-left _ (both-true q (not-of-false (ne-eqb x v n)))
+
+pub handed-new : (e : ℕ → ℕ → Bool) (v h y : ℕ) → e v y ≡ true → handed e v h h y ≡ true
+handed-new e v h y q = either-right _ (both-true (eq-eqb h h refl) q)
+
+-- edges but for those out of v
+pub dropped-edge : (e : ℕ → ℕ → Bool) (v x y : ℕ) → dropped e v x y ≡ true → e x y ≡ true
+dropped-edge e v x y q = both-left _ _ q
+
+pub dropped-old : (e : ℕ → ℕ → Bool) (v x y : ℕ) → e x y ≡ true → (x ≡ v → ⊥) → dropped e v x y ≡ true
+dropped-old e v x y q n = both-true q (not-of-false (ne-eqb x v n))
+
+-- what is seen of a vertex behind a split
+pub code-onward : (c : Code) (ds : List Do) → codeOf (onward c ds) ≡ some c
+unfolding codeOf onward
+code-onward c [] = refl
+code-onward c (d ∷ ds) = refl
+
+pub waits-onward : (c : Code) (ds : List Do) → waits (onward c ds) ≡ false
+unfolding waits onward
+waits-onward c [] = refl
+waits-onward c (d ∷ ds) = refl
+
+pub draft-onward : (c : Code) (ds : List Do) → isDraft (onward c ds) ≡ false
+unfolding isDraft onward
+draft-onward c [] = refl
+draft-onward c (d ∷ ds) = refl
+
+-- what a draft that becomes fresh keeps
+pub tasks-woken : (x : Control) → tasks (woken x) ≡ tasks x
+unfolding tasks woken
+tasks-woken (draft c) = refl
+tasks-woken (fresh c) = refl
+tasks-woken (ready c) = refl
+tasks-woken (busy c ms) = refl
+tasks-woken (joining c d ds) = refl
+tasks-woken over = refl
+
+pub code-woken : (x : Control) → codeOf (woken x) ≡ codeOf x
+unfolding codeOf woken
+code-woken (draft c) = refl
+code-woken (fresh c) = refl
+code-woken (ready c) = refl
+code-woken (busy c ms) = refl
+code-woken (joining c d ds) = refl
+code-woken over = refl
+
+pub waits-woken : (x : Control) → waits (woken x) ≡ waits x
+unfolding waits woken
+waits-woken (draft c) = refl
+waits-woken (fresh c) = refl
+waits-woken (ready c) = refl
+waits-woken (busy c ms) = refl
+waits-woken (joining c d ds) = refl
+waits-woken over = refl
+
+-- what a vertex that is released keeps
+pub tasks-freed : (x : Control) → tasks (freed x) ≡ tasks x
+unfolding tasks freed
+tasks-freed (draft c) = refl
+tasks-freed (fresh c) = refl
+tasks-freed (ready c) = refl
+tasks-freed (busy c ms) = refl
+tasks-freed (joining c d ds) = refl
+tasks-freed over = refl
+
+pub code-freed : (x : Control) → codeOf (freed x) ≡ codeOf x
+unfolding codeOf freed
+code-freed (draft c) = refl
+code-freed (fresh c) = refl
+code-freed (ready c) = refl
+code-freed (busy c ms) = refl
+code-freed (joining c d ds) = refl
+code-freed over = refl
+
+pub waits-freed : (x : Control) → waits (freed x) ≡ waits x
+unfolding waits freed
+waits-freed (draft c) = refl
+waits-freed (fresh c) = refl
+waits-freed (ready c) = refl
+waits-freed (busy c ms) = refl
+waits-freed (joining c d ds) = refl
+waits-freed over = refl
+
+pub draft-freed : (x : Control) → isDraft (freed x) ≡ isDraft x
+unfolding isDraft freed
+draft-freed (draft c) = refl
+draft-freed (fresh c) = refl
+draft-freed (ready c) = refl
+draft-freed (busy c ms) = refl
+draft-freed (joining c d ds) = refl
+draft-freed over = refl
+
+-- what a joining command leaves of a control that a release leaves
+pub done-keeps :
+    {B : Type 0} (g : Control → B) → ((x : Control) → g (freed x) ≡ g x) → (S : State) (v : ℕ) (d : Do) (u : ℕ)
+    → g (done S v d .control u) ≡ g (S .control u)
+unfolding done
+done-keeps g h S v (link a b) u = refl
+done-keeps g h S v (hand k) u = refl
+done-keeps g h S v (free m) u = put-keeps g (S .control) m (freed (S .control m)) (h (S .control m)) u

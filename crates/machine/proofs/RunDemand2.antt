@@ -1,0 +1,128 @@
+-- Demand 2 of a run: it takes only steps, each of the lowest vertex that can step, counts them, and ends as it finds.
+use Prim.Native.Nat.{ℕ, zero, suc, _+_, _<_, _≤_}
+use mathlib.Core.Path.{_≡_, refl, _∙_, ap, subst}
+use mathlib.Core.Logic.{⊎-elim}
+use mathlib.Core.Bool.{Bool, true, false, cond}
+use mathlib.Core.List.{List}
+use mathlib.Core.Option.{Option, none, some}
+use native.Mathlib.Omega.{arith}
+use borrow.Author.Tests.{ltb-true, eq-eqb, eqb-true}
+use Rattle.graph.specs.Tables.{Lent, FINISHED, status}
+use Rattle.graph.specs.Commands.{isMade, hasStatus}
+use Rattle.graph.proofs.TestLaws.{true-false, not-so, every-at, every-all, below-suc}
+use Rattle.machine.specs.Answers.{Said, unsound-tables}
+use Rattle.machine.specs.Stepping.{steppable, step}
+use Rattle.machine.specs.Running.{canStep, orThis, lowestBelow, lowest, allFinished, refused, RunOutcome, ended, look, runOn, run}
+use Rattle.machine.specs.Demand2.{Steps, no-step, one-more, AllFinished, Looks, Ran, run-refused, run-steps}
+use Rattle.machine.proofs.AnswerLaws.{unless-passed}
+use Rattle.machine.proofs.StepDemand2.{step-counts}
+
+-- What a search below n comes to: no number, or the lowest of which the test holds.
+abbrev Finds : (ℕ → Bool) → ℕ → Option ℕ → Type 0
+Finds p n none = (u : ℕ) → u < n → p u ≡ false
+Finds p n (some v) = (p v ≡ true) × ((u : ℕ) → u < v → p u ≡ false)
+
+-- one number more
+or-finds : (p : ℕ → Bool) (n : ℕ) (x : Option ℕ) (b : Bool) → p n ≡ b → Finds p n x → Finds p (suc n) (orThis x b n)
+unfolding orThis
+or-finds p n (some v) b q f = f
+or-finds p n none true q f = (q, f)
+or-finds p n none false q f = λ u lt. ⊎-elim (λ e. ap p e ∙ q) (λ l. f u l) (below-suc lt)
+
+-- so the search finds it
+below-finds : (p : ℕ → Bool) (n : ℕ) → Finds p n (lowestBelow p n)
+unfolding lowestBelow
+below-finds p zero = λ u lt. absurd (omega arith)
+below-finds p (suc n) = or-finds p n (lowestBelow p n) (p n) refl (below-finds p n)
+
+lowest-finds : (bytes : List ℕ) (s : Lent) → Finds (canStep bytes s) (s .made) (lowest bytes s)
+unfolding lowest
+lowest-finds bytes s = below-finds (canStep bytes s) (s .made)
+
+-- only a made vertex can step
+can-made : (bytes : List ℕ) (s : Lent) (v : ℕ) → canStep bytes s v ≡ true → v < s .made
+unfolding step
+can-made bytes s v h = ltb-true v (s .made) (unless-passed s (isMade s v) _ _ (unless-passed s (steppable s) _ _ h .1) .0)
+
+-- "all vertices made are finished", as a test and in words
+finished-all : (s : Lent) → allFinished s ≡ true → AllFinished s
+unfolding allFinished
+finished-all s h v lt = eqb-true (status (s .vertices) v) FINISHED (every-at (λ v. hasStatus s v FINISHED) (s .made) h v lt)
+
+finished-not : (s : Lent) → allFinished s ≡ false → AllFinished s → ⊥
+unfolding allFinished
+finished-not s h all =
+    true-false (every-all (λ v. hasStatus s v FINISHED) (s .made) (λ v lt. eq-eqb (status (s .vertices) v) FINISHED (all v lt))) h
+
+-- what a run comes to from s with this budget, once it has ended
+record Made (bytes : List ℕ) (s : Lent) (budget : ℕ) (o : RunOutcome) : Type 0 where
+  by-steps : Steps bytes s (o .taken) (o .last) (o .after)
+  within : o .taken ≤ budget
+  looks : Looks bytes budget (o .taken) (o .after) (o .ending)
+
+-- on from where it has come to, with so much of the budget left
+module _ (bytes : List ℕ) (s₀ : Lent) (budget : ℕ) where
+  -- `again` comes to that from wherever so much of the budget is left
+  abbrev Onward : (Lent → Option Said → ℕ → RunOutcome) → ℕ → Type 0
+  Onward again left =
+      (s : Lent) (last : Option Said) (taken : ℕ) → Steps bytes s₀ taken last s → taken + left ≡ budget
+      → Made bytes s₀ budget (again s last taken)
+
+  -- one look
+  look-made :
+      (again : Lent → Option Said → ℕ → RunOutcome) (left : ℕ) (s : Lent) (last : Option Said) (taken : ℕ) (all : Bool) (x : Option ℕ)
+      → ((l : ℕ) → left ≡ suc l → Onward again l) → Steps bytes s₀ taken last s → taken + left ≡ budget → allFinished s ≡ all
+      → Finds (canStep bytes s) (s .made) x → Made bytes s₀ budget (look bytes again left s last taken all x)
+  unfolding look
+  look-made again left s last taken true x on steps e f finds =
+      record { by-steps = steps; within = omega arith; looks = finished-all s f }
+  look-made again left s last taken false none on steps e f finds =
+      record {
+        by-steps = steps;
+        within = omega arith;
+        looks = (finished-not s f, λ v. not-so (canStep bytes s v) (λ h. true-false h (finds v (can-made bytes s v h))));
+      }
+  look-made again zero s last taken false (some v) on steps e f finds =
+      record {
+        by-steps = steps;
+        within = omega arith;
+        looks = (finished-not s f, (v, record { can = finds .0; none-lower = finds .1 }), omega arith);
+      }
+  look-made again (suc left) s last taken false (some v) on steps e f finds =
+      on left refl (step bytes s v .after) (some (step bytes s v .answer)) (suc taken)
+      (one-more v steps (record { can = finds .0; none-lower = finds .1 }))
+      (omega arith)
+
+  -- and so all of them
+  on-made : (left : ℕ) → Onward (runOn bytes left) left
+  unfolding runOn
+  on-made zero s last taken steps e =
+      look-made _ 0 s last taken (allFinished s) (lowest bytes s) (λ l q. absurd (omega arith)) steps e refl (lowest-finds bytes s)
+  on-made (suc left) s last taken steps e =
+      look-made (runOn bytes left) (suc left) s last taken (allFinished s) (lowest bytes s)
+      (λ l q. let same : left ≡ l = omega arith in subst (λ (k : ℕ). Onward (runOn bytes left) k) same (on-made left))
+      steps e refl (lowest-finds bytes s)
+
+-- so many steps raise the count by as many
+steps-counted :
+    {bytes : List ℕ} {s s' : Lent} {n : ℕ} {last : Option Said} → Steps bytes s n last s' → s' .steps ≡ s .steps + n
+steps-counted no-step = omega arith
+steps-counted {bytes} {s} (one-more {n = n} {s' = s'} v steps lowest) =
+    let before : s' .steps ≡ s .steps + n = steps-counted steps in
+    let now : step bytes s' v .after .steps ≡ s' .steps + 1 = step-counts bytes s' v (lowest .can) in
+    omega arith
+
+-- A run is refused by 12 only, and changes nothing then; otherwise it takes only such steps, and their number is what it says and by what
+-- the tally rises.
+pub run-ran : (bytes : List ℕ) (s : Lent) (budget : ℕ) → Ran bytes s budget (run bytes s budget)
+unfolding run
+run-ran bytes s budget = go (steppable s) refl
+  where
+    made : Made bytes s budget (runOn bytes budget s none 0)
+    made = on-made bytes s budget budget s none 0 no-step (omega arith)
+
+    go :
+        (b : Bool) → steppable s ≡ b
+        → Ran bytes s budget (cond b (runOn bytes budget s none 0) (ended (refused unsound-tables 0) none 0 s))
+    go true h = run-steps h (made .by-steps) (made .within) (made .looks) (steps-counted (made .by-steps))
+    go false h = run-refused h refl

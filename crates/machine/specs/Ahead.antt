@@ -1,0 +1,52 @@
+-- "Which job comes ahead". Jobs are told apart by offset.
+use Prim.Native.Nat.{ℕ}
+use mathlib.Core.Path.{_≡_}
+use mathlib.Core.List.{List, [], _∷_, _++_}
+use Rattle.program.specs.Trees.{Kind, asyncs, finishes, forks}
+use Rattle.program.specs.Located.{Code, job-at, async-at, finish-at, fork-at}
+
+-- r is what a body has behind its first item
+pub data Behind : Code → Code → Type 0 where
+  job-behind : {o n : ℕ} {r : Code} → Behind (job-at o n r) r
+  async-behind : {o : ℕ} {b r : Code} → Behind (async-at o b r) r
+  finish-behind : {o : ℕ} {b r : Code} → Behind (finish-at o b r) r
+  fork-behind : {o : ℕ} {b c r : Code} → Behind (fork-at o b c r) r
+
+-- b is a body that a body's first item, of this kind, holds
+pub data Holds : Code → Kind → Code → Type 0 where
+  async-holds : {o : ℕ} {b r : Code} → Holds (async-at o b r) asyncs b
+  finish-holds : {o : ℕ} {b r : Code} → Holds (finish-at o b r) finishes b
+  fork-holds-left : {o : ℕ} {b c r : Code} → Holds (fork-at o b c r) forks b
+  fork-holds-right : {o : ℕ} {b c r : Code} → Holds (fork-at o b c r) forks c
+
+-- c is a body from one of its items, or its end, on
+pub data From : Code → Code → Type 0 where
+  start : {b : Code} → From b b
+  on : {b r c : Code} → Behind b r → From r c → From b c
+
+-- The way from a body's first item down to the job at p: the kinds of the items on it, the first item itself counted.
+pub data Way : Code → ℕ → List Kind → Type 0 where
+  job-itself : {o n : ℕ} {r : Code} → Way (job-at o n r) o []
+  down : {c b b' : Code} {k : Kind} {p : ℕ} {ks : List Kind} → Holds c k b → From b b' → Way b' p ks → Way c p (k ∷ ks)
+
+-- anywhere in a program: itself, behind a first item, or in a body that it holds
+pub data Within : Code → Code → Type 0 where
+  whole : {m : Code} → Within m m
+  behind : {m r c : Code} → Behind m r → Within r c → Within m c
+  inside : {m b c : Code} {k : Kind} → Holds m k b → Within b c → Within m c
+
+-- a finish is among these
+pub data AFinish : List Kind → Type 0 where
+  this : {ks : List Kind} → AFinish (finishes ∷ ks)
+  further : {k : Kind} {ks : List Kind} → AFinish ks → AFinish (k ∷ ks)
+
+-- "each async on the way .. has a finish above it on that way"
+abbrev pub Closed : List Kind → Type 0
+Closed ks = (above below : List Kind) → ks ≡ above ++ (asyncs ∷ below) → AFinish above
+
+-- "Take the innermost body with both jobs in different items, p in the earlier. p is ahead of q if each async on the way from that earlier
+-- item (itself counted) down to p has a finish above it on that way." The body is taken from the earlier item on. It is the innermost one: in
+-- any body around it both jobs are in one item, and so they are in two branches of a fork.
+pub data Ahead (m : Code) (p q : ℕ) : Type 0 where
+  ahead :
+      (c r c' : Code) (ks ks' : List Kind) → Within m c → Way c p ks → Closed ks → Behind c r → From r c' → Way c' q ks' → Ahead m p q

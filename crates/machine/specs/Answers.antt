@@ -1,0 +1,72 @@
+-- What the machine's calls answer, and the outcome of a call: its answer and what is lent afterwards.
+use Prim.Native.Nat.{ℕ, _+_}
+use mathlib.Core.Bool.{Bool, true, false}
+use Rattle.graph.specs.Tables.{Lent}
+use Rattle.graph.specs.Answers as of-graph
+
+-- "The lender:"
+abbrev pub too-few-vertex-rows : ℕ
+too-few-vertex-rows = 10
+
+abbrev pub too-few-edge-rows : ℕ
+too-few-edge-rows = 11
+
+abbrev pub unsound-tables : ℕ
+unsound-tables = 12
+
+abbrev pub unreadable : ℕ
+unreadable = 13
+
+-- "An accepted step says one of seven things: start, new v, edge a b, release v, transfer v, job (number, offset), stop." Loading says
+-- that it loaded; a refusal has its number and place.
+pub data Said : Type 0 where
+  loaded : Said
+  start : Said
+  new : ℕ → Said
+  edge : ℕ → ℕ → Said
+  release : ℕ → Said
+  transfer : ℕ → Said
+  job : ℕ → ℕ → Said
+  stop : Said
+  refused : ℕ → ℕ → Said
+
+abbrev pub accepted : Said → Bool
+accepted loaded = true
+accepted start = true
+accepted (new v) = true
+accepted (edge a b) = true
+accepted (release v) = true
+accepted (transfer v) = true
+accepted (job n o) = true
+accepted stop = true
+accepted (refused n p) = false
+
+pub record Outcome : Type 0 where
+  pub answer : Said
+  pub after : Lent
+
+-- "A refusal gives its number and place, and every lent table and the tally hold what they held."
+abbrev pub refuse : Lent → ℕ → ℕ → Outcome
+refuse s n p = record { answer = refused n p; after = s }
+
+-- refused with n, at no place, unless a test holds
+unfoldable pub unless : Lent → Bool → ℕ → Outcome → Outcome
+unless s true n next = next
+unless s false n next = refuse s n 0
+
+-- "the tally's third number": one step more
+abbrev pub oneStep : Lent → Lent
+oneStep s =
+    record { vertices = s .vertices; edges = s .edges; made = s .made; held = s .held; steps = s .steps + 1 }
+
+-- A step by a single command. Where the command is refused so is the step; else `moved` is done to the stepping vertex's row besides, and the
+-- step is counted.
+unfoldable pub byCommand : Lent → of-graph.Said → Lent → (Lent → Lent) → Outcome
+byCommand s of-graph.opened after moved = record { answer = loaded; after = after }
+byCommand s of-graph.start after moved = record { answer = start; after = oneStep (moved after) }
+byCommand s (of-graph.new v) after moved = record { answer = new v; after = oneStep (moved after) }
+byCommand s (of-graph.edge a b) after moved = record { answer = edge a b; after = oneStep (moved after) }
+byCommand s (of-graph.release v) after moved = record { answer = release v; after = oneStep (moved after) }
+byCommand s (of-graph.transfer v) after moved = record { answer = transfer v; after = oneStep (moved after) }
+byCommand s of-graph.stop after moved = record { answer = stop; after = oneStep (moved after) }
+byCommand s (of-graph.refused n p) after moved = refuse s n p

@@ -1,0 +1,185 @@
+-- Document 01's "Bench examples" that are starred, as one table over the definitions of the calls. The proof of the table is in
+-- proofs/Examples.antt.
+use Prim.Native.Nat.{ℕ, _*_}
+use mathlib.Core.Path.{_≡_}
+use mathlib.Core.Bool.{Bool, true}
+use mathlib.Core.List.{List, [], _∷_, map}
+use mathlib.Core.Option.{Option, some}
+use lib.ListN.{replicate}
+use Rattle.graph.specs.Tables.{Lent, vertexWords, edgeWords}
+use Rattle.graph.specs.Answers as of-graph
+use Rattle.graph.specs.Commands.{opening, command}
+use Rattle.graph.specs.declared.Command as single
+use Rattle.graph.specs.declared.Command.the-variants.{NewTd, NewEdge, Transfer, Start}
+use Rattle.machine.specs.Answers.{Said, loaded, start, new, edge, release, transfer, job, stop, refused, Outcome, refuse}
+use Rattle.machine.specs.Loading.{load}
+use Rattle.machine.specs.Stepping.{step}
+use Rattle.machine.specs.Running.{Ending, done, spent, allFinished, run}
+
+-- An example: calls, and what they are to come to.
+pub data Example : Type 0 where
+  -- loading this program is refused, with this number and place
+  refuses : List ℕ → ℕ → ℕ → Example
+  -- this program loads, and its run is done after so many steps, the last of them a stop
+  takes : List ℕ → ℕ → Example
+  -- this program loads, and its run with this budget is spent, and its last step says this
+  comes : List ℕ → ℕ → Said → Example
+  -- this program loads, steps that name these vertices say this, one after the other, and then all are finished
+  goes : List ℕ → List (ℕ × Said) → Example
+  -- the bare machine opens, and these commands say this, one after the other
+  bare : List (single.Command × of-graph.Said) → Example
+
+-- what is lent: five vertex rows and four edge rows, where anything stands
+unfoldable pub anything : Lent
+anything =
+    record { vertices = replicate (vertexWords * 5) 9; edges = replicate (edgeWords * 4) 9; made = 7; held = 7; steps = 7 }
+
+-- more than any example takes
+abbrev pub enough : ℕ
+enough = 100
+
+-- what steps naming these vertices say, and what the last of them leaves
+unfoldable pub saidBy : List ℕ → Lent → List ℕ → List Said
+saidBy bytes s [] = []
+saidBy bytes s (v ∷ vs) = step bytes s v .answer ∷ saidBy bytes (step bytes s v .after) vs
+
+unfoldable pub leftBy : List ℕ → Lent → List ℕ → Lent
+leftBy bytes s [] = s
+leftBy bytes s (v ∷ vs) = leftBy bytes (step bytes s v .after) vs
+
+-- what single commands say
+unfoldable pub saidBare : Lent → List single.Command → List of-graph.Said
+saidBare s [] = []
+saidBare s (c ∷ cs) = command c s .answer ∷ saidBare (command c s .after) cs
+
+-- the calls of a list of calls and answers, and the answers
+abbrev pub firsts : {A B : Type 0} → List (A × B) → List A
+firsts l = map (λ x. x .0) l
+
+abbrev pub seconds : {A B : Type 0} → List (A × B) → List B
+seconds l = map (λ x. x .1) l
+
+-- What the calls of an example come to: loading's answer, then the run's ending, last step and number of steps; or what the steps say,
+-- and whether all are finished then; or the opening's answer and what the commands say.
+pub data Result : Type 0 where
+  ran : Said → Ending → Option Said → ℕ → Result
+  stepped : Said → List Said → Bool → Result
+  commanded : of-graph.Said → List of-graph.Said → Result
+
+-- a run of a program that was loaded; steps of it; commands after the opening
+unfoldable pub runs : List ℕ → ℕ → Outcome → Result
+runs p budget o =
+    ran (o .answer) (run p (o .after) budget .ending) (run p (o .after) budget .last) (run p (o .after) budget .taken)
+
+unfoldable pub steps : List ℕ → List ℕ → Outcome → Result
+steps p vs o = stepped (o .answer) (saidBy p (o .after) vs) (allFinished (leftBy p (o .after) vs))
+
+unfoldable pub commands : List single.Command → of-graph.Outcome → Result
+commands cs o = commanded (o .answer) (saidBare (o .after) cs)
+
+-- that an example holds is an equation
+abbrev pub Holds : Example → Type 0
+Holds (refuses p n q) = load p anything ≡ refuse anything n q
+Holds (takes p n) = runs p enough (load p anything) ≡ ran loaded done (some stop) n
+Holds (comes p n said) = runs p n (load p anything) ≡ ran loaded spent (some said) n
+Holds (goes p turns) = steps p (firsts turns) (load p anything) ≡ stepped loaded (seconds turns) true
+Holds (bare calls) = commands (firsts calls) (opening anything) ≡ commanded of-graph.opened (seconds calls)
+
+-- "Bench examples (hexadecimal; * proved)"
+abbrev pub table : List Example
+table =
+    -- "`00`: 4 steps"
+    takes (0x00 ∷ []) 4
+    -- "`01 00 00`: 5"
+    ∷ takes (0x01 ∷ 0x00 ∷ 0x00 ∷ []) 5
+    -- "`02 01 01 00 01 02 00`: 11, jobs in either order"
+    ∷ takes (0x02 ∷ 0x01 ∷ 0x01 ∷ 0x00 ∷ 0x01 ∷ 0x02 ∷ 0x00 ∷ []) 11
+    ∷ goes (0x02 ∷ 0x01 ∷ 0x01 ∷ 0x00 ∷ 0x01 ∷ 0x02 ∷ 0x00 ∷ [])
+    ((0, start)
+    ∷ (0, new 2)
+    ∷ (0, edge 2 1)
+    ∷ (0, release 2)
+    ∷ (0, job 2 4)
+    ∷ (0, stop)
+    ∷ (2, start)
+    ∷ (2, job 1 1)
+    ∷ (2, stop)
+    ∷ (1, start)
+    ∷ (1, stop)
+    ∷ [])
+    ∷ goes (0x02 ∷ 0x01 ∷ 0x01 ∷ 0x00 ∷ 0x01 ∷ 0x02 ∷ 0x00 ∷ [])
+    ((0, start)
+    ∷ (0, new 2)
+    ∷ (0, edge 2 1)
+    ∷ (0, release 2)
+    ∷ (2, start)
+    ∷ (2, job 1 1)
+    ∷ (2, stop)
+    ∷ (0, job 2 4)
+    ∷ (0, stop)
+    ∷ (1, start)
+    ∷ (1, stop)
+    ∷ [])
+    -- "`04 01 01 00 01 02 00 01 03 00`: 22, job 3 last": its vertex 4 is refused until both branches are finished
+    ∷ takes (0x04 ∷ 0x01 ∷ 0x01 ∷ 0x00 ∷ 0x01 ∷ 0x02 ∷ 0x00 ∷ 0x01 ∷ 0x03 ∷ 0x00 ∷ []) 22
+    ∷ goes (0x04 ∷ 0x01 ∷ 0x01 ∷ 0x00 ∷ 0x01 ∷ 0x02 ∷ 0x00 ∷ 0x01 ∷ 0x03 ∷ 0x00 ∷ [])
+    ((0, start)
+    ∷ (0, new 2)
+    ∷ (0, new 3)
+    ∷ (0, new 4)
+    ∷ (0, edge 2 4)
+    ∷ (0, edge 3 4)
+    ∷ (0, transfer 4)
+    ∷ (0, release 4)
+    ∷ (4, refused 21 0)
+    ∷ (0, release 2)
+    ∷ (0, release 3)
+    ∷ (0, stop)
+    ∷ (3, start)
+    ∷ (3, job 2 4)
+    ∷ (3, stop)
+    ∷ (4, refused 21 0)
+    ∷ (2, start)
+    ∷ (2, job 1 1)
+    ∷ (2, stop)
+    ∷ (4, start)
+    ∷ (4, job 3 7)
+    ∷ (4, stop)
+    ∷ (1, start)
+    ∷ (1, stop)
+    ∷ [])
+    -- "empty: 1"
+    ∷ refuses [] 1 0
+    -- "`05`: 3 at 0"
+    ∷ refuses (0x05 ∷ []) 3 0
+    -- "`01 80 00 00`: 2 at 1"
+    ∷ refuses (0x01 ∷ 0x80 ∷ 0x00 ∷ 0x00 ∷ []) 2 1
+    -- "`00 00`: 6 at 1"
+    ∷ refuses (0x00 ∷ 0x00 ∷ []) 6 1
+    -- "`03 00`: 5 at 2"
+    ∷ refuses (0x03 ∷ 0x00 ∷ []) 5 2
+    -- "`01 FF FF 03 00`: job 65,535"
+    ∷ comes (0x01 ∷ 0xFF ∷ 0xFF ∷ 0x03 ∷ 0x00 ∷ []) 2 (job 65535 0)
+    -- "`01 80 80 04 00`: 7 at 1"
+    ∷ refuses (0x01 ∷ 0x80 ∷ 0x80 ∷ 0x04 ∷ 0x00 ∷ []) 7 1
+    -- "Bare: start 0, new 1, new 2, edge 1 2; then edge 2 1 and edge 1 1 give 35; edge 1 2 gives 34; edge 0 1 is taken; transfer to 1
+    -- gives 38, to 2 gives 35."
+    ∷ bare
+    ((Start 0, of-graph.start)
+    ∷ (NewTd 0 0 0, of-graph.new 1)
+    ∷ (NewTd 0 0 0, of-graph.new 2)
+    ∷ (NewEdge 0 1 2, of-graph.edge 1 2)
+    ∷ (NewEdge 0 2 1, of-graph.refused 35 0)
+    ∷ (NewEdge 0 1 1, of-graph.refused 35 0)
+    ∷ (NewEdge 0 1 2, of-graph.refused 34 0)
+    ∷ (NewEdge 0 0 1, of-graph.edge 0 1)
+    ∷ (Transfer 0 1, of-graph.refused 38 0)
+    ∷ (Transfer 0 2, of-graph.refused 35 0)
+    ∷ [])
+    ∷ []
+
+-- each example of a list holds
+infixr 30 _&_
+pub data Each : List Example → Type 0 where
+  none : Each []
+  _&_ : {e : Example} {es : List Example} → Holds e → Each es → Each (e ∷ es)

@@ -1,0 +1,52 @@
+-- What can be reached from a loading, and lists of calls. "It begins with the tables and tally that loading leaves, and for each step in turn
+-- does to them what .. say of the vertex named, or nothing where a refusal below is due."
+use Prim.Native.Nat.{ℕ, zero, suc}
+use mathlib.Core.Path.{_≡_}
+use mathlib.Core.Bool.{Bool, true, false, cond}
+use mathlib.Core.List.{List, [], _∷_, _++_}
+use mathlib.Core.Option.{Option, none, some}
+use Rattle.graph.specs.Tables.{Lent}
+use Rattle.machine.specs.Answers.{Said, Outcome, accepted}
+use Rattle.machine.specs.Loading.{load}
+use Rattle.machine.specs.Stepping.{steppable, step}
+use Rattle.machine.specs.Running.{lowest, allFinished, run}
+
+-- From the loading of these bytes onto s₀, by steps with these answers, this is lent.
+pub data Reached (bytes : List ℕ) (s₀ : Lent) : List Said → Lent → Type 0 where
+  begun : accepted (load bytes s₀ .answer) ≡ true → Reached bytes s₀ [] (load bytes s₀ .after)
+  stepped :
+      {answers : List Said} {s : Lent} → Reached bytes s₀ answers s → (v : ℕ)
+      → Reached bytes s₀ (answers ++ (step bytes s v .answer ∷ [])) (step bytes s v .after)
+
+-- A call names a vertex to step, or a budget to run.
+pub data Call : Type 0 where
+  steps : ℕ → Call
+  runs : ℕ → Call
+
+-- "A run lent the same stands in a list as the steps that it makes": their answers
+unfoldable pub goOn : List ℕ → (Lent → List Said) → Lent → Bool → Option ℕ → List Said
+goOn bytes again s true v = []
+goOn bytes again s false none = []
+goOn bytes again s false (some v) = step bytes s v .answer ∷ again (step bytes s v .after)
+
+unfoldable pub runAnswers : List ℕ → ℕ → Lent → List Said
+runAnswers bytes zero s = []
+runAnswers bytes (suc budget) s = goOn bytes (runAnswers bytes budget) s (allFinished s) (lowest bytes s)
+
+-- what a call answers, step by step, and what it leaves
+unfoldable pub callAnswers : List ℕ → Lent → Call → List Said
+callAnswers bytes s (steps v) = step bytes s v .answer ∷ []
+callAnswers bytes s (runs budget) = cond (steppable s) (runAnswers bytes budget s) []
+
+unfoldable pub callLeaves : List ℕ → Lent → Call → Lent
+callLeaves bytes s (steps v) = step bytes s v .after
+callLeaves bytes s (runs budget) = run bytes s budget .after
+
+-- a list of calls, one after the other
+unfoldable pub answersOf : List ℕ → Lent → List Call → List Said
+answersOf bytes s [] = []
+answersOf bytes s (c ∷ cs) = callAnswers bytes s c ++ answersOf bytes (callLeaves bytes s c) cs
+
+unfoldable pub leavesOf : List ℕ → Lent → List Call → Lent
+leavesOf bytes s [] = s
+leavesOf bytes s (c ∷ cs) = leavesOf bytes (callLeaves bytes s c) cs

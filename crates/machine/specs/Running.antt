@@ -1,0 +1,65 @@
+-- "A run takes a budget of steps and steps the lowest vertex whose step would be accepted."
+use Prim.Native.Nat.{ℕ, zero, suc}
+use mathlib.Core.Bool.{Bool, true, false, cond}
+use mathlib.Core.List.{List}
+use mathlib.Core.Option.{Option, none, some}
+use Rattle.graph.specs.Tests.{every}
+use Rattle.graph.specs.Tables.{Lent, FINISHED}
+use Rattle.graph.specs.Commands.{hasStatus}
+use Rattle.machine.specs.Answers.{Said, Outcome, accepted, unsound-tables}
+use Rattle.machine.specs.Stepping.{steppable, step}
+
+-- "A vertex can step if a step naming it there would be accepted."
+abbrev pub canStep : List ℕ → Lent → ℕ → Bool
+canStep bytes s v = accepted (step bytes s v .answer)
+
+-- the lowest number below n of which a test holds
+unfoldable pub orThis : Option ℕ → Bool → ℕ → Option ℕ
+orThis (some k) b n = some k
+orThis none true n = some n
+orThis none false n = none
+
+unfoldable pub lowestBelow : (ℕ → Bool) → ℕ → Option ℕ
+lowestBelow p zero = none
+lowestBelow p (suc n) = orThis (lowestBelow p n) (p n) n
+
+unfoldable pub lowest : List ℕ → Lent → Option ℕ
+lowest bytes s = lowestBelow (canStep bytes s) (s .made)
+
+-- "all vertices made are finished"
+unfoldable pub allFinished : Lent → Bool
+allFinished s = every (λ v. hasStatus s v FINISHED) (s .made)
+
+-- "A run answers done, stuck or spent"; 12 is its only refusal
+pub data Ending : Type 0 where
+  done : Ending
+  stuck : Ending
+  spent : Ending
+  refused : ℕ → ℕ → Ending
+
+-- ".. with the last accepted step and the steps taken, or "none" and 0"
+pub record RunOutcome : Type 0 where
+  pub ending : Ending
+  pub last : Option Said
+  pub taken : ℕ
+  pub after : Lent
+
+abbrev pub ended : Ending → Option Said → ℕ → Lent → RunOutcome
+ended e last taken s = record { ending = e; last = last; taken = taken; after = s }
+
+-- "Before each step it looks: done if all vertices made are finished; stuck if no step would be accepted; spent if the budget is used."
+unfoldable pub look : List ℕ → (Lent → Option Said → ℕ → RunOutcome) → ℕ → Lent → Option Said → ℕ → Bool → Option ℕ → RunOutcome
+look bytes again budget s last taken true v = ended done last taken s
+look bytes again budget s last taken false none = ended stuck last taken s
+look bytes again zero s last taken false (some v) = ended spent last taken s
+look bytes again (suc left) s last taken false (some v) =
+    again (step bytes s v .after) (some (step bytes s v .answer)) (suc taken)
+
+unfoldable pub runOn : List ℕ → ℕ → Lent → Option Said → ℕ → RunOutcome
+runOn bytes zero s last taken = look bytes (λ s' l t. ended spent l t s') 0 s last taken (allFinished s) (lowest bytes s)
+runOn bytes (suc left) s last taken = look bytes (runOn bytes left) (suc left) s last taken (allFinished s) (lowest bytes s)
+
+-- "Run: 12 only."
+unfoldable pub run : List ℕ → Lent → ℕ → RunOutcome
+run bytes s budget =
+    cond (steppable s) (runOn bytes budget s none 0) (ended (refused unsound-tables 0) none 0 s)
