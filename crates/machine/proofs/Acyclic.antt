@@ -1,54 +1,25 @@
--- Ranks rise along every edge, so no path closes: not in the edges that are held, not with a planned edge among them, and not once the
--- edges out of a vertex are handed on. This is what makes the commands accepted.
+-- Ranks rise along every edge that is held, so no path closes. This is what makes the commands accepted: an edge is added from lower to
+-- higher ranks, and so are edges handed on. It is said of any test E that agrees with the edges, the tables' own among them.
 use Prim.Native.Nat.{ℕ, _<_, _≤_}
-use mathlib.Core.Path.{_≡_}
+use mathlib.Core.Path.{_≡_, sym, _∙_}
 use mathlib.Core.Bool.{Bool, true}
 use native.Mathlib.Omega.{arith}
 use Rattle.graph.specs.Paths.{Leads, one, more, CycleFree}
-use Rattle.machine.proofs.Ghost.{link, hand, State, linked, handed}
-use Rattle.machine.proofs.Invariant.{In, tasksOf, Shape, Ranks}
-use Rattle.machine.proofs.RoadLaws.{linked-cases, handed-cases}
-use Rattle.machine.proofs.RanksKept.{link-below}
+use Rattle.machine.proofs.Ghost.{State}
+use Rattle.machine.proofs.Invariant.{Shape, Ranks}
 
--- an edge from a to b rises
-abbrev Rises : (ℕ → ℕ) → (ℕ → ℕ) → ℕ → ℕ → Type 0
-Rises rank fin a b = (fin a < rank b) × (rank b ≤ fin b)
+-- a path rises, from where its first vertex ends to where its last one starts
+pub path-rises :
+    {S : State} {E : ℕ → ℕ → Bool} → Shape S → Ranks S → ((a b : ℕ) → E a b ≡ S .edge a b) → {a b : ℕ} → Leads E a b
+    → (S .fin a < S .rank b) × (S .rank b ≤ S .fin b)
+path-rises {S} sh rk same (one {a = a} {b = b} e) =
+    let held : S .edge a b ≡ true = sym (same a b) ∙ e in
+    (rk .edge-rank a b held, rk .rank-le b (sh .within a b held .1))
+path-rises {S} sh rk same (more {a = a} {b = b} e p) =
+    let held : S .edge a b ≡ true = sym (same a b) ∙ e in
+    let (lt, le) = path-rises sh rk same p in
+    (omega (arith, rk .edge-rank a b held, rk .rank-le b (sh .within a b held .1), lt), le)
 
--- so do paths
-path-rises :
-    {E : ℕ → ℕ → Bool} (rank fin : ℕ → ℕ) → ((a b : ℕ) → E a b ≡ true → Rises rank fin a b) → {a b : ℕ} → Leads E a b → Rises rank fin a b
-path-rises rank fin h {a} {b} (one e) = h a b e
-path-rises rank fin h {a} (more {b = b} e p) =
-    let (lt, le) = h a b e in
-    let (lt', le') = path-rises rank fin h p in
-    (omega (arith, lt, le, lt'), le')
-
--- and no path closes
-rising-free : {E : ℕ → ℕ → Bool} (rank fin : ℕ → ℕ) → ((a b : ℕ) → E a b ≡ true → Rises rank fin a b) → CycleFree E
-rising-free rank fin h x p = let (lt, le) = path-rises rank fin h p in absurd (omega (arith, lt, le))
-
--- a held edge rises
-edge-rises : {S : State} → Shape S → Ranks S → (a b : ℕ) → S .edge a b ≡ true → Rises (S .rank) (S .fin) a b
-edge-rises sh rk a b e = (rk .edge-rank a b e, rk .rank-le b (sh .within a b e .1))
-
--- the edges that are held
-pub cycle-free : {S : State} → Shape S → Ranks S → CycleFree (S .edge)
-cycle-free {S} sh rk = rising-free (S .rank) (S .fin) (edge-rises sh rk)
-
--- with a planned one
-pub link-free :
-    {S : State} → Shape S → Ranks S → (t a b : ℕ) → In (link a b) (tasksOf S t) → CycleFree (linked (S .edge) a b)
-link-free {S} sh rk t a b i =
-    rising-free (S .rank) (S .fin)
-    (λ x y e.
-    linked-cases (S .edge) a b x y e (edge-rises sh rk x y)
-    (λ p q. rw (p, q) (rk .link-rank t a b i, rk .rank-le b (link-below sh t a b i .1))))
-
--- with those out of v handed to h
-pub hand-free : {S : State} → Shape S → Ranks S → (v h : ℕ) → In (hand h) (tasksOf S v) → CycleFree (handed (S .edge) v h)
-hand-free {S} sh rk v h i =
-    rising-free (S .rank) (S .fin)
-    (λ x y e.
-    handed-cases (S .edge) v h x y e
-    (λ e ne. edge-rises sh rk x y e)
-    (λ p e. let (lt, le) = edge-rises sh rk v y e in rw p (omega (arith, rk .hand-rank v h i, lt), le)))
+-- so none closes
+pub cycle-free : {S : State} {E : ℕ → ℕ → Bool} → Shape S → Ranks S → ((a b : ℕ) → E a b ≡ S .edge a b) → CycleFree E
+cycle-free sh rk same x p = let (lt, le) = path-rises sh rk same p in absurd (omega (arith, lt, le))

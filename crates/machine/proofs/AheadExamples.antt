@@ -9,8 +9,8 @@ use Rattle.program.specs.Trees.{Body, end, job, async, fork}
 use Rattle.program.specs.Bytes.{encode, encodeNumber, groupBytes, numberSize, size}
 use Rattle.program.specs.Located.{end-at, job-at, locate}
 use Rattle.machine.specs.Ahead.{Ahead}
-use Rattle.machine.proofs.Order.{Job, InS, Pre}
 use Rattle.machine.proofs.AheadIsPre.{ahead-is-pre}
+use Rattle.machine.proofs.Order.{Job, InS, Pre}
 
 -- a fork of two jobs, and a job behind it
 abbrev pub forked : Body

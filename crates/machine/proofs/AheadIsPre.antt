@@ -13,10 +13,9 @@ use mathlib.Core.List.{List, [], _∷_, _++_}
 use native.Mathlib.Omega.{arith}
 use Rattle.program.specs.Trees.{Kind, asyncs, finishes, forks}
 use Rattle.program.specs.Located.{Code, job-at, async-at, finish-at, fork-at}
-use Rattle.machine.specs.Ahead.{Behind, job-behind, async-behind, finish-behind, fork-behind}
-use Rattle.machine.specs.Ahead.{Holds, async-holds, finish-holds, fork-holds-left, fork-holds-right}
-use Rattle.machine.specs.Ahead.{From, start, on, Way, job-itself, down, Within, whole, behind, inside}
-use Rattle.machine.specs.Ahead.{AFinish, this, further, Closed, Ahead, ahead}
+use Rattle.machine.specs.Ahead.{Behind, job-behind, async-behind, finish-behind, fork-behind, Holds, async-holds, finish-holds}
+use Rattle.machine.specs.Ahead.{fork-holds-left, fork-holds-right, From, start, on, Way, job-itself, down, Within, whole, behind}
+use Rattle.machine.specs.Ahead.{inside, AFinish, this, further, Closed, Ahead, ahead}
 use Rattle.machine.proofs.Order.{Job, InS, Pre}
 
 -- no async is on the way to a job itself

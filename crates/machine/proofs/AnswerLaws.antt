@@ -1,4 +1,4 @@
--- A chain of tests before an outcome: where each passes it is that outcome, and where one fails it is refused.
+-- A chain of tests before an outcome (`unless`): where each passes it is that outcome, and where one fails it is refused.
 use Prim.Native.Nat.{ℕ}
 use mathlib.Core.Path.{_≡_, refl, sym, subst}
 use mathlib.Core.Bool.{Bool, true, false}

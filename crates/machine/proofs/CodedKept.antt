@@ -9,11 +9,12 @@ use Rattle.program.specs.Encodings.{Name}
 use Rattle.program.specs.Located.{Code, place, last, codeAt}
 use Rattle.program.proofs.LocatedLaws.{Laid, Inner, job-rest, async-body, async-rest, finish-body, finish-rest, fork-left, fork-right}
 use Rattle.program.proofs.LocatedLaws.{fork-rest, code-inner, code-end}
-use Rattle.machine.proofs.Ghost.{Do, Control, draft, fresh, busy, over, State, put, goes, onward, woken, among, Event, Move}
-use Rattle.machine.proofs.Ghost.{begins, performs, stops, makes, splits, acts, done}
+use Rattle.machine.proofs.Ghost.{Do, Control, draft, fresh, busy, over, State, put, goes, onward, woken, among, Event, Move, begins}
+use Rattle.machine.proofs.Ghost.{performs, stops, makes, splits, acts, done, stirred}
 use Rattle.machine.proofs.Invariant.{codeOf, Coded}
 use Rattle.machine.proofs.GhostLaws.{Makes, finish-1, fork-1, fork-2, Splits, async-1, finish-2, fork-3, makes-at, splits-at}
-use Rattle.machine.proofs.RoadLaws.{put-all, code-onward, code-woken, code-freed, done-keeps}
+use Rattle.machine.proofs.GhostLaws.{put-all}
+use Rattle.machine.proofs.RoadLaws.{code-onward, code-woken, code-freed, done-keeps}
 
 -- the code of this control, if it has code, stands in p
 abbrev Stands : Code → Control → Type 0
@@ -59,7 +60,7 @@ stands-made p f n v y x h i j u = put-all (λ z. Stands p z) (put f n y) v x (pu
 -- drafts that become fresh
 stands-woken :
     (p : Code) (f : ℕ → Control) (ms : List ℕ) → ((u : ℕ) → Stands p (f u))
-    → (u : ℕ) → Stands p (cond (among u ms) (woken (f u)) (f u))
+    → (u : ℕ) → Stands p (stirred f ms u)
 stands-woken p f ms h u = go (among u ms)
   where
     go : (b : Bool) → Stands p (cond b (woken (f u)) (f u))

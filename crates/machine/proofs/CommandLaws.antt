@@ -2,8 +2,8 @@
 -- that is taken says and leaves. No path closes because edges lead to higher ranks.
 use Prim.Native.Nat.{ℕ, _<_, _≤_}
 use mathlib.Core.Path.{_≡_, refl, sym, _∙_, ap, subst}
-use mathlib.Core.Logic.{_⊎_, inl, inr, ⊎-elim}
 use mathlib.Core.Bool.{true, false}
+use mathlib.Core.Logic.{_⊎_, inl, inr, ⊎-elim}
 use mathlib.Core.List.{List}
 use native.Mathlib.Omega.{arith}
 use lib.Dec.{ltb}
@@ -12,7 +12,7 @@ use Rattle.graph.specs.Tables.{Lent, NEW, RELEASED, EXECUTING, FINISHED, edgeRo
 use Rattle.graph.specs.Answers.{edge-leads-in}
 use Rattle.graph.specs.Answers as of-graph
 use Rattle.graph.specs.Sound.{sound}
-use Rattle.graph.specs.Paths.{Leads, one, more, holds, leadsInto, reaches}
+use Rattle.graph.specs.Paths.{holds, leadsInto, reaches}
 use Rattle.graph.specs.Commands.{command, newTd, newEdge, release, transfer, start, stop, startRefusal}
 use Rattle.graph.specs.declared.Command.{Command}
 use Rattle.graph.specs.declared.Command.the-variants.{NewTd, NewEdge, Release, Transfer, Start, Stop}
@@ -28,6 +28,7 @@ use Rattle.machine.specs.Answers.{Said, Outcome, refuse, byCommand, oneS
 use Rattle.machine.specs.Stepping.{calls}
 use Rattle.machine.proofs.Ghost.{Do, link, hand, free, Control, draft, fresh, ready, busy, joining, over, State}
 use Rattle.machine.proofs.Invariant.{In, here, tasks, tasksOf, waits, planned, Shape, Ranks, Roads}
+use Rattle.machine.proofs.Acyclic.{path-rises}
 use Rattle.machine.proofs.Follows.{Follows}
 use Rattle.machine.proofs.FollowLaws.{statusOf, follows-status}
 
@@ -145,18 +146,11 @@ module _ {p : Code} {L : ℕ} {s : Lent} {S : State} (shape : Shape S) (F : Foll
       let (made, new) = stands m NEW (new-of v m i) (omega arith) in
       (runs v q, made, new)
 
-  -- paths lead to higher ranks
-  rises : Ranks S → {a b : ℕ} → Leads (holds (s .edges) (s .held)) a b → S .fin a < S .rank b
-  rises ranks (one {a = a} {b = b} e) = ranks .edge-rank a b (sym (F .edges-are a b) ∙ e)
-  rises ranks (more {a = a} {b = b} {c = c} e path) =
-      let held : S .edge a b ≡ true = sym (F .edges-are a b) ∙ e in
-      omega (arith, ranks .edge-rank a b held, ranks .rank-le b (shape .within a b held .1), rises ranks path)
-
-  -- so none leads to a lower one
+  -- paths lead to higher ranks, so none leads to a lower one
   no-way : Ranks S → (a b : ℕ) → S .rank b ≤ S .fin a → reaches (s .edges) (s .held) a b ≡ false
   no-way ranks a b le =
       not-so (reaches (s .edges) (s .held) a b)
-      (λ h. let up : S .fin a < S .rank b = rises ranks (reaches-path (s .edges) (s .held) a b h) in omega arith)
+      (λ h. absurd (omega (arith, le, path-rises shape ranks (F .edges-are) (reaches-path (s .edges) (s .held) a b h) .0)))
 
   -- newEdge
   pub takes-edge :

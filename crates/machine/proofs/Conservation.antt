@@ -1,40 +1,31 @@
 -- The conservation law: a move with the event e takes ω e off what is left in all, for every weight ω of events.
 --
--- A move changes what is left to one vertex, the one that moves, and it may append one vertex. At all others the weight stays: a vertex that
--- is released, and a draft that is one no more, have the same to do as before. All that a state must have for it is `Beyond S`: no vertex
--- beyond those made has anything to do. This is a part of its shape, and it is kept.
+-- A move changes what is left to one vertex, the one that moves, and it may append one vertex. At all others the weight stays: a vertex
+-- that is released, and a draft that is one no more, have the same to do as before. Of a state's shape the law needs only that no vertex
+-- beyond those made has anything to do.
 --
 --     conserved      Shape S → Move L S v e S' → total ω S ≡ ω e + total ω S'
---     pays           the same from Beyond S
---     beyond-kept    Beyond S → Move L S v e S' → Beyond S'
---     runs-pay       Beyond S → Runs L S es S' → total ω S ≡ spent ω es + total ω S', where Runs is a row of moves with the events es
+--     runs-pay       Shape S → Runs L S es S' → total ω S ≡ spent ω es + total ω S', where Runs is a row of moves with the events es
 --     nothing-left   left each x ≡ 0 → x ≡ over, where each event weighs 1
-use Prim.Native.Nat.{ℕ, zero, suc, _+_, _<_, _≤_}
-use mathlib.Core.Path.{_≡_, refl, sym, _∙_, ap, subst}
-use mathlib.Core.Bool.{Bool, true, false, cond}
-use mathlib.Core.Logic.{_⊎_, inl, inr, ⊎-elim}
+use Prim.Native.Nat.{ℕ, zero, suc, _+_, _<_}
+use mathlib.Core.Path.{_≡_, refl, sym, _∙_, ap}
+use mathlib.Core.Logic.{⊎-elim}
 use mathlib.Core.List.{List, [], _∷_, _++_}
 use native.Mathlib.Nat.{eq-or-lt-of-le, le-of-suc-le-suc}
 use native.Mathlib.Omega.{arith}
-use lib.Dec.{ltb}
 use lib.ListN.{length, drop, length-append}
-use borrow.Author.Tests.{eq-eqb, ne-eqb, ltb-true, ltb-false}
-use Rattle.graph.proofs.TestLaws.{decide, equal?}
 use Rattle.program.specs.Encodings.{Name, Command, perform, newTd, newEdge, transfer, release, weight}
 use Rattle.program.specs.Located.{Code, end-at, job-at, async-at, finish-at, fork-at}
-use Rattle.machine.proofs.Ghost.{Do, link, hand, free, Control, draft, fresh, ready, busy, joining, over, State, put}
-use Rattle.machine.proofs.Ghost.{kids, goes, kindOf, commandsOf, joins, todo, onward, woken, freed, among, done}
-use Rattle.machine.proofs.Ghost.{Event, a-start, a-new, a-job, a-stop, eventOf, Move, begins, performs, stops, makes, splits, acts}
+use Rattle.machine.proofs.Ghost.{Do, link, hand, free, Control, draft, fresh, ready, busy, joining, over, State, put, kids, goes}
+use Rattle.machine.proofs.Ghost.{kindOf, commandsOf, joins, todo, onward, woken, freed, done, Event, a-start, a-new, a-job, a-stop}
+use Rattle.machine.proofs.Ghost.{eventOf, Move, begins, performs, stops, makes, splits, acts, stirred}
 use Rattle.machine.proofs.Invariant.{Shape}
-use Rattle.machine.proofs.Weights.{joinWeight, joinsWeight, bodyWeight, kidsWeight, behindWeight, tasksWeight, left}
-use Rattle.machine.proofs.Weights.{sumBelow, total, spent, each}
-
--- a function changed in one place, there and elsewhere
-put-same : {A : Type 0} (f : ℕ → A) (v : ℕ) (x : A) → put f v x v ≡ x
-put-same f v x = rw (eq-eqb v v refl) refl
-
-put-other : {A : Type 0} (f : ℕ → A) (v : ℕ) (x : A) (u : ℕ) → (u ≡ v → ⊥) → put f v x u ≡ f u
-put-other f v x u ne = rw (ne-eqb u v ne) refl
+use Rattle.machine.proofs.GhostLaws.{put-same, put-other, clash, below}
+use Rattle.machine.proofs.ShapeKept.{shape-kept}
+use Rattle.machine.proofs.RoadLaws.{done-keeps}
+use Rattle.machine.proofs.SplitLaws.{stirred-keeps}
+use Rattle.machine.proofs.Weights.{joinWeight, joinsWeight, bodyWeight, kidsWeight, behindWeight, tasksWeight, left, sumBelow, total}
+use Rattle.machine.proofs.Weights.{spent, each}
 
 -- Sums.
 
@@ -230,40 +221,9 @@ increased ω f g n v w x y h same e =
     let here : left ω (put (put g n y) v x v) ≡ left ω x = ap (left ω) (put-same (put g n y) v x) in
     omega (arith, new, moved ω f (put (put g n y) v x) n v (w + left ω y) h old (omega arith))
 
--- no vertex beyond those made has anything to do
-abbrev pub Beyond : State → Type 0
-Beyond S = (u : ℕ) → S .count ≤ u → S .control u ≡ over
-
--- with something to do
-unfoldable Live : Control → Type 0
-Live (draft c) = Unit {0}
-Live (fresh c) = Unit {0}
-Live (ready c) = Unit {0}
-Live (busy c ms) = Unit {0}
-Live (joining c d ds) = Unit {0}
-Live over = ⊥
-
--- a vertex that has something to do is made
-made : (S : State) (v : ℕ) {x : Control} → Beyond S → S .control v ≡ x → Live x → v < S .count
-unfolding Live
-made S v far q l =
-    ⊎-elim (ltb-true v (S .count)) (λ h. absurd (subst Live (sym q ∙ far v (ltb-false v (S .count) h)) l)) (decide (ltb v (S .count)))
-
--- a vertex that comes to weigh as before
-put-weight :
-    (ω : Event → ℕ) (f : ℕ → Control) (m : ℕ) (x : Control) (u : ℕ) → left ω x ≡ left ω (f m) → left ω (f u) ≡ left ω (put f m x u)
-put-weight ω f m x u h = go (equal? u m)
-  where
-    go : (u ≡ m) ⊎ (u ≡ m → ⊥) → left ω (f u) ≡ left ω (put f m x u)
-    go (inl e) = subst (λ y. left ω (f y) ≡ left ω (put f m x y)) (sym e) (sym h ∙ ap (left ω) (sym (put-same f m x)))
-    go (inr ne) = ap (left ω) (sym (put-other f m x u ne))
-
 -- a joining command leaves to each vertex what it had to do
 done-weight : (ω : Event → ℕ) (S : State) (v : ℕ) (d : Do) (u : ℕ) → left ω (S .control u) ≡ left ω (done S v d .control u)
-unfolding done
-done-weight ω S v (link a b) u = refl
-done-weight ω S v (hand h) u = refl
-done-weight ω S v (free m) u = put-weight ω (S .control) m _ u (freed-weight ω (S .control m))
+done-weight ω S v d u = sym (done-keeps (left ω) (freed-weight ω) S v d u)
 
 -- and makes none
 pub done-count : (S : State) (v : ℕ) (d : Do) → done S v d .count ≡ S .count
@@ -272,82 +232,40 @@ done-count S v (link a b) = refl
 done-count S v (hand h) = refl
 done-count S v (free m) = refl
 
--- a split leaves to each vertex what it had to do, but to the one that moves
-woken-some : (ω : Event → ℕ) (b : Bool) (x : Control) → left ω x ≡ left ω (cond b (woken x) x)
-woken-some ω true x = sym (woken-weight ω x)
-woken-some ω false x = refl
-
--- The law, from what it needs of a state.
-pub pays : (ω : Event → ℕ) {L v : ℕ} {S S' : State} {e : Event} → Beyond S → Move L S v e S' → total ω S ≡ ω e + total ω S'
-unfolding total Live
-pays ω {v = v} {S = S} far (begins {c} q bare) =
-    changed ω (S .control) (S .control) (S .count) v _ _ (made S v far q tt) (λ u. refl) (ap (left ω) q ∙ begins-weight ω c)
-pays ω {v = v} {S = S} far (performs {o} {n} {r} q) =
-    changed ω (S .control) (S .control) (S .count) v _ _ (made S v far q tt) (λ u. refl) (ap (left ω) q ∙ performs-weight ω o n r)
-pays ω {v = v} {S = S} far (stops {o} q) =
-    changed ω (S .control) (S .control) (S .count) v _ _ (made S v far q tt) (λ u. refl) (ap (left ω) q ∙ stops-weight ω o)
-pays ω {v = v} {S = S} far (makes {c} {ms} {k} {a} q e) =
-    increased ω (S .control) (S .control) (S .count) v _ _ _ (made S v far q tt) (λ u. refl)
+-- The law.
+pub conserved : (ω : Event → ℕ) {L v : ℕ} {S S' : State} {e : Event} → Shape S → Move L S v e S' → total ω S ≡ ω e + total ω S'
+unfolding total
+conserved ω {v = v} {S = S} sh (begins {c} q bare) =
+    changed ω (S .control) (S .control) (S .count) v _ _ (below sh v (λ o. clash cc)) (λ u. refl) (ap (left ω) q ∙ begins-weight ω c)
+conserved ω {v = v} {S = S} sh (performs {o} {n} {r} q) =
+    changed ω (S .control) (S .control) (S .count) v _ _ (below sh v (λ o. clash cc)) (λ u. refl) (ap (left ω) q ∙ performs-weight ω o n r)
+conserved ω {v = v} {S = S} sh (stops {o} q) =
+    changed ω (S .control) (S .control) (S .count) v _ _ (below sh v (λ o. clash cc)) (λ u. refl) (ap (left ω) q ∙ stops-weight ω o)
+conserved ω {v = v} {S = S} sh (makes {c} {ms} {k} {a} q e) =
+    increased ω (S .control) (S .control) (S .count) v _ _ _ (below sh v (λ o. clash cc)) (λ u. refl)
     (ap (left ω) q ∙ makes-weight ω c ms (S .count) k a _ e)
-pays ω {L} {v} {S} far (splits {c} {ms} {k} {a} q e) =
-    increased ω (S .control) (λ u. cond (among u ms) (woken (S .control u)) (S .control u)) (S .count) v _ _ _ (made S v far q tt)
-    (λ u. woken-some ω (among u ms) (S .control u))
+conserved ω {L} {v} {S} sh (splits {c} {ms} {k} {a} q e) =
+    increased ω (S .control) (stirred (S .control) ms) (S .count) v _ _ _ (below sh v (λ o. clash cc))
+    (λ u. sym (stirred-keeps (left ω) (woken-weight ω) (S .control) ms u))
     (ap (left ω) q ∙ splits-weight ω L (S .scope v) c ms (ms ++ (S .count ∷ [])) k a e)
-pays ω {v = v} {S = S} far (acts {c} {d} {ds} q) =
-    changed ω (S .control) (done S v d .control) (S .count) v _ _ (made S v far q tt) (done-weight ω S v d)
+conserved ω {v = v} {S = S} sh (acts {c} {d} {ds} q) =
+    changed ω (S .control) (done S v d .control) (S .count) v _ _ (below sh v (λ o. clash cc)) (done-weight ω S v d)
     (ap (left ω) q ∙ acts-weight ω c d ds)
     ∙ ap (λ n. ω (eventOf d) + sumBelow (λ u. left ω (put (done S v d .control) v (onward c ds) u)) n) (sym (done-count S v d))
-
--- No move gives anything to do to a vertex that is not made: where v comes to x,
-changed-beyond :
-    (f g : ℕ → Control) (n v : ℕ) (x : Control) → v < n → ((u : ℕ) → left each (f u) ≡ left each (g u))
-    → ((u : ℕ) → n ≤ u → f u ≡ over) → (u : ℕ) → n ≤ u → put g v x u ≡ over
-unfolding left
-changed-beyond f g n v x h same far u l =
-    put-other g v x u (λ q. absurd (omega arith)) ∙ nothing-left (g u) (sym (same u) ∙ ap (left each) (far u l))
-
--- and where besides one more vertex is at y
-increased-beyond :
-    (f g : ℕ → Control) (n v : ℕ) (x y : Control) → v < n → ((u : ℕ) → left each (f u) ≡ left each (g u))
-    → ((u : ℕ) → n ≤ u → f u ≡ over) → (u : ℕ) → suc n ≤ u → put (put g n y) v x u ≡ over
-unfolding left
-increased-beyond f g n v x y h same far u l =
-    put-other (put g n y) v x u (λ q. absurd (omega arith))
-    ∙ put-other g n y u (λ q. absurd (omega arith))
-    ∙ nothing-left (g u) (sym (same u) ∙ ap (left each) (far u (omega arith)))
-
--- so `Beyond` is kept by a move
-pub beyond-kept : {L v : ℕ} {S S' : State} {e : Event} → Beyond S → Move L S v e S' → Beyond S'
-unfolding Live
-beyond-kept {v = v} {S = S} far (begins q bare) = changed-beyond (S .control) (S .control) (S .count) v _ (made S v far q tt) (λ u. refl) far
-beyond-kept {v = v} {S = S} far (performs q) = changed-beyond (S .control) (S .control) (S .count) v _ (made S v far q tt) (λ u. refl) far
-beyond-kept {v = v} {S = S} far (stops q) = changed-beyond (S .control) (S .control) (S .count) v _ (made S v far q tt) (λ u. refl) far
-beyond-kept {v = v} {S = S} far (makes q e) =
-    increased-beyond (S .control) (S .control) (S .count) v _ _ (made S v far q tt) (λ u. refl) far
-beyond-kept {v = v} {S = S} far (splits {c} {ms} q e) =
-    increased-beyond (S .control) (λ u. cond (among u ms) (woken (S .control u)) (S .control u)) (S .count) v _ _ (made S v far q tt)
-    (λ u. woken-some each (among u ms) (S .control u)) far
-beyond-kept {v = v} {S = S} far (acts {d = d} q) = λ u l.
-    changed-beyond (S .control) (done S v d .control) (S .count) v _ (made S v far q tt) (done-weight each S v d) far u
-    (subst (λ n. n ≤ u) (done-count S v d) l)
-
--- The law, of any state that has its shape.
-pub conserved : (ω : Event → ℕ) {L v : ℕ} {S S' : State} {e : Event} → Shape S → Move L S v e S' → total ω S ≡ ω e + total ω S'
-conserved ω s m = pays ω (s .beyond) m
 
 -- Moves one after the other, with their events, the latest first.
 pub data Runs (L : ℕ) (S : State) : List Event → State → Type 0 where
   no-move : Runs L S [] S
   and-then : {v : ℕ} {e : Event} {es : List Event} {S1 S2 : State} → Runs L S es S1 → Move L S1 v e S2 → Runs L S (e ∷ es) S2
 
--- `Beyond` is kept by all of them
-runs-beyond : {L : ℕ} {S S' : State} {es : List Event} → Beyond S → Runs L S es S' → Beyond S'
-runs-beyond far no-move = far
-runs-beyond far (and-then r m) = beyond-kept (runs-beyond far r) m
+-- all of them keep the shape
+runs-shape : {L : ℕ} {S S' : State} {es : List Event} → Shape S → Runs L S es S' → Shape S'
+runs-shape sh no-move = sh
+runs-shape sh (and-then r m) = shape-kept (runs-shape sh r) m
 
 -- what was left is what has been done and what is left
 pub runs-pay :
-    (ω : Event → ℕ) {L : ℕ} {S S' : State} {es : List Event} → Beyond S → Runs L S es S' → total ω S ≡ spent ω es + total ω S'
+    (ω : Event → ℕ) {L : ℕ} {S S' : State} {es : List Event} → Shape S → Runs L S es S' → total ω S ≡ spent ω es + total ω S'
 unfolding spent
-runs-pay ω far no-move = omega arith
-runs-pay ω far (and-then r m) = omega (arith, runs-pay ω far r, pays ω (runs-beyond far r) m)
+runs-pay ω sh no-move = omega arith
+runs-pay ω sh (and-then r m) = omega (arith, runs-pay ω sh r, conserved ω (runs-shape sh r) m)

@@ -14,68 +14,35 @@
 --     edges-bound       1 + spent links es ≤ edgeRows firstEdition t
 -- and for any laid p, where spent (jobAt q) es is how often the job at q was done:
 --     job-once          it is at most 1
---     job-never         it is 0, if no job is written at q
---     job-done          it is 1, if one is, and total each S ≡ 0
+--     job-past          it is 1, if a job is written at q and total (jobAt q) S ≡ 0
+--     job-done          it is 1, if a job is written at q and total each S ≡ 0
 -- Of any state S:
 --     all-over          total each S ≡ 0 → every vertex is over
 --     over-all          every vertex is over → total ω S ≡ 0, for any ω
--- JobIn c q n, a job with number n is written at q in c: by codeAt (job-found, job-written), and by weight (jobs-le, jobs-one, jobs-none).
 use Prim.Native.Nat.{ℕ, zero, suc, _+_, _*_, _<_, _≤_}
-use mathlib.Core.Path.{_≡_, refl, _∙_, ap, subst}
-use mathlib.Core.Bool.{cond}
-use mathlib.Core.Logic.{_⊎_, inl, inr, ⊎-elim, _↔_}
+use mathlib.Core.Path.{_≡_, refl, sym, _∙_, ap}
+use mathlib.Core.Logic.{_⊎_, ⊎-elim}
 use mathlib.Core.List.{List, [], _∷_}
-use mathlib.Core.Option.{some}
 use native.Mathlib.Nat.{eq-or-lt-of-le, le-of-suc-le-suc}
 use native.Mathlib.Omega.{arith}
-use lib.Dec.{eqb}
 use lib.ListN.{length}
 use borrow.Author.Tests.{eq-eqb, ne-eqb}
 use Rattle.graph.proofs.TestLaws.{equal?}
 use Rattle.program.specs.Trees.{Kind, jobs, asyncs, finishes, forks, Body, end, job, async, finish, fork}
 use Rattle.program.specs.Trees as trees
 use Rattle.program.specs.Encodings as table
-use Rattle.program.specs.Encodings.{Command, perform, newTd, newEdge, transfer, release, firstEdition, weight}
-use Rattle.program.specs.Encodings.{itemsWeight, vertices, edgeRows, steps}
+use Rattle.program.specs.Encodings.{Command, perform, newTd, newEdge, transfer, release, firstEdition, weight, itemsWeight, vertices}
+use Rattle.program.specs.Encodings.{edgeRows, steps}
 use Rattle.program.specs.Bytes.{numberSize, size}
-use Rattle.program.specs.Located.{Code, end-at, job-at, async-at, finish-at, fork-at, locate, place, last, codeAt}
-use Rattle.program.proofs.LocatedLaws.{Laid, Part, itself, inside, code-part, part-code}
-use Rattle.program.proofs.LocatedLaws.{Inner, job-rest, async-body, async-rest, finish-body, finish-rest, fork-left, fork-right, fork-rest}
-use Rattle.machine.proofs.Ghost.{Event, a-start, a-new, an-edge, a-release, a-transfer, a-job, a-stop, eventOf}
-use Rattle.machine.proofs.Ghost.{Do, link, hand, free, over, State, Move, begins, performs, stops, makes, splits, acts}
+use Rattle.program.specs.Located.{Code, end-at, job-at, async-at, finish-at, fork-at, locate, place, last}
+use Rattle.program.proofs.LocatedLaws.{Laid}
+use Rattle.machine.proofs.Ghost.{Event, a-start, a-new, an-edge, a-release, a-transfer, a-job, a-stop, eventOf, Do, link, hand, free}
+use Rattle.machine.proofs.Ghost.{over, State, Move, begins, performs, stops, makes, splits, acts}
 use Rattle.machine.proofs.Beginning.{beginning}
-use Rattle.machine.proofs.Weights.{joinWeight, joinsWeight, bodyWeight, left, sumBelow, total, spent, each}
-use Rattle.machine.proofs.Conservation.{nothing-left, done-count, Beyond, Runs, no-move, and-then, runs-pay}
-
--- 1 for a new vertex
-unfoldable pub news : Event → ℕ
-news a-start = 0
-news a-new = 1
-news an-edge = 0
-news a-release = 0
-news a-transfer = 0
-news (a-job o) = 0
-news a-stop = 0
-
--- 1 for a new edge
-unfoldable pub links : Event → ℕ
-links a-start = 0
-links a-new = 0
-links an-edge = 1
-links a-release = 0
-links a-transfer = 0
-links (a-job o) = 0
-links a-stop = 0
-
--- 1 for the job at offset q
-unfoldable pub jobAt : ℕ → Event → ℕ
-jobAt q a-start = 0
-jobAt q a-new = 0
-jobAt q an-edge = 0
-jobAt q a-release = 0
-jobAt q a-transfer = 0
-jobAt q (a-job o) = cond (eqb o q) 1 0
-jobAt q a-stop = 0
+use Rattle.machine.proofs.BeginningShape.{shape-beginning}
+use Rattle.machine.proofs.Weights.{joinWeight, joinsWeight, bodyWeight, left, sumBelow, total, spent, each, news, links, jobAt}
+use Rattle.machine.proofs.Conservation.{nothing-left, done-count, Runs, no-move, and-then, runs-pay}
+use Rattle.machine.proofs.Order.{Job}
 
 -- Code by its items.
 
@@ -177,60 +144,6 @@ edges-total o L t =
 
 -- Jobs.
 
--- a job with number n is written at offset q
-unfoldable pub JobIn : Code → ℕ → ℕ → Type 0
-JobIn (end-at o) q n = ⊥
-JobIn (job-at o m r) q n = ((o ≡ q) × (m ≡ n)) ⊎ JobIn r q n
-JobIn (async-at o b r) q n = JobIn b q n ⊎ JobIn r q n
-JobIn (finish-at o b r) q n = JobIn b q n ⊎ JobIn r q n
-JobIn (fork-at o b c r) q n = JobIn b q n ⊎ (JobIn c q n ⊎ JobIn r q n)
-
--- what is inside a part is inside the whole
-deeper : {c d : Code} {q n : ℕ} → Inner c d → ((r : Code) × Part d (job-at q n r)) → (r : Code) × Part c (job-at q n r)
-deeper i h = (h .0, inside i (h .1))
-
--- it begins a part of the code
-job-part : (c : Code) (q n : ℕ) → JobIn c q n → (r : Code) × Part c (job-at q n r)
-unfolding JobIn
-job-part (end-at o) q n h = absurd h
-job-part (job-at o m r) q n (inl h) =
-    let same : job-at o m r ≡ job-at q n r = ap (λ x. job-at x m r) (h .0) ∙ ap (λ x. job-at q x r) (h .1) in
-    (r, subst (λ x. Part (job-at o m r) x) same itself)
-job-part (job-at o m r) q n (inr h) = deeper job-rest (job-part r q n h)
-job-part (async-at o b r) q n (inl h) = deeper async-body (job-part b q n h)
-job-part (async-at o b r) q n (inr h) = deeper async-rest (job-part r q n h)
-job-part (finish-at o b r) q n (inl h) = deeper finish-body (job-part b q n h)
-job-part (finish-at o b r) q n (inr h) = deeper finish-rest (job-part r q n h)
-job-part (fork-at o b c r) q n (inl h) = deeper fork-left (job-part b q n h)
-job-part (fork-at o b c r) q n (inr (inl h)) = deeper fork-right (job-part c q n h)
-job-part (fork-at o b c r) q n (inr (inr h)) = deeper fork-rest (job-part r q n h)
-
--- which is what starts at q
-pub job-found : (c : Code) (q n : ℕ) → Laid c → JobIn c q n → (r : Code) × (codeAt c q ≡ some (job-at q n r))
-unfolding place
-job-found c q n l h = let (r, p) = job-part c q n h in (r, part-code p l)
-
--- and the other way round: a job written in a part is written in the whole
-job-inner : {c d : Code} (q n : ℕ) → Inner c d → JobIn d q n → JobIn c q n
-unfolding JobIn
-job-inner q n job-rest h = inr h
-job-inner q n async-body h = inl h
-job-inner q n async-rest h = inr h
-job-inner q n finish-body h = inl h
-job-inner q n finish-rest h = inr h
-job-inner q n fork-left h = inl h
-job-inner q n fork-right h = inr (inl h)
-job-inner q n fork-rest h = inr (inr h)
-
-job-inside : {c d : Code} (q n : ℕ) → Part c d → JobIn d q n → JobIn c q n
-job-inside q n itself h = h
-job-inside q n (inside i p) h = job-inner q n i (job-inside q n p h)
-
--- so is one that starts somewhere
-pub job-written : (c : Code) (p : ℕ) {q n : ℕ} {r : Code} → codeAt c p ≡ some (job-at q n r) → JobIn c q n
-unfolding JobIn
-job-written c p {q} {n} h = job-inside q n (code-part c p h) (inl (refl, refl))
-
 -- the jobs at q, counted
 abbrev pub jobsAt : ℕ → Code → ℕ
 jobsAt q c = bodyWeight (jobAt q) c
@@ -240,58 +153,57 @@ this-job : (o q : ℕ) → o ≡ q → jobAt q (a-job o) ≡ 1
 unfolding jobAt
 this-job o q e = rw (eq-eqb o q e) refl
 
-other-job : (o q : ℕ) → (o ≡ q → ⊥) → jobAt q (a-job o) ≡ 0
+pub other-job : (o q : ℕ) → (o ≡ q → ⊥) → jobAt q (a-job o) ≡ 0
 unfolding jobAt
 other-job o q ne = rw (ne-eqb o q ne) refl
 
 -- and nothing else is counted: code has the jobs of its parts
-jobs-end : (q o : ℕ) → jobsAt q (end-at o) ≡ 0
+pub jobs-end : (q o : ℕ) → jobsAt q (end-at o) ≡ 0
 unfolding bodyWeight jobAt
 jobs-end q o = refl
 
-jobs-job : (q o n : ℕ) (r : Code) → jobsAt q (job-at o n r) ≡ jobAt q (a-job o) + jobsAt q r
+pub jobs-job : (q o n : ℕ) (r : Code) → jobsAt q (job-at o n r) ≡ jobAt q (a-job o) + jobsAt q r
 unfolding bodyWeight
 jobs-job q o n r = refl
 
-jobs-async : (q o : ℕ) (b r : Code) → jobsAt q (async-at o b r) ≡ jobsAt q b + jobsAt q r
+pub jobs-async : (q o : ℕ) (b r : Code) → jobsAt q (async-at o b r) ≡ jobsAt q b + jobsAt q r
 unfolding bodyWeight joinsWeight joinWeight weight firstEdition jobAt
 jobs-async q o b r = omega arith
 
-jobs-finish : (q o : ℕ) (b r : Code) → jobsAt q (finish-at o b r) ≡ jobsAt q b + jobsAt q r
+pub jobs-finish : (q o : ℕ) (b r : Code) → jobsAt q (finish-at o b r) ≡ jobsAt q b + jobsAt q r
 unfolding bodyWeight joinsWeight joinWeight weight firstEdition jobAt
 jobs-finish q o b r = omega arith
 
-jobs-fork : (q o : ℕ) (b c r : Code) → jobsAt q (fork-at o b c r) ≡ jobsAt q b + (jobsAt q c + jobsAt q r)
+pub jobs-fork : (q o : ℕ) (b c r : Code) → jobsAt q (fork-at o b c r) ≡ jobsAt q b + (jobsAt q c + jobsAt q r)
 unfolding bodyWeight joinsWeight joinWeight weight firstEdition jobAt
 jobs-fork q o b c r = omega arith
 
--- Of jobs J between lo and hi, w are at q: none, or the one with number n.
-data Told (q w : ℕ) (J : ℕ → Type 0) (lo hi : ℕ) : Type 0 where
-  none-there : w ≡ 0 → ((n : ℕ) → J n → ⊥) → Told q w J lo hi
-  one-there : (n : ℕ) → w ≡ 1 → J n → lo ≤ q → q ≤ hi → Told q w J lo hi
+-- Of jobs between lo and hi, w are at q: none, and J says that one is written there, or one.
+data Told (q w : ℕ) (J : Type 0) (lo hi : ℕ) : Type 0 where
+  none-there : w ≡ 0 → (J → ⊥) → Told q w J lo hi
+  one-there : w ≡ 1 → lo ≤ q → q ≤ hi → Told q w J lo hi
 
 -- of those in two ranges one behind the other
 beside :
-    {q w w' all lo hi lo' hi' from : ℕ} {J J' : ℕ → Type 0} → Told q w J lo hi → Told q w' J' lo' hi' → all ≡ w + w' → hi < lo'
-    → from ≤ lo → lo ≤ hi → lo' ≤ hi' → Told q all (λ n. J n ⊎ J' n) from hi'
-beside (none-there e f) (none-there e' f') sum apart s l l' = none-there (omega arith) (λ n. ⊎-elim (f n) (f' n))
-beside (none-there e f) (one-there n e' j s' i') sum apart s l l' = one-there n (omega arith) (inr j) (omega arith) (omega arith)
-beside (one-there n e j s' i') (none-there e' f') sum apart s l l' = one-there n (omega arith) (inl j) (omega arith) (omega arith)
-beside (one-there n e j s' i') (one-there n' e' j' s'' i'') sum apart s l l' = absurd (omega arith)
+    {q w w' all lo hi lo' hi' from : ℕ} {J J' : Type 0} → Told q w J lo hi → Told q w' J' lo' hi' → all ≡ w + w' → hi < lo'
+    → from ≤ lo → lo ≤ hi → lo' ≤ hi' → Told q all (J ⊎ J') from hi'
+beside (none-there e f) (none-there e' f') sum apart s l l' = none-there (omega arith) (⊎-elim f f')
+beside (none-there e f) (one-there e' s' i') sum apart s l l' = one-there (omega arith) (omega arith) (omega arith)
+beside (one-there e s' i') (none-there e' f') sum apart s l l' = one-there (omega arith) (omega arith) (omega arith)
+beside (one-there e s' i') (one-there e' s'' i'') sum apart s l l' = absurd (omega arith)
 
 -- a job by itself
-told-job : (q o m : ℕ) → Told q (jobAt q (a-job o)) (λ n. (o ≡ q) × (m ≡ n)) o o
-told-job q o m =
-    ⊎-elim (λ e. one-there m (this-job o q e) (e, refl) (omega arith) (omega arith))
-    (λ ne. none-there (other-job o q ne) (λ n h. ne (h .0)))
+told-job : (q o : ℕ) → Told q (jobAt q (a-job o)) (q ≡ o) o o
+told-job q o =
+    ⊎-elim (λ e. one-there (this-job o q e) (omega arith) (omega arith)) (λ ne. none-there (other-job o q ne) (λ h. ne (sym h)))
     (equal? o q)
 
 -- the jobs of laid code
-told : (q : ℕ) (c : Code) → Laid c → Told q (jobsAt q c) (JobIn c q) (place c) (last c)
-unfolding JobIn Laid place last
-told q (end-at o) l = none-there (jobs-end q o) (λ n h. h)
+told : (q : ℕ) (c : Code) → Laid c → Told q (jobsAt q c) (Job c q) (place c) (last c)
+unfolding Job Laid place last
+told q (end-at o) l = none-there (jobs-end q o) (λ h. h)
 told q (job-at o m r) l =
-    beside (told-job q o m) (told q r (l .1)) (jobs-job q o m r) (l .0 .starts) (omega arith) (omega arith) (l .0 .rest)
+    beside (told-job q o) (told q r (l .1)) (jobs-job q o m r) (l .0 .starts) (omega arith) (omega arith) (l .0 .rest)
 told q (async-at o b r) l =
     beside (told q b (l .1)) (told q r (l .2)) (jobs-async q o b r) (omega (arith, l .0 .ends)) (omega (arith, l .0 .starts)) (l .0 .body)
     (l .0 .rest)
@@ -304,27 +216,21 @@ told q (fork-at o b c r) l =
     (jobs-fork q o b c r) (omega (arith, l .0 .between)) (omega (arith, l .0 .starts)) (l .0 .left)
     (omega (arith, l .0 .right, l .0 .ends, l .0 .rest))
 
--- so no two are at the same offset, and one is counted exactly if it is written
-pub jobs-le : (q : ℕ) (c : Code) → Laid c → jobsAt q c ≤ 1
+-- so no two are at the same offset
+jobs-le : (q : ℕ) (c : Code) → Laid c → jobsAt q c ≤ 1
 jobs-le q c l = go (told q c l)
   where
-    go : Told q (jobsAt q c) (JobIn c q) (place c) (last c) → jobsAt q c ≤ 1
+    go : Told q (jobsAt q c) (Job c q) (place c) (last c) → jobsAt q c ≤ 1
     go (none-there e f) = omega arith
-    go (one-there n e j s i) = omega arith
+    go (one-there e s i) = omega arith
 
-pub jobs-one : (q : ℕ) (c : Code) → Laid c → (jobsAt q c ≡ 1) ↔ ((n : ℕ) × JobIn c q n)
-jobs-one q c l = go (told q c l)
+-- and one is counted if it is written
+jobs-one : (q : ℕ) (c : Code) → Laid c → Job c q → jobsAt q c ≡ 1
+jobs-one q c l j = go (told q c l)
   where
-    go : Told q (jobsAt q c) (JobIn c q) (place c) (last c) → (jobsAt q c ≡ 1) ↔ ((n : ℕ) × JobIn c q n)
-    go (none-there e f) = (λ h. absurd (omega arith), λ h. absurd (f (h .0) (h .1)))
-    go (one-there n e j s i) = (λ h. (n, j), λ h. e)
-
-pub jobs-none : (q : ℕ) (c : Code) → Laid c → (jobsAt q c ≡ 0) ↔ ((n : ℕ) → JobIn c q n → ⊥)
-jobs-none q c l = go (told q c l)
-  where
-    go : Told q (jobsAt q c) (JobIn c q) (place c) (last c) → (jobsAt q c ≡ 0) ↔ ((n : ℕ) → JobIn c q n → ⊥)
-    go (none-there e f) = (λ h. f, λ h. e)
-    go (one-there n e j s i) = (λ h. absurd (omega arith), λ h. absurd (h n j))
+    go : Told q (jobsAt q c) (Job c q) (place c) (last c) → jobsAt q c ≡ 1
+    go (none-there e f) = absurd (f j)
+    go (one-there e s i) = e
 
 -- Nothing is left exactly if every vertex is over.
 
@@ -351,16 +257,11 @@ over-all ω S h = zero-sum (λ v. left ω (S .control v)) (S .count) (λ v l. ap
 
 -- Runs from the beginning.
 
--- only these two have anything to do
-beginning-beyond : (p : Code) (L : ℕ) → Beyond (beginning p L)
-unfolding beginning
-beginning-beyond p L u l = rw (ne-eqb u 0 (λ q. absurd (omega arith)), ne-eqb u 1 (λ q. absurd (omega arith))) refl
-
 -- what has been done and what is left is what a program's state weighs at the beginning
 runs-on :
     (ω : Event → ℕ) (p : Code) (L : ℕ) {es : List Event} {S : State} → Runs L (beginning p L) es S
     → total ω (beginning p L) ≡ spent ω es + total ω S
-runs-on ω p L r = runs-pay ω (beginning-beyond p L) r
+runs-on ω p L r = runs-pay ω (shape-beginning p L) r
 
 -- Steps.
 
@@ -425,20 +326,14 @@ pub job-once :
     (q : ℕ) (p : Code) (L : ℕ) {es : List Event} {S : State} → Laid p → Runs L (beginning p L) es S → spent (jobAt q) es ≤ 1
 job-once q p L l r = omega (arith, runs-on (jobAt q) p L r, jobs-total q p L, jobs-le q p l)
 
--- never, if it is not written
-pub job-never :
-    (q : ℕ) (p : Code) (L : ℕ) {es : List Event} {S : State} → Laid p → ((n : ℕ) → JobIn p q n → ⊥) → Runs L (beginning p L) es S
-    → spent (jobAt q) es ≡ 0
-job-never q p L l h r = omega (arith, runs-on (jobAt q) p L r, jobs-total q p L, jobs-none q p l .1 h)
-
--- exactly once, if it is, when nothing of it is left
+-- exactly once, if it is written, when nothing of it is left
 pub job-past :
-    (q n : ℕ) (p : Code) (L : ℕ) {es : List Event} {S : State} → Laid p → JobIn p q n → Runs L (beginning p L) es S
+    (q : ℕ) (p : Code) (L : ℕ) {es : List Event} {S : State} → Laid p → Job p q → Runs L (beginning p L) es S
     → total (jobAt q) S ≡ 0 → spent (jobAt q) es ≡ 1
-job-past q n p L l h r z = omega (arith, runs-on (jobAt q) p L r, jobs-total q p L, jobs-one q p l .1 (n, h), z)
+job-past q p L l j r z = omega (arith, runs-on (jobAt q) p L r, jobs-total q p L, jobs-one q p l j, z)
 
 -- so it is when all is done
 pub job-done :
-    (q n : ℕ) (p : Code) (L : ℕ) {es : List Event} {S : State} → Laid p → JobIn p q n → Runs L (beginning p L) es S → total each S ≡ 0
+    (q : ℕ) (p : Code) (L : ℕ) {es : List Event} {S : State} → Laid p → Job p q → Runs L (beginning p L) es S → total each S ≡ 0
     → spent (jobAt q) es ≡ 1
-job-done q n p L {S = S} l h r z = job-past q n p L l h r (over-all (jobAt q) S (all-over S z))
+job-done q p L {S = S} l j r z = job-past q p L l j r (over-all (jobAt q) S (all-over S z))

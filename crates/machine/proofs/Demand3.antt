@@ -1,23 +1,22 @@
--- Demand 3. What was reached follows a run of the ghost machine (Tracked); its counts are conserved (Counts), its
--- edges lead to higher ranks (Acyclic), one of its vertices
--- can move on as long as one is not over (Progress), and a job that is answered has nothing ahead of it that is not (Order).
-use Prim.Native.Nat.{ℕ, suc, _+_, _-_, _<_, _≤_}
+-- Demand 3, of whatever is reached from an accepted loading. What was reached follows a run of the ghost machine (Tracked). Its counts are
+-- conserved (Counts), its edges lead to higher ranks (Acyclic), one of its vertices can move on as long as one is not over (Progress), and
+-- a job that is answered has nothing ahead of it that is not (WaitLaws, Unanswered). How a run ends from there is in RunEnds.
+use Prim.Native.Nat.{ℕ, _+_, _-_, _<_, _≤_}
 use mathlib.Core.Path.{_≡_, refl, sym, _∙_, ap, subst}
 use mathlib.Core.Bool.{Bool, true, false, not}
 use mathlib.Core.Logic.{_⊎_, inl, inr, _↔_}
 use mathlib.Core.List.{List, [], _∷_, _++_}
 use native.Mathlib.Omega.{arith}
-use mathlib.Core.Option.{some}
 use lib.Dec.{ltb}
-use borrow.Author.Tests.{lt-ltb, ltb-true, ltb-false}
 use lib.ListN.{length}
+use borrow.Author.Tests.{lt-ltb, ltb-true, ltb-false}
 use Rattle.graph.specs.Tables.{Lent}
-use Rattle.graph.specs.Paths.{CycleFree, Leads, one, more, holds}
+use Rattle.graph.specs.Paths.{CycleFree, more, holds}
 use Rattle.graph.proofs.TestLaws.{true-false, both-true}
 use Rattle.program.specs.Trees.{Body, counts}
 use Rattle.program.specs.Encodings.{steps, firstEdition, stepFormula}
 use Rattle.program.specs.Reader.{reading, program}
-use Rattle.program.specs.Located.{Code, job-at, locate, codeAt}
+use Rattle.program.specs.Located.{Code, job-at, locate}
 use Rattle.program.proofs.LocatedLaws.{laid-locate}
 use Rattle.program.proofs.Exactness.{reading-complete}
 use Rattle.program.proofs.Formulas.{steps-formula}
@@ -27,36 +26,33 @@ use Rattle.machine.specs.Ahead.{Ahead}
 use Rattle.machine.specs.Stepping.{steppable, stepLimit, step}
 use Rattle.machine.specs.Running.{canStep, done, spent, RunOutcome, run}
 use Rattle.machine.specs.Reached.{Reached, begun, stepped}
-use Rattle.machine.specs.Demand2.{Lends}
-use Rattle.machine.specs.Demand3.{acceptedIn, ranIn, Written, written, Throughout, Demand3}
+use Rattle.machine.specs.Demand3.{acceptedIn, ranIn, Written, Throughout, Demand3}
+use Rattle.machine.proofs.Calls.{run-reached}
+use Rattle.machine.proofs.LoadLaws.{load-exact}
+use Rattle.machine.proofs.RunDemand2.{run-ran}
+use Rattle.machine.proofs.AheadIsPre.{ahead-is-pre}
 use Rattle.machine.proofs.Ghost.{Control, draft, fresh, ready, busy, joining, over, State, Event}
 use Rattle.machine.proofs.Invariant.{Shape, isNew}
 use Rattle.machine.proofs.GhostLaws.{clash, ready-old, busy-old, joining-old}
-use Rattle.machine.proofs.Weights.{total, each}
-use Rattle.machine.proofs.Conservation.{and-then}
-use Rattle.machine.proofs.Counts.{jobAt, job-past, job-written, all-over, over-all, steps-run, steps-bound, job-once, job-done}
 use Rattle.machine.proofs.Acyclic.{cycle-free}
 use Rattle.machine.proofs.Progress.{seek, Free, at-code, at-work, unblocked, can-go-on}
-use Rattle.machine.proofs.Follows.{Refuses, absent, blocked, is-new, is-over, Answers, says-start, says-new, says-edge, says-release, says-transfer, says-job, says-stop, Stepped, refused, moved}
-use Rattle.machine.proofs.Order.{Pre, Held}
-use Rattle.machine.proofs.OrderLaws.{pre-job, job-code}
-use Rattle.machine.proofs.AheadIsPre.{ahead-is-pre}
-use Rattle.machine.proofs.WaitLaws.{in-order}
+use Rattle.machine.proofs.Weights.{total, each, jobAt}
+use Rattle.machine.proofs.Conservation.{and-then}
+use Rattle.machine.proofs.Counts.{job-past, over-all, steps-run, steps-bound, job-once, job-done}
 use Rattle.machine.proofs.Unanswered.{nothing-or-held}
-use Rattle.machine.proofs.RunDemand2.{run-ran}
-use Rattle.machine.proofs.RunEnds.{Ends, ends-done, ends-spent, run-ends}
-use Rattle.machine.proofs.Calls.{run-reached}
-use Rattle.machine.proofs.LoadLaws.{load-exact}
+use Rattle.machine.proofs.Order.{Pre, Held}
+use Rattle.machine.proofs.OrderLaws.{pre-job, written-job}
+use Rattle.machine.proofs.WaitLaws.{in-order}
+use Rattle.machine.proofs.Follows.{Refuses, absent, blocked, is-new, is-over, Answers, says-start, says-new, says-edge, says-release}
+use Rattle.machine.proofs.Follows.{says-transfer, says-job, says-stop, Followed, refused, moved}
 use Rattle.machine.proofs.Tracked.{Tracked, answers-accepted, stepped-as, room-steps, rows-lent, tracked}
-
--- a path of one set of edges is one of another that has them all
-leads-along : {E F : ℕ → ℕ → Bool} → ((a b : ℕ) → E a b ≡ F a b) → {a b : ℕ} → Leads E a b → Leads F a b
-leads-along same (one {a} {b} h) = one (sym (same a b) ∙ h)
-leads-along same (more {a} {b} h p) = more (sym (same a b) ∙ h) (leads-along same p)
+use Rattle.machine.proofs.RunEnds.{Ends, ends-done, ends-spent, run-ends}
 
 -- no path of held edges closes
-acyclic : {bytes : List ℕ} {t : Body} {s₀ : Lent} {answers : List Said} {s : Lent} → Tracked bytes t s₀ answers s → CycleFree (holds (s .edges) (s .held))
-acyclic T x p = cycle-free (T .inv .shape) (T .inv .ranks) x (leads-along (T .follows .edges-are) p)
+acyclic :
+    {bytes : List ℕ} {t : Body} {s₀ : Lent} {answers : List Said} {s : Lent} → Tracked bytes t s₀ answers s
+    → CycleFree (holds (s .edges) (s .held))
+acyclic T = cycle-free (T .inv .shape) (T .inv .ranks) (T .follows .edges-are)
 
 -- all vertices are over, or one is not
 isOver : Control → Bool
@@ -93,7 +89,9 @@ free-taken shape (at-work e) (is-over lt h) = clash cc
 free-taken shape (unblocked e none) (is-over lt h) = clash cc
 
 -- a vertex that answers a job stands at it
-answers-at : {S : State} {v n o : ℕ} {e : Event} {a : Said} → Answers S v e a → a ≡ said.job n o → (r : Code) × (S .control v ≡ busy (job-at o n r) [])
+answers-at :
+    {S : State} {v n o : ℕ} {e : Event} {a : Said} → Answers S v e a → a ≡ said.job n o
+    → (r : Code) × (S .control v ≡ busy (job-at o n r) [])
 answers-at says-start h = clash cc
 answers-at says-new h = clash cc
 answers-at (says-edge a b) h = clash cc
@@ -105,84 +103,91 @@ answers-at {S} {v} {n} {o} (says-job {o = o'} {n = n'} {r} at) h =
 answers-at says-stop h = clash cc
 
 -- What was reached, and a further step of v.
-module _ (bytes : List ℕ) (t : Body) {s₀ : Lent} {answers : List Said} {s : Lent} (r : reading bytes ≡ program t) (q : Reached bytes s₀ answers s) where
-  abbrev T : Tracked bytes t s₀ answers s
-  T = tracked bytes t r q
+module _ (bytes : List ℕ) (t : Body) {s₀ : Lent} {answers : List Said} {s : Lent} (r : reading bytes ≡ program t)
+    (q : Reached bytes s₀ answers s)
+  where
+    abbrev T : Tracked bytes t s₀ answers s
+    T = tracked bytes t r q
 
-  seen : (v : ℕ) → Stepped (locate 0 t) (length bytes - 1) s (T .state) v (step bytes s v)
-  seen v = stepped-as bytes t s₀ r (rows-lent bytes t r q) T v
+    seen : (v : ℕ) → Followed (locate 0 t) (length bytes - 1) s (T .state) v (step bytes s v)
+    seen v = stepped-as bytes t s₀ r (rows-lent bytes t r q) T v
 
-  -- an accepted step is one of those that are left
-  one-left : (v : ℕ) → canStep bytes s v ≡ true → acceptedIn answers < stepFormula (counts t)
-  one-left v h = go (step bytes s v) h (seen v)
-    where
-      go : (o : Outcome) → accepted (o .answer) ≡ true → Stepped (locate 0 t) (length bytes - 1) s (T .state) v o
-          → acceptedIn answers < stepFormula (counts t)
-      go o p (refused n why e) = true-false p (ap (λ (x : Outcome). accepted (x .answer)) e)
-      go o p (moved e S' m f says tally) =
-          let b : length (e ∷ T .events) ≤ steps firstEdition t = steps-bound 0 t (length bytes - 1) (and-then (T .runs) m) in
-          omega (arith, b, T .accepted-are, steps-formula t)
+    -- an accepted step is one of those that are left
+    one-left : (v : ℕ) → canStep bytes s v ≡ true → acceptedIn answers < stepFormula (counts t)
+    one-left v h = go (step bytes s v) h (seen v)
+      where
+        go :
+            (o : Outcome) → accepted (o .answer) ≡ true → Followed (locate 0 t) (length bytes - 1) s (T .state) v o
+            → acceptedIn answers < stepFormula (counts t)
+        go o p (refused n why e) = true-false p (ap (λ (x : Outcome). accepted (x .answer)) e)
+        go o p (moved e S' m f says tally) =
+            let b : length (e ∷ T .events) ≤ steps firstEdition t = steps-bound 0 t (length bytes - 1) (and-then (T .runs) m) in
+            omega (arith, b, T .accepted-are, steps-formula t)
 
-  -- a vertex that can move on can step
-  free-steps : (v : ℕ) → Free (T .state) v → canStep bytes s v ≡ true
-  free-steps v f = go (step bytes s v) (seen v)
-    where
-      go : (o : Outcome) → Stepped (locate 0 t) (length bytes - 1) s (T .state) v o → accepted (o .answer) ≡ true
-      go o (refused n why e) = absurd (free-taken (T .inv .shape) f why)
-      go o (moved e S' m f' says tally) = answers-accepted says
+    -- a vertex that can move on can step
+    pub free-steps : (v : ℕ) → Free (T .state) v → canStep bytes s v ≡ true
+    free-steps v f = go (step bytes s v) (seen v)
+      where
+        go : (o : Outcome) → Followed (locate 0 t) (length bytes - 1) s (T .state) v o → accepted (o .answer) ≡ true
+        go o (refused n why e) = absurd (free-taken (T .inv .shape) f why)
+        go o (moved e S' m f' says tally) = answers-accepted says
 
-  -- where steps are left, some vertex is not over
-  live : acceptedIn answers < stepFormula (counts t) → (v : ℕ) × (T .state .control v ≡ over → ⊥)
-  unfolding isOver
-  live lt = go (seek (λ v. not (isOver (T .state .control v))) (T .state .count))
-    where
-      go :
-          ((v : ℕ) × (not (isOver (T .state .control v)) ≡ true)) ⊎ ((v : ℕ) → v < T .state .count → not (isOver (T .state .control v)) ≡ false)
-          → (v : ℕ) × (T .state .control v ≡ over → ⊥)
-      go (inl (v, h)) = (v, λ e. true-false h (ap (λ (x : Control). not (isOver x)) e))
-      go (inr none) =
-          let z : total each (T .state) ≡ 0 = over-all each (T .state) (λ v l. is-all (T .state .control v) (none v l)) in
-          absurd (omega (arith, lt, z, steps-run 0 t (length bytes - 1) (T .runs), T .accepted-are, steps-formula t))
+    -- where steps are left, some vertex is not over
+    live : acceptedIn answers < stepFormula (counts t) → (v : ℕ) × (T .state .control v ≡ over → ⊥)
+    unfolding isOver
+    live lt = go (seek (λ v. not (isOver (T .state .control v))) (T .state .count))
+      where
+        go :
+            ((v : ℕ) × (not (isOver (T .state .control v)) ≡ true))
+            ⊎ ((v : ℕ) → v < T .state .count → not (isOver (T .state .control v)) ≡ false)
+            → (v : ℕ) × (T .state .control v ≡ over → ⊥)
+        go (inl (v, h)) = (v, λ e. true-false h (ap (λ (x : Control). not (isOver x)) e))
+        go (inr none) =
+            let z : total each (T .state) ≡ 0 = over-all each (T .state) (λ v l. is-all (T .state .control v) (none v l)) in
+            absurd (omega (arith, lt, z, steps-run 0 t (length bytes - 1) (T .runs), T .accepted-are, steps-formula t))
 
-  -- at the full count nothing is left
-  nothing : acceptedIn answers ≡ stepFormula (counts t) → total each (T .state) ≡ 0
-  nothing h = omega (arith, h, steps-run 0 t (length bytes - 1) (T .runs), T .accepted-are, steps-formula t)
+    -- at the full count nothing is left
+    nothing : acceptedIn answers ≡ stepFormula (counts t) → total each (T .state) ≡ 0
+    nothing h = omega (arith, h, steps-run 0 t (length bytes - 1) (T .runs), T .accepted-are, steps-formula t)
 
-  keeps : (v : ℕ) → accepted (step bytes s v .answer) ≡ false → step bytes s v .after ≡ s
-  keeps v h = go (step bytes s v) h (seen v)
-    where
-      go : (o : Outcome) → accepted (o .answer) ≡ false → Stepped (locate 0 t) (length bytes - 1) s (T .state) v o → o .after ≡ s
-      go o p (refused n why e) = ap (λ (x : Outcome). x .after) e
-      go o p (moved e S' m f says tally) = true-false (answers-accepted says) p
+    keeps : (v : ℕ) → accepted (step bytes s v .answer) ≡ false → step bytes s v .after ≡ s
+    keeps v h = go (step bytes s v) h (seen v)
+      where
+        go : (o : Outcome) → accepted (o .answer) ≡ false → Followed (locate 0 t) (length bytes - 1) s (T .state) v o → o .after ≡ s
+        go o p (refused n why e) = ap (λ (x : Outcome). x .after) e
+        go o p (moved e S' m f says tally) = true-false (answers-accepted says) p
 
-  -- a job ahead of one that is answered now was answered
-  was-answered : (v n o p : ℕ) → step bytes s v .answer ≡ said.job n o → Ahead (locate 0 t) p o → ranIn p answers ≡ 1
-  was-answered v n o p h a = go (step bytes s v) h (seen v)
-    where
-      before : Pre (locate 0 t) p o
-      before = ahead-is-pre (locate 0 t) p o .0 a
+    -- a job ahead of one that is answered now was answered
+    was-answered : (v n o p : ℕ) → step bytes s v .answer ≡ said.job n o → Ahead (locate 0 t) p o → ranIn p answers ≡ 1
+    was-answered v n o p h a = go (step bytes s v) h (seen v)
+      where
+        before : Pre (locate 0 t) p o
+        before = ahead-is-pre (locate 0 t) p o .0 a
 
-      past : (m : ℕ) × (c : Code) × (codeAt (locate 0 t) p ≡ some (job-at p m c)) → total (jobAt p) (T .state) ≡ 0 → ranIn p answers ≡ 1
-      past (m, c, found) z =
-          T .jobs-are p
-          ∙ job-past p m (locate 0 t) (length bytes - 1) (laid-locate 0 t) (job-written (locate 0 t) p found) (T .runs) z
+        now :
+            (r' : Code) × (T .state .control v ≡ busy (job-at o n r') [])
+            → (total (jobAt p) (T .state) ≡ 0) ⊎ ((u : ℕ) × Held (T .state) u p)
+            → ranIn p answers ≡ 1
+        now at (inl z) =
+            T .jobs-are p
+            ∙ job-past p (locate 0 t) (length bytes - 1) (laid-locate 0 t) (pre-job (locate 0 t) p o before .0) (T .runs) z
+        now (r', at) (inr (u, h')) =
+            let inv = T .inv in
+            absurd (in-order (inv .roads) (laid-locate 0 t) (inv .coded) (inv .orders) v o n r' at u p h' before)
 
-      now : (r' : Code) × (T .state .control v ≡ busy (job-at o n r') []) → (total (jobAt p) (T .state) ≡ 0) ⊎ ((u : ℕ) × Held (T .state) u p)
-          → ranIn p answers ≡ 1
-      now at (inl z) = past (job-code (locate 0 t) p (laid-locate 0 t) .0 (pre-job (locate 0 t) p o before .0)) z
-      now (r', at) (inr (u, h')) = absurd (in-order (T .inv .roads) (laid-locate 0 t) (T .inv .coded) (T .inv .orders) v o n r' at u p h' before)
+        go : (x : Outcome) → x .answer ≡ said.job n o → Followed (locate 0 t) (length bytes - 1) s (T .state) v x → ranIn p answers ≡ 1
+        go x e (refused k why eq) = let g : said.refused k 0 ≡ said.job n o = sym (ap (λ (y : Outcome). y .answer) eq) ∙ e in clash cc
+        go x e (moved ev S' m f says tally) = now (answers-at says e) (nothing-or-held (T .state) p (T .inv .shape))
 
-      go : (x : Outcome) → x .answer ≡ said.job n o → Stepped (locate 0 t) (length bytes - 1) s (T .state) v x → ranIn p answers ≡ 1
-      go x e (refused k why eq) = let g : said.refused k 0 ≡ said.job n o = sym (ap (λ (y : Outcome). y .answer) eq) ∙ e in clash cc
-      go x e (moved ev S' m f says tally) = now (answers-at says e) (nothing-or-held (T .state) p (T .inv .shape))
-
-  runs-once : (n o : ℕ) → Written t o n → acceptedIn answers ≡ stepFormula (counts t) → ranIn o answers ≡ 1
-  runs-once n o (written c found) h =
-      T .jobs-are o
-      ∙ job-done o n (locate 0 t) (length bytes - 1) (laid-locate 0 t) (job-written (locate 0 t) o found) (T .runs) (nothing h)
+    -- at the full count each written job was answered once
+    runs-once : (n o : ℕ) → Written t o n → acceptedIn answers ≡ stepFormula (counts t) → ranIn o answers ≡ 1
+    runs-once n o w h =
+        T .jobs-are o
+        ∙ job-done o (locate 0 t) (length bytes - 1) (laid-locate 0 t) (written-job t o n w) (T .runs) (nothing h)
 
 -- an answer in a list with one more at its end is that one, or stands before it
-snoc-split : (answers before after : List Said) (a b : Said) → answers ++ (a ∷ []) ≡ before ++ (b ∷ after)
+snoc-split :
+    (answers before after : List Said) (a b : Said) → answers ++ (a ∷ []) ≡ before ++ (b ∷ after)
     → ((a ≡ b) × (answers ≡ before)) ⊎ ((rest : List Said) × (answers ≡ before ++ (b ∷ rest)))
 snoc-split [] [] after a b e = inl (cc, refl)
 snoc-split [] (c ∷ before) after a b e = absurd (empty before (let h : [] ≡ before ++ (b ∷ after) = cc in h))
@@ -196,13 +201,15 @@ snoc-split (c ∷ answers) (d ∷ before) after a b e =
     let g : c ≡ d = cc in
     more (snoc-split answers before after a b h) g
   where
-    more : ((a ≡ b) × (answers ≡ before)) ⊎ ((rest : List Said) × (answers ≡ before ++ (b ∷ rest))) → c ≡ d
+    more :
+        ((a ≡ b) × (answers ≡ before)) ⊎ ((rest : List Said) × (answers ≡ before ++ (b ∷ rest))) → c ≡ d
         → ((a ≡ b) × (c ∷ answers ≡ d ∷ before)) ⊎ ((rest : List Said) × (c ∷ answers ≡ d ∷ (before ++ (b ∷ rest))))
     more (inl (p, q)) g = inl (p, cc)
     more (inr (rest, q)) g = inr (rest, cc)
 
 -- where no vertex can step the full count is reached
-none-left : (bytes : List ℕ) (t : Body) {s₀ : Lent} {answers : List Said} {s : Lent} → reading bytes ≡ program t → Reached bytes s₀ answers s
+none-left :
+    (bytes : List ℕ) (t : Body) {s₀ : Lent} {answers : List Said} {s : Lent} → reading bytes ≡ program t → Reached bytes s₀ answers s
     → ((v : ℕ) → canStep bytes s v ≡ false) → s .steps ≡ stepFormula (counts t)
 none-left bytes t {s₀} {answers} {s} r q none = go (ltb (acceptedIn answers) (stepFormula (counts t))) refl (tracked bytes t r q)
   where
@@ -213,14 +220,17 @@ none-left bytes t {s₀} {answers} {s} r q none = go (ltb (acceptedIn answers) (
         let (w, f) = can-go-on (U .inv .shape) (U .inv .ranks) (U .inv .ended) v l in
         true-false (free-steps bytes t r q w f) (none w)
 
-    go : (b : Bool) → ltb (acceptedIn answers) (stepFormula (counts t)) ≡ b → Tracked bytes t s₀ answers s → s .steps ≡ stepFormula (counts t)
+    go :
+        (b : Bool) → ltb (acceptedIn answers) (stepFormula (counts t)) ≡ b → Tracked bytes t s₀ answers s
+        → s .steps ≡ stepFormula (counts t)
     go true e U = absurd (over-count (ltb-true (acceptedIn answers) (stepFormula (counts t)) e))
     go false e U =
         let ge : stepFormula (counts t) ≤ acceptedIn answers = ltb-false (acceptedIn answers) (stepFormula (counts t)) e in
         omega (arith, ge, U .accepted-are, U .steps-are, steps-bound 0 t (length bytes - 1) (U .runs), steps-formula t)
 
 -- how a run ends from here
-ends : (bytes : List ℕ) (t : Body) {s₀ : Lent} {answers : List Said} {s : Lent} → reading bytes ≡ program t → Reached bytes s₀ answers s
+ends :
+    (bytes : List ℕ) (t : Body) {s₀ : Lent} {answers : List Said} {s : Lent} → reading bytes ≡ program t → Reached bytes s₀ answers s
     → (budget : ℕ) → Ends t s (run bytes s budget)
 unfolding steppable
 ends bytes t {s₀} {s = s} r q budget =
@@ -230,7 +240,8 @@ ends bytes t {s₀} {s = s} r q budget =
     run-ends (run bytes s budget) fit (run-ran bytes s budget) (tracked bytes t r q') (none-left bytes t r q')
 
 -- after loading and after every step
-never : (bytes : List ℕ) (t : Body) {s₀ : Lent} {answers : List Said} {s : Lent} → reading bytes ≡ program t → (q : Reached bytes s₀ answers s)
+never :
+    (bytes : List ℕ) (t : Body) {s₀ : Lent} {answers : List Said} {s : Lent} → reading bytes ≡ program t → (q : Reached bytes s₀ answers s)
     → Throughout (λ s'. CycleFree (holds (s' .edges) (s' .held))) q
 unfolding Throughout
 never bytes t r (begun h) = acyclic (tracked bytes t r (begun h))
@@ -250,7 +261,8 @@ rises (ends-done e f c) = c
 rises (ends-spent e f c) = c
 
 -- in every list of answers
-ordered : (bytes : List ℕ) (t : Body) {s₀ : Lent} {answers : List Said} {s : Lent} → reading bytes ≡ program t → (q : Reached bytes s₀ answers s)
+ordered :
+    (bytes : List ℕ) (t : Body) {s₀ : Lent} {answers : List Said} {s : Lent} → reading bytes ≡ program t → (q : Reached bytes s₀ answers s)
     → (before after : List Said) (n o p : ℕ) → answers ≡ before ++ (said.job n o ∷ after) → Ahead (locate 0 t) p o → ranIn p before ≡ 1
 ordered bytes t r (begun h) [] after n o p e a = clash cc
 ordered bytes t r (begun h) (b ∷ before) after n o p e a = clash cc
@@ -264,7 +276,8 @@ ordered bytes t r (stepped {answers} {s} q v) before after n o p e a =
     go (inr (rest, f)) again = again rest f
 
 -- Demand 3, of whatever is reached from an accepted loading.
-pub demand3 : (bytes : List ℕ) (t : Body) {s₀ : Lent} {answers : List Said} {s : Lent} → reading bytes ≡ program t → (q : Reached bytes s₀ answers s)
+pub demand3 :
+    (bytes : List ℕ) (t : Body) {s₀ : Lent} {answers : List Said} {s : Lent} → reading bytes ≡ program t → (q : Reached bytes s₀ answers s)
     → Demand3 bytes t q
 demand3 bytes t {answers} r q =
     let U = tracked bytes t r q in
@@ -291,7 +304,8 @@ demand3 bytes t {answers} r q =
     }
 
 -- What was loaded has a tree.
-pub reached-program : (bytes : List ℕ) {s₀ : Lent} {answers : List Said} {s : Lent} → Reached bytes s₀ answers s → (t : Body) × (reading bytes ≡ program t)
+pub reached-program :
+    (bytes : List ℕ) {s₀ : Lent} {answers : List Said} {s : Lent} → Reached bytes s₀ answers s → (t : Body) × (reading bytes ≡ program t)
 reached-program bytes {s₀} (begun h) =
     let (t, l, e, n) = load-exact bytes s₀ .0 h in
     (t, ap reading e ∙ reading-complete t l)

@@ -2,8 +2,8 @@
 -- vertices, before anything is done to the row of the vertex that steps.
 use Prim.Native.Nat.{ℕ, _+_, _<_, _≤_}
 use mathlib.Core.Path.{_≡_, refl, sym, _∙_, ap, subst}
-use mathlib.Core.Logic.{inl, inr, ⊎-elim}
 use mathlib.Core.Bool.{Bool, true, not}
+use mathlib.Core.Logic.{inl, inr, ⊎-elim}
 use mathlib.Core.List.{[]}
 use native.Mathlib.Omega.{arith}
 use lib.Dec.{eqb}
@@ -21,9 +21,12 @@ use Rattle.graph.proofs.SoundLaws.{sound-fits}
 use Rattle.graph.proofs.TakenLaws.{leaves, Taken}
 use Rattle.graph.proofs.EffectLaws.{leaves-edge, withEdge-is, withMoved-is}
 use Rattle.program.specs.Located.{Code, place, last}
-use Rattle.machine.proofs.Ghost.{Do, link, hand, free, Control, fresh, ready, busy, over, State, put, freed, withControl, withEdges, grown, linked, handed, dropped, done, eventOf}
+use Rattle.machine.proofs.Ghost.{Do, link, hand, free, Control, fresh, ready, busy, over, State, put, freed, withControl, withEdges}
+use Rattle.machine.proofs.Ghost.{grown, linked, handed, dropped, done, eventOf}
 use Rattle.machine.proofs.Invariant.{In, tasksOf, Shape, Ranks, Roads}
-use Rattle.machine.proofs.Follows.{Words, row, wordsOf, Shows, shows-fresh, shows-ready, shows-busy, shows-over, Follows, Answers, says-edge, says-release, says-transfer, edgeEvent}
+use Rattle.machine.proofs.Weights.{links}
+use Rattle.machine.proofs.Follows.{Words, row, wordsOf, Shows, shows-fresh, shows-ready, shows-busy, shows-over, Follows, Answers}
+use Rattle.machine.proofs.Follows.{says-edge, says-release, says-transfer}
 use Rattle.machine.proofs.RowLaws.{setAt, rowed-status}
 use Rattle.machine.proofs.FollowLaws.{statusOf, row-follows, edges-follow, vertex-follows}
 use Rattle.machine.proofs.CommandLaws.{says, leaves-sound, takes-release, takes-edge, takes-transfer}
@@ -159,7 +162,7 @@ pub record Joined (p : Code) (L : ℕ) (s : Lent) (S : State) (v : ℕ) (d : Do)
   pub follows : Follows p L (leaves (asked v d) s) (done S v d)
   pub row-same : wordsOf (leaves (asked v d) s) v ≡ wordsOf s v
   pub scope-same : done S v d .scope v ≡ S .scope v
-  pub held-le : leaves (asked v d) s .held ≤ s .held + edgeEvent (eventOf d)
+  pub held-le : leaves (asked v d) s .held ≤ s .held + links (eventOf d)
   pub answers : Answers S v (eventOf d) (says (asked v d) s)
 
 -- a row beside the one that is set
@@ -187,7 +190,7 @@ moved-held s v h = omega arith
 pub joined :
     {p : Code} {L : ℕ} {s : Lent} {S : State} → Shape S → Ranks S → Roads S → Follows p L s S → (v : ℕ) (d : Do)
     → statusOf (S .control v) ≡ EXECUTING → In d (tasksOf S v) → Room s d → Joined p L s S v d
-unfolding asked Room done eventOf edgeEvent
+unfolding asked Room done eventOf links
 joined {s = s} shape ranks roads F v (link a b) q i room =
     let (t, live) = takes-edge shape F ranks roads v a b q i room in
     record {

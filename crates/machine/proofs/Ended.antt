@@ -6,12 +6,14 @@ use mathlib.Core.Logic.{_⊎_, inl, inr, ⊎-elim}
 use mathlib.Core.List.{List, [], _∷_, _++_}
 use borrow.Author.Tests.{eq-eqb, ne-eqb}
 use Rattle.graph.specs.Tests.{both, either}
-use Rattle.graph.proofs.TestLaws.{equal?}
-use Rattle.program.specs.Located.{Code, end-at}
-use Rattle.machine.proofs.Ghost.{Do, link, hand, free, Control, draft, fresh, ready, busy, joining, over, State, put, onward, woken, freed, among, dropped, linked, handed, done, Event, Move, begins, performs, stops, makes, splits, acts}
+use Rattle.graph.proofs.TestLaws.{equal?, not-so}
+use Rattle.program.specs.Located.{Code}
+use Rattle.machine.proofs.Ghost.{Do, link, hand, free, Control, draft, fresh, ready, busy, joining, over, State, put, onward, woken}
+use Rattle.machine.proofs.Ghost.{freed, among, dropped, linked, handed, done, Event, Move, begins, performs, stops, makes, splits}
+use Rattle.machine.proofs.Ghost.{acts, stirred}
 use Rattle.machine.proofs.Invariant.{here, Shape, tasks}
-use Rattle.machine.proofs.Beginning.{beginning}
 use Rattle.machine.proofs.GhostLaws.{put-same, put-other, put-cases, clash}
+use Rattle.machine.proofs.Beginning.{beginning, beginning-edge}
 
 abbrev pub Ended : State → Type 0
 Ended S = (a b : ℕ) → S .control a ≡ over → S .edge a b ≡ false
@@ -67,8 +69,9 @@ unfolding both either
 handed-none e v h a b p ne = rw (p, ne-eqb a h ne) refl
 
 -- a joining command ends nothing, and gives no edge to a vertex that is over
-done-ended : {S : State} {v : ℕ} (c : Code) (d : Do) (ds : List Do) → Shape S → Ended S → S .control v ≡ joining c d ds
-    → (a b : ℕ) → (a ≡ v → ⊥) → done S v d .control a ≡ over → done S v d .edge a b ≡ false
+done-ended :
+    {S : State} {v : ℕ} (c : Code) (d : Do) (ds : List Do) → Shape S → Ended S → S .control v ≡ joining c d ds → (a b : ℕ) → (a ≡ v → ⊥)
+    → done S v d .control a ≡ over → done S v d .edge a b ≡ false
 unfolding done tasks
 done-ended {S} {v} c (link x y) ds shape ended at a b ne h =
     linked-none (S .edge) x y a b (ended a b h) (λ e. live (shape .todo-fits v .frees x (shape .todo-fits v .link-from x y (rw at here))) e)
@@ -97,8 +100,8 @@ ended-kept {v} {S} shape ended (makes {c} {ms} {k} at more) a b h =
     let p = still-over (put (S .control) (S .count) (draft k)) v (busy c (ms ++ (S .count ∷ []))) a (λ p. clash cc) h in
     ended a b (still-over (S .control) (S .count) (draft k) a (λ p. clash cc) (p .1) .1)
 ended-kept {v} {S} shape ended (splits {c} {ms} {k} at last) a b h =
-    let p = still-over (put (λ u. cond (among u ms) (woken (S .control u)) (S .control u)) (S .count) (fresh k)) v _ a (onward-over _ _) h in
-    let q = still-over (λ u. cond (among u ms) (woken (S .control u)) (S .control u)) (S .count) (fresh k) a (λ p. clash cc) (p .1) in
+    let p = still-over (put (stirred (S .control) ms) (S .count) (fresh k)) v _ a (onward-over _ _) h in
+    let q = still-over (stirred (S .control) ms) (S .count) (fresh k) a (λ p. clash cc) (p .1) in
     ended a b (was (among a ms) (q .1))
   where
     was : (t : Bool) → cond t (woken (S .control a)) (S .control a) ≡ over → S .control a ≡ over
@@ -110,9 +113,7 @@ ended-kept {v} {S} shape ended (acts {c} {d} {ds} at) a b h =
 
 -- After loading the edge is vertex 0's, which is not over.
 pub ended-beginning : (p : Code) (L : ℕ) → Ended (beginning p L)
-unfolding beginning both either
+unfolding beginning
 ended-beginning p L a b h =
-    ⊎-elim
-    (λ e. absurd (let z : ready p ≡ over = sym (put-same (put (λ u. over) 1 (ready (end-at L))) 0 (ready p)) ∙ subst (λ (w : ℕ). put (put (λ u. over) 1 (ready (end-at L))) 0 (ready p) w ≡ over) e h in clash cc))
-    (λ ne. rw (ne-eqb a 0 ne) refl)
-    (equal? a 0)
+    not-so (beginning p L .edge a b)
+    (λ e. let z : ready p ≡ over = ap (beginning p L .control) (sym (beginning-edge p L a b e .0)) ∙ h in clash cc)

@@ -1,4 +1,4 @@
--- The starred examples of document 01 hold: each is evaluated.
+-- The starred examples of document 01 hold: each is evaluated, by unfolding the definitions of the calls.
 use mathlib.Core.Path.{refl}
 use Rattle.graph.specs.Tables.{clear}
 use Rattle.graph.specs.Tests.{both, either, every, any}

@@ -2,8 +2,8 @@
 -- them: a row and its control change, the edges change, a vertex is made, drafts are drafts no more, a step is counted.
 use Prim.Native.Nat.{ℕ, suc, _+_, _<_}
 use mathlib.Core.Path.{_≡_, refl, sym, _∙_, ap, subst}
-use mathlib.Core.Logic.{⊎-elim}
 use mathlib.Core.Bool.{Bool, true, false, cond}
+use mathlib.Core.Logic.{⊎-elim}
 use mathlib.Core.List.{List}
 use native.Mathlib.Omega.{arith}
 use Rattle.graph.specs.Tables.{Lent, NEW, RELEASED, EXECUTING, FINISHED, vertexRows, status}
@@ -14,9 +14,11 @@ use Rattle.graph.proofs.TestLaws.{equal?}
 use Rattle.graph.proofs.SoundLaws.{Known, Fits, sound-fits, fits-sound}
 use Rattle.program.specs.Located.{Code, place, last}
 use Rattle.machine.specs.Answers.{oneStep}
-use Rattle.machine.proofs.Ghost.{Control, draft, fresh, ready, busy, joining, over, State, put, woken, among, withControl, withEdges, grown}
+use Rattle.machine.proofs.Ghost.{Control, draft, fresh, ready, busy, joining, over, State, put, woken, among, withControl, withEdges}
+use Rattle.machine.proofs.Ghost.{grown, stirred}
 use Rattle.machine.proofs.GhostLaws.{put-same, put-other}
-use Rattle.machine.proofs.Follows.{Words, row, wordsOf, Shows, shows-draft, shows-fresh, shows-ready, shows-busy, shows-joining, shows-over, Follows}
+use Rattle.machine.proofs.Follows.{Words, row, wordsOf, Shows, shows-draft, shows-fresh, shows-ready, shows-busy, shows-joining}
+use Rattle.machine.proofs.Follows.{shows-over, Follows, statusIn}
 use Rattle.machine.proofs.RowLaws.{Rowed, new-row, new-others}
 
 -- the status that a row has while it shows a control
@@ -38,23 +40,19 @@ status-known (busy c ms) = (omega arith, omega arith)
 status-known (joining c d ds) = (omega arith, omega arith)
 status-known over = (omega arith, omega arith)
 
--- the status stands first in a row
-abbrev first : Words → ℕ
-first (row st pl sc ph a b c) = st
-
--- so it is told by what the row shows
-shown-first : {p : Code} {L σ : ℕ} {w : Words} {x : Control} → Shows p L w σ x → first w ≡ statusOf x
+-- a row has the status of what it shows
+status-shown : {p : Code} {L σ : ℕ} {w : Words} {x : Control} → Shows p L w σ x → statusIn w ≡ statusOf x
 unfolding statusOf
-shown-first (shows-draft h) = ap first h
-shown-first (shows-fresh h) = ap first h
-shown-first (shows-ready h) = ap first h
-shown-first (shows-busy h) = ap first h
-shown-first (shows-joining k φ ms h at goes le rest) = ap first h
-shown-first (shows-over pl sc ph a b c h) = ap first h
+status-shown (shows-draft h) = ap statusIn h
+status-shown (shows-fresh h) = ap statusIn h
+status-shown (shows-ready h) = ap statusIn h
+status-shown (shows-busy h) = ap statusIn h
+status-shown (shows-joining k φ ms h at goes le rest) = ap statusIn h
+status-shown (shows-over pl sc ph a b c h) = ap statusIn h
 
 shown-status : {p : Code} {L σ : ℕ} (s : Lent) (v : ℕ) {x : Control} → Shows p L (wordsOf s v) σ x → status (s .vertices) v ≡ statusOf x
 unfolding wordsOf
-shown-status s v h = shown-first h
+shown-status s v h = status-shown h
 
 -- what is shown by the row of a vertex that is made
 pub follows-status :
@@ -160,7 +158,7 @@ shows-woken (shows-over pl sc ph a b c h) = shows-over pl sc ph a b c h
 -- drafts are drafts no more
 pub woken-follows :
     {p : Code} {L : ℕ} {s : Lent} (S : State) (ms : List ℕ) → Follows p L s S
-    → Follows p L s (withControl S (λ u. cond (among u ms) (woken (S .control u)) (S .control u)))
+    → Follows p L s (withControl S (stirred (S .control) ms))
 woken-follows {p} {L} {s} S ms F =
     record {
       made-is = F .made-is;

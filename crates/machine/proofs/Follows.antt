@@ -1,4 +1,5 @@
--- How lent tables and the ghost machine belong together: the rows show what each vertex is at, and the held edges are the machine's.
+-- How lent tables and the ghost machine belong together. The rows show what each vertex is at (`Shows`), and the held edges are the
+-- machine's (`Follows`). A step is refused for a reason that the state shows, or it is a move, which its answer tells (`Followed`).
 use Prim.Native.Nat.{ℕ, _+_, _<_, _≤_}
 use mathlib.Core.Path.{_≡_}
 use mathlib.Core.Bool.{true}
@@ -13,8 +14,10 @@ use Rattle.program.specs.Located.{Code, job-at, codeAt}
 use Rattle.program.specs.Located as code
 use Rattle.machine.specs.Answers.{Said, Outcome, refuse}
 use Rattle.machine.specs.Stepping as words
-use Rattle.machine.proofs.Ghost.{Do, Control, draft, fresh, ready, busy, joining, over, State, kids, goes, kindOf, commandsOf, joins, Event, a-start, a-new, an-edge, a-release, a-transfer, a-job, a-stop, Move}
+use Rattle.machine.proofs.Ghost.{Do, Control, draft, fresh, ready, busy, joining, over, State, kids, goes, kindOf, commandsOf, joins}
+use Rattle.machine.proofs.Ghost.{Event, a-start, a-new, an-edge, a-release, a-transfer, a-job, a-stop, Move}
 use Rattle.machine.proofs.Invariant.{isNew}
+use Rattle.machine.proofs.Weights.{links}
 
 -- A vertex row: status, place, scope, phase, and the vertices that the item at hand made.
 pub data Words : Type 0 where
@@ -22,7 +25,12 @@ pub data Words : Type 0 where
 
 unfoldable pub wordsOf : Lent → ℕ → Words
 wordsOf s v =
-    row (status (s .vertices) v) (words.place s v) (words.scope s v) (words.phase s v) (words.made s v 0) (words.made s v 1) (words.made s v 2)
+    row (status (s .vertices) v) (words.place s v) (words.scope s v) (words.phase s v) (words.made s v 0) (words.made s v 1)
+    (words.made s v 2)
+
+-- its status
+abbrev pub statusIn : Words → ℕ
+statusIn (row st pl sc ph a b c) = st
 
 -- A row shows a control, of a vertex with the scope σ, in a program p whose last byte is at L.
 pub data Shows (p : Code) (L : ℕ) (w : Words) (σ : ℕ) : Control → Type 0 where
@@ -62,26 +70,16 @@ pub data Answers (S : State) (v : ℕ) : Event → Said → Type 0 where
   says-job : {o n : ℕ} {r : Code} → S .control v ≡ busy (job-at o n r) [] → Answers S v (a-job o) (Said.job n o)
   says-stop : Answers S v a-stop Said.stop
 
--- 1 for the event of an edge
-unfoldable pub edgeEvent : Event → ℕ
-edgeEvent a-start = 0
-edgeEvent a-new = 0
-edgeEvent an-edge = 1
-edgeEvent a-release = 0
-edgeEvent a-transfer = 0
-edgeEvent (a-job o) = 0
-edgeEvent a-stop = 0
-
 -- what a move does to the tally's other numbers, and to the tables' lengths
 pub record Tallied (e : Event) (s s' : Lent) : Type 0 where
   pub steps-are : s' .steps ≡ s .steps + 1
-  pub held-le : s' .held ≤ s .held + edgeEvent e
+  pub held-le : s' .held ≤ s .held + links e
   pub vertex-length : length (s' .vertices) ≡ length (s .vertices)
   pub edge-length : length (s' .edges) ≡ length (s .edges)
 
 -- A step of v: refused for one of these reasons, or a move.
-pub data Stepped (p : Code) (L : ℕ) (s : Lent) (S : State) (v : ℕ) (o : Outcome) : Type 0 where
-  refused : (n : ℕ) → Refuses S v n → o ≡ refuse s n 0 → Stepped p L s S v o
+pub data Followed (p : Code) (L : ℕ) (s : Lent) (S : State) (v : ℕ) (o : Outcome) : Type 0 where
+  refused : (n : ℕ) → Refuses S v n → o ≡ refuse s n 0 → Followed p L s S v o
   moved :
       (e : Event) (S' : State) → Move L S v e S' → Follows p L (o .after) S' → Answers S v e (o .answer) → Tallied e s (o .after)
-      → Stepped p L s S v o
+      → Followed p L s S v o

@@ -4,16 +4,17 @@
 --
 -- An item first makes its vertices, then it joins them: edges, a transfer, releases. Once the last one is made, all that the item will do
 -- is known: this is where the item splits its code among the vertices. What comes behind only catches up with it.
-use Prim.Native.Nat.{ℕ, zero, suc, _+_}
+use Prim.Native.Nat.{ℕ, suc}
 use mathlib.Core.Path.{_≡_}
-use mathlib.Core.Bool.{Bool, true, false, not, cond}
+use mathlib.Core.Bool.{Bool, false, not, cond}
 use mathlib.Core.List.{List, [], _∷_, _++_}
 use mathlib.Core.Option.{Option, none, some}
 use lib.Dec.{eqb}
 use lib.ListN.{length, drop, getD}
 use Rattle.graph.specs.Tests.{both, either}
 use Rattle.program.specs.Trees.{Kind, jobs, asyncs, finishes, forks}
-use Rattle.program.specs.Encodings.{Name, own-scope, made-1, made-2, made-3, Command, perform, newTd, newEdge, transfer, release, firstEdition}
+use Rattle.program.specs.Encodings.{Name, own-scope, made-1, made-2, made-3, Command, perform, newTd, newEdge, transfer, release}
+use Rattle.program.specs.Encodings.{firstEdition}
 use Rattle.program.specs.Located.{Code, end-at, job-at, async-at, finish-at, fork-at, place, last}
 
 -- A command that joins vertices.
@@ -179,11 +180,15 @@ abbrev pub oneMore : State → ℕ → List ℕ → Control → Control → Code
 oneMore S v ms x kid k a =
     withControl (grown S v kid (resolved (S .scope v) ms a) (place k) (last k)) (put (put (S .control) (S .count) kid) v x)
 
+-- with these vertices drafts no more
+abbrev pub stirred : (ℕ → Control) → List ℕ → ℕ → Control
+stirred f ms u = cond (among u ms) (woken (f u)) (f u)
+
 -- the same at the split: those that were made before are drafts no more
 abbrev pub split : State → ℕ → List ℕ → Control → Code → Name → State
 split S v ms x k a =
     withControl (grown S v (fresh k) (resolved (S .scope v) ms a) (place k) (last k))
-    (put (put (λ u. cond (among u ms) (woken (S .control u)) (S .control u)) (S .count) (fresh k)) v x)
+    (put (put (stirred (S .control) ms) (S .count) (fresh k)) v x)
 
 -- The steps of a vertex v of a program whose last byte is at L.
 pub data Move (L : ℕ) (S : State) (v : ℕ) : Event → State → Type 0 where

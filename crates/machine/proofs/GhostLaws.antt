@@ -2,8 +2,10 @@
 --
 -- A function changed in one place
 --     put-same       put f v x v ≡ x
---     put-other      put f v x u ≡ f u, where u is not v
+--     put-other      put f v x u ≡ f u, where u is not v; put-below: where u is below v
 --     put-cases      P (put f v x u) from P x, where u is v, and P (f u), where it is not
+--     put-all        P (put f v x u) from P x and P of every value of f
+--     put-keeps      g (put f v x u) ≡ g (f u), where g x ≡ g (f v); puts-keep: the same of two changes
 -- Controls
 --     clash          anything, from `true ≡ false`; `clash (cc)` where the hypotheses give two controls, or two other constructors, to one
 --                    thing. `cc` alone proves what equal constructors have in common: from x ≡ busy c ms and x ≡ busy d ns, ms ≡ ns
@@ -11,7 +13,7 @@
 --     draft-new, fresh-new, ready-old, busy-old, joining-old, over-old    isNew of each
 -- Lists
 --     in-cases       In x (y ∷ ys): x is y, or In x ys
---     in-none        nothing is in the empty list
+--     in-none        nothing is in the empty list; in-empty: nor in one that is equal to it
 --     in-left        In x xs → In x (xs ++ ys)
 --     in-last        In x (xs ++ (x ∷ []))
 --     in-snoc        In x (xs ++ (y ∷ [])): In x xs, or x is y
@@ -37,6 +39,7 @@ use mathlib.Core.Bool.{Bool, true, false}
 use mathlib.Core.Logic.{_⊎_, inl, inr, ⊎-elim}
 use mathlib.Core.List.{List, [], _∷_, _++_}
 use native.Mathlib.Nat.{lt-of-not-le}
+use native.Mathlib.Omega.{arith}
 use lib.Dec.{eqb}
 use lib.ListN.{length, drop}
 use borrow.Author.Tests.{eq-eqb, ne-eqb, eqb-true}
@@ -55,6 +58,10 @@ put-same f v x = rw (eq-eqb v v refl) refl
 pub put-other : {A : Type 0} (f : ℕ → A) (v : ℕ) (x : A) (u : ℕ) → (u ≡ v → ⊥) → put f v x u ≡ f u
 put-other f v x u ne = rw (ne-eqb u v ne) refl
 
+-- so it is as it was below v
+pub put-below : {A : Type 0} (f : ℕ → A) (v : ℕ) (x : A) (u : ℕ) → u < v → put f v x u ≡ f u
+put-below f v x u lt = put-other f v x u (λ e. absurd (omega arith))
+
 -- what holds of the new value at v and of the old ones elsewhere holds of all
 pub put-cases :
     {A : Type 0} (P : A → Type 0) (f : ℕ → A) (v : ℕ) (x : A) (u : ℕ) → (u ≡ v → P x) → ((u ≡ v → ⊥) → P (f u))
@@ -64,6 +71,22 @@ put-cases P f v x u at off =
     (λ e. subst (λ (w : ℕ). P (put f v x w)) (sym e) (subst P (sym (put-same f v x)) (at e)))
     (λ n. subst P (sym (put-other f v x u n)) (off n))
     (equal? u v)
+
+-- what holds of its values and of the new one holds of all
+pub put-all : {A : Type 0} (P : A → Type 0) (f : ℕ → A) (v : ℕ) (x : A) → ((u : ℕ) → P (f u)) → P x → (u : ℕ) → P (put f v x u)
+put-all P f v x h p u = put-cases P f v x u (λ e. p) (λ n. h u)
+
+-- what is seen of the new value as it was of the old one is seen everywhere as before
+pub put-keeps :
+    {A B : Type 0} (g : A → B) (f : ℕ → A) (v : ℕ) (x : A) → g x ≡ g (f v) → (u : ℕ) → g (put f v x u) ≡ g (f u)
+put-keeps g f v x e u = put-cases (λ y. g y ≡ g (f u)) f v x u (λ q. e ∙ ap (λ (w : ℕ). g (f w)) (sym q)) (λ n. refl)
+
+-- the same of two changes
+pub puts-keep :
+    {A B : Type 0} (g : A → B) (f : ℕ → A) (n v : ℕ) (y x : A) → g y ≡ g (f n) → g x ≡ g (f v) → (u : ℕ)
+    → g (put (put f n y) v x u) ≡ g (f u)
+puts-keep g f n v y x e d u =
+    let inner = put-keeps g f n y e in put-keeps g (put f n y) v x (d ∙ sym (inner v)) u ∙ inner u
 
 -- a constructor is not another one
 pub clash : {A : Type 0} → _≡_ {A = Bool} true false → A
@@ -111,6 +134,10 @@ in-none {P} i = go i refl
     go : {A : Type 0} {x : A} {ys : List A} → In x ys → ys ≡ [] → P
     go here e = clash cc
     go (later i) e = clash cc
+
+-- nothing is in a list that is empty
+pub in-empty : {A B : Type 0} {x : A} {l : List A} → l ≡ [] → In x l → B
+in-empty {x = x} e i = in-none (subst (λ l. In x l) e i)
 
 -- what is in a list is in a longer one
 pub in-left : {A : Type 0} {x : A} {xs : List A} (ys : List A) → In x xs → In x (xs ++ ys)

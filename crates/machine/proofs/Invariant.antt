@@ -4,13 +4,12 @@
 --     Roads    settled edges lead to waiting vertices only, and from a vertex that has an item to its scope
 --     Coded    a vertex's code stands in the program
 -- Settled edges are the edges as they will be once each item that is split has done what it has to do.
-use Prim.Native.Nat.{ℕ, zero, suc, _+_, _<_, _≤_}
+use Prim.Native.Nat.{ℕ, _<_, _≤_}
 use mathlib.Core.Path.{_≡_}
-use mathlib.Core.Logic.{_⊎_}
 use mathlib.Core.Bool.{Bool, true, false}
+use mathlib.Core.Logic.{_⊎_}
 use mathlib.Core.List.{List, [], _∷_}
 use mathlib.Core.Option.{Option, none, some}
-use lib.ListN.{length}
 use Rattle.program.specs.Encodings.{Name}
 use Rattle.program.specs.Located.{Code, end-at, job-at, async-at, finish-at, fork-at, place, last, codeAt}
 use Rattle.machine.proofs.Ghost.{Do, link, hand, free, Control, draft, fresh, ready, busy, joining, over, State, kids, resolved}
@@ -21,9 +20,9 @@ pub data In {A : Type 0} (x : A) : List A → Type 0 where
   later : {y : A} {xs : List A} → In x xs → In x (y ∷ xs)
 
 -- x stands before y in a list
-pub data Before {A : Type 0} (x y : A) : List A → Type 0 where
-  first : {xs : List A} → In y xs → Before x y (x ∷ xs)
-  behind : {z : A} {xs : List A} → Before x y xs → Before x y (z ∷ xs)
+pub data Precedes {A : Type 0} (x y : A) : List A → Type 0 where
+  first : {xs : List A} → In y xs → Precedes x y (x ∷ xs)
+  behind : {z : A} {xs : List A} → Precedes x y xs → Precedes x y (z ∷ xs)
 
 -- no element stands twice
 unfoldable pub Once : {A : Type 0} → List A → Type 0
@@ -128,7 +127,7 @@ pub record Fits (S : State) (t : ℕ) (ds : List Do) : Type 0 where
   pub once : Once ds
   pub frees : (m : ℕ) → In (free m) ds → ((c : Code) × (S .control m ≡ fresh c)) × (S .maker m ≡ t)
   -- a vertex is released behind its scope
-  pub free-scope : (m : ℕ) → In (free m) ds → (isNew (S .control (S .scope m)) ≡ false) ⊎ Before (free (S .scope m)) (free m) ds
+  pub free-scope : (m : ℕ) → In (free m) ds → (isNew (S .control (S .scope m)) ≡ false) ⊎ Precedes (free (S .scope m)) (free m) ds
   pub link-from : (a b : ℕ) → In (link a b) ds → In (free a) ds
   pub link-to : (a b : ℕ) → In (link a b) ds → In (free b) ds ⊎ (b ≡ S .scope t)
   pub link-new : (a b : ℕ) → In (link a b) ds → S .edge a b ≡ false

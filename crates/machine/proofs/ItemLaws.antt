@@ -9,16 +9,17 @@ use native.Mathlib.Omega.{arith}
 use lib.ListN.{length, drop, take, getD}
 use borrow.Author.Tests.{eq-eqb, ne-eqb}
 use Rattle.graph.specs.Tables.{EXECUTING}
-use Rattle.program.specs.Encodings.{Name, own-scope, made-1, Spot, first-body, second-body, past-item, Command, perform, newTd, newEdge, transfer, release, firstEdition, weight}
+use Rattle.program.specs.Encodings.{Name, own-scope, made-1, Spot, first-body, second-body, past-item, Command, perform, newTd, newEdge}
+use Rattle.program.specs.Encodings.{transfer, release, firstEdition, weight}
 use Rattle.program.specs.Encodings as table
 use Rattle.program.specs.Located.{Code, end-at, job-at, async-at, finish-at, fork-at, place, codeAt}
 use Rattle.machine.specs.Stepping.{nth}
 use Rattle.machine.proofs.Ghost.{Do, link, hand, free, joining, kids, goes, kindOf, commandsOf, resolved, joins, todo, onward}
 use Rattle.machine.proofs.Invariant.{isItem}
+use Rattle.machine.proofs.Unsplit.{MoreToMake}
 use Rattle.machine.proofs.Follows.{Words, row, Shows, shows-busy, shows-joining}
 use Rattle.machine.proofs.RowLaws.{setAt, gone, keeping, Keeps, advancing}
 use Rattle.machine.proofs.StepLaws.{ItemOf, rowOf, job-item, item-of}
-use Rattle.machine.proofs.Unsplit.{MoreToMake}
 
 -- no list is empty and not
 not-nil : {A P : Type 0} {x : A} {xs : List A} → [] ≡ x ∷ xs → P
@@ -80,23 +81,23 @@ joining-left (fork-at o b c r) (suc (suc zero)) σ ms le h = absurd (omega arith
 joining-left (fork-at o b c r) (suc (suc (suc φ))) σ ms le h = joining-drop _ φ tt
 
 -- a command and what it does, with its names filled in
-pub data Does (σ : ℕ) (ms : List ℕ) : Command → Do → Type 0 where
-  does-link : (a b : Name) → Does σ ms (newEdge a b) (link (resolved σ ms a) (resolved σ ms b))
-  does-hand : (a : Name) → Does σ ms (transfer a) (hand (resolved σ ms a))
-  does-free : (a : Name) → Does σ ms (release a) (free (resolved σ ms a))
+pub data Joins (σ : ℕ) (ms : List ℕ) : Command → Do → Type 0 where
+  joins-link : (a b : Name) → Joins σ ms (newEdge a b) (link (resolved σ ms a) (resolved σ ms b))
+  joins-hand : (a : Name) → Joins σ ms (transfer a) (hand (resolved σ ms a))
+  joins-free : (a : Name) → Joins σ ms (release a) (free (resolved σ ms a))
 
 -- the next one of commands that join
 record Next (σ : ℕ) (ms : List ℕ) (cs : List Command) (d : Do) (ds : List Do) : Type 0 where
   pub command : Command
   pub rest : List Command
   pub list-is : cs ≡ command ∷ rest
-  pub does : Does σ ms command d
+  pub does : Joins σ ms command d
   pub then-does : joins σ ms rest ≡ ds
   pub still : Joining rest
 
 -- one that is found
 next-by :
-    {σ : ℕ} {ms : List ℕ} {c : Command} {cs : List Command} {d d' : Do} {ds ds' : List Do} → Does σ ms c d' → d' ∷ ds' ≡ d ∷ ds
+    {σ : ℕ} {ms : List ℕ} {c : Command} {cs : List Command} {d d' : Do} {ds ds' : List Do} → Joins σ ms c d' → d' ∷ ds' ≡ d ∷ ds
     → joins σ ms cs ≡ ds' → Joining cs → Next σ ms (c ∷ cs) d ds
 next-by {σ} {ms} {c} {cs} {d} {d'} {ds} does q h j =
     let first : d' ≡ d = cc in
@@ -104,7 +105,7 @@ next-by {σ} {ms} {c} {cs} {d} {d'} {ds} does q h j =
       command = c;
       rest = cs;
       list-is = refl;
-      does = subst (λ (x : Do). Does σ ms c x) first does;
+      does = subst (λ (x : Do). Joins σ ms c x) first does;
       then-does = cc;
       still = j;
     }
@@ -115,20 +116,20 @@ unfolding Joining joins
 next-of σ ms [] d ds j h = not-nil h
 next-of σ ms (perform ∷ cs) d ds j h = absurd j
 next-of σ ms (newTd p a ∷ cs) d ds j h = absurd j
-next-of σ ms (newEdge a b ∷ cs) d ds j h = next-by (does-link a b) h refl j
-next-of σ ms (transfer a ∷ cs) d ds j h = next-by (does-hand a) h refl j
-next-of σ ms (release a ∷ cs) d ds j h = next-by (does-free a) h refl j
+next-of σ ms (newEdge a b ∷ cs) d ds j h = next-by (joins-link a b) h refl j
+next-of σ ms (transfer a ∷ cs) d ds j h = next-by (joins-hand a) h refl j
+next-of σ ms (release a ∷ cs) d ds j h = next-by (joins-free a) h refl j
 
 -- a command that joins keeps no vertex in the row
-pub does-keeps : {σ : ℕ} {ms : List ℕ} {c : Command} {d : Do} (k : ℕ) → Does σ ms c d → Keeps c k
-does-keeps k (does-link a b) = tt
-does-keeps k (does-hand a) = tt
-does-keeps k (does-free a) = tt
+pub joins-keeps : {σ : ℕ} {ms : List ℕ} {c : Command} {d : Do} (k : ℕ) → Joins σ ms c d → Keeps c k
+joins-keeps k (joins-link a b) = tt
+joins-keeps k (joins-hand a) = tt
+joins-keeps k (joins-free a) = tt
 
-does-keeping : {σ : ℕ} {ms : List ℕ} {c : Command} {d : Do} (k x : ℕ) (w : Words) → Does σ ms c d → keeping c k x w ≡ w
-does-keeping k x w (does-link a b) = refl
-does-keeping k x w (does-hand a) = refl
-does-keeping k x w (does-free a) = refl
+joins-keeping : {σ : ℕ} {ms : List ℕ} {c : Command} {d : Do} (k x : ℕ) (w : Words) → Joins σ ms c d → keeping c k x w ≡ w
+joins-keeping k x w (joins-link a b) = refl
+joins-keeping k x w (joins-hand a) = refl
+joins-keeping k x w (joins-free a) = refl
 
 -- the kind's commands are the code's
 commands-are : {L : ℕ} {c : Code} (i : ItemOf L c) → commandsOf (kindOf c) ≡ rowOf i .commands
@@ -168,7 +169,7 @@ module _ {p : Code} {L : ℕ} (σ : ℕ) (w : Words) (k : Code) (φ : ℕ) (ms :
   -- by what is left
   shows-onward :
       (x : ℕ) (c : Command) (rest : List Command) (d : Do) (ds : List Do) → codeAt p (place k) ≡ some k → length (kids k) ≤ φ
-      → drop (suc φ) (commandsOf (kindOf k)) ≡ rest → suc φ + length rest ≡ length (commandsOf (kindOf k)) → Joining rest → Does σ ms c d
+      → drop (suc φ) (commandsOf (kindOf k)) ≡ rest → suc φ + length rest ≡ length (commandsOf (kindOf k)) → Joining rest → Joins σ ms c d
       → joins σ ms rest ≡ ds → Shows p L (advancing (rowOf i) (i .spot) c φ x w) σ (onward (goes L k) ds)
   unfolding joins
   shows-onward x c [] d ds at le left count j does h =
@@ -178,7 +179,7 @@ module _ {p : Code} {L : ℕ} (σ : ℕ) (w : Words) (k : Code) (φ : ℕ) (ms :
       all = ap (λ (l : List Command). length l) (commands-are i)
   shows-onward x c (c' ∷ rest) d ds at le left count j does h =
       rw (ne-eqb (suc φ) (length (rowOf i .commands)) (λ q. omega (arith, q, count, all)))
-      (rw (does-keeping (weight table.makes (take φ (rowOf i .commands))) x w does)
+      (rw (joins-keeping (weight table.makes (take φ (rowOf i .commands))) x w does)
       (shows-next ds at le (ap (λ (l : List Command). joins σ ms l) left ∙ h) (λ q. joins-some σ ms c' rest j (h ∙ q))))
     where
       all : length (commandsOf (kindOf k)) ≡ length (rowOf i .commands)
@@ -195,7 +196,7 @@ pub record Acting (p : Code) (L σ : ℕ) (w : Words) (d : Do) (ds : List Do) (t
   pub stands : codeAt p (place k) ≡ some k
   pub command : Command
   pub next-is : nth (rowOf item .commands) φ ≡ some command
-  pub does : Does σ ms command d
+  pub does : Joins σ ms command d
   pub shows : (x : ℕ) (w' : Words) → w' ≡ w → Shows p L (advancing (rowOf item) (item .spot) command φ x w') σ (onward to ds)
 
 -- an end byte has no commands

@@ -2,20 +2,17 @@
 -- with scope 1, all other words of the used rows are 0, and the edge from 0 to 1 is held.
 use Prim.Native.Nat.{ℕ, zero, suc, _+_, _-_, _*_, _<_, _≤_}
 use mathlib.Core.Path.{_≡_, refl, sym, _∙_, ap}
+use mathlib.Core.Bool.{true, false}
 use mathlib.Core.Logic.{inr, ⊎-elim}
-use mathlib.Core.Bool.{true}
 use mathlib.Core.List.{List}
 use native.Mathlib.Omega.{arith}
 use lib.ListN.{length, getD, length-set}
 use lib.Seq.{getD-set-same, getD-set-other}
-use borrow.Author.Tests.{eq-eqb, eqb-true}
-use Rattle.graph.specs.Tests.{either}
-use Rattle.graph.specs.Tables.{Lent, RELEASED, vertexWords, edgeWords, statusWord, placeWord, scopeWord, vertexRows, edgeRows}
-use Rattle.graph.specs.Tables.{vertexWord, status, setStatus, setVertexWord, clear}
+use Rattle.graph.specs.Tables.{Lent, RELEASED, vertexWords, edgeWords, statusWord, placeWord, scopeWord, vertexRows, edgeRows, vertexWord}
+use Rattle.graph.specs.Tables.{status, setStatus, setVertexWord, clear}
 use Rattle.graph.specs.Sound.{sound}
 use Rattle.graph.specs.Paths.{holds}
 use Rattle.graph.specs.Commands.{appended}
-use Rattle.graph.proofs.TestLaws.{both-true, both-left, both-right}
 use Rattle.graph.proofs.TableLaws.{vertex-in, length-clear, clear-in, length-appended}
 use Rattle.graph.proofs.EdgeLaws.{Is, is-same, holds-none, appended-is}
 use Rattle.graph.proofs.SoundLaws.{fits-sound}
@@ -30,21 +27,17 @@ use Rattle.program.proofs.Exactness.{reading-sound}
 use Rattle.machine.specs.Answers.{accepted}
 use Rattle.machine.specs.Loading.{placed, loadedTables, load}
 use Rattle.machine.specs.Demand2.{Lends}
-use Rattle.machine.proofs.Ghost.{ready}
-use Rattle.machine.proofs.Follows.{Words, row, wordsOf, Shows, shows-ready, Follows}
-use Rattle.machine.proofs.Beginning.{beginning}
 use Rattle.machine.proofs.LoadLaws.{load-accepted}
+use Rattle.machine.proofs.Ghost.{ready}
+use Rattle.machine.proofs.RoadLaws.{linked-new}
+use Rattle.machine.proofs.Beginning.{beginning, beginning-edge}
+use Rattle.machine.proofs.Follows.{Words, row, wordsOf, Shows, shows-ready, Follows, statusIn}
+use Rattle.machine.proofs.RowLaws.{same-row}
 
 -- the row of a vertex in a table
-abbrev rowOf : List ℕ → ℕ → Words
-rowOf l k =
+abbrev rowIn : List ℕ → ℕ → Words
+rowIn l k =
     row (vertexWord l k 0) (vertexWord l k 1) (vertexWord l k 2) (vertexWord l k 3) (vertexWord l k 4) (vertexWord l k 5) (vertexWord l k 6)
-
--- told by its words
-row-is :
-    (l : List ℕ) (k : ℕ) {st pl sc ph a b c : ℕ} → vertexWord l k 0 ≡ st → vertexWord l k 1 ≡ pl → vertexWord l k 2 ≡ sc
-    → vertexWord l k 3 ≡ ph → vertexWord l k 4 ≡ a → vertexWord l k 5 ≡ b → vertexWord l k 6 ≡ c → rowOf l k ≡ row st pl sc ph a b c
-row-is l k p0 p1 p2 p3 p4 p5 p6 = λ i. row (p0 i) (p1 i) (p2 i) (p3 i) (p4 i) (p5 i) (p6 i)
 
 -- a vertex as loading sets it, in a table where its row is cleared
 module _ (l : List ℕ) (k x : ℕ) where
@@ -81,9 +74,9 @@ module _ (l : List ℕ) (k x : ℕ) where
       (simp length-set (vertex-in l k scopeWord lt (omega arith)))
 
   -- its whole row
-  placed-row : k < vertexRows l → ((w : ℕ) → w < vertexWords → vertexWord l k w ≡ 0) → rowOf (placed l k x) k ≡ row RELEASED x 1 0 0 0 0
+  placed-row : k < vertexRows l → ((w : ℕ) → w < vertexWords → vertexWord l k w ≡ 0) → rowIn (placed l k x) k ≡ row RELEASED x 1 0 0 0 0
   placed-row lt z =
-      row-is (placed l k x) k (placed-status lt) (placed-place lt) (placed-scope lt) (rest 3 (omega arith) (omega arith))
+      same-row (placed-status lt) (placed-place lt) (placed-scope lt) (rest 3 (omega arith) (omega arith))
       (rest 4 (omega arith) (omega arith)) (rest 5 (omega arith) (omega arith)) (rest 6 (omega arith) (omega arith))
     where
       rest : (w : ℕ) → 2 < w → w < vertexWords → vertexWord (placed l k x) k w ≡ 0
@@ -93,9 +86,9 @@ module _ (l : List ℕ) (k x : ℕ) where
   placed-word : (u w : ℕ) → w < vertexWords → (u ≡ k → ⊥) → vertexWord (placed l k x) u w ≡ vertexWord l u w
   placed-word u w lw ne = placed-out (vertexWords * u + w) (λ q. ne (omega arith)) (λ q. ne (omega arith)) (λ q. ne (omega arith))
 
-  placed-other : (u : ℕ) → (u ≡ k → ⊥) → rowOf (placed l k x) u ≡ rowOf l u
+  placed-other : (u : ℕ) → (u ≡ k → ⊥) → rowIn (placed l k x) u ≡ rowIn l u
   placed-other u ne =
-      row-is (placed l k x) u (at 0 (omega arith)) (at 1 (omega arith)) (at 2 (omega arith)) (at 3 (omega arith)) (at 4 (omega arith))
+      same-row (at 0 (omega arith)) (at 1 (omega arith)) (at 2 (omega arith)) (at 3 (omega arith)) (at 4 (omega arith))
       (at 5 (omega arith)) (at 6 (omega arith))
     where
       at : (w : ℕ) → w < vertexWords → vertexWord (placed l k x) u w ≡ vertexWord l u w
@@ -116,12 +109,12 @@ loadedRows l L = placed (placed (blank l) 0 0) 1 L
 length-loaded : (l : List ℕ) (L : ℕ) → length (loadedRows l L) ≡ length l
 length-loaded l L = length-placed (placed (blank l) 0 0) 1 L ∙ length-placed (blank l) 0 0 ∙ length-clear l 0 (vertexWords * vertexRows l)
 
-first-row : (l : List ℕ) (L : ℕ) → 2 ≤ vertexRows l → rowOf (loadedRows l L) 0 ≡ row RELEASED 0 1 0 0 0 0
+first-row : (l : List ℕ) (L : ℕ) → 2 ≤ vertexRows l → rowIn (loadedRows l L) 0 ≡ row RELEASED 0 1 0 0 0 0
 first-row l L le =
     placed-other (placed (blank l) 0 0) 1 L 0 (omega arith)
     ∙ placed-row (blank l) 0 0 (rw length-clear (omega arith)) (λ w lw. blank-word l 0 w (omega arith) lw)
 
-second-row : (l : List ℕ) (L : ℕ) → 2 ≤ vertexRows l → rowOf (loadedRows l L) 1 ≡ row RELEASED L 1 0 0 0 0
+second-row : (l : List ℕ) (L : ℕ) → 2 ≤ vertexRows l → rowIn (loadedRows l L) 1 ≡ row RELEASED L 1 0 0 0 0
 second-row l L le =
     placed-row (placed (blank l) 0 0) 1 L (rw (length-placed (blank l) 0 0, length-clear) (omega arith))
     (λ w lw. placed-word (blank l) 0 0 1 w lw (omega arith) ∙ blank-word l 1 w (omega arith) lw)
@@ -135,11 +128,8 @@ loaded-edge e n lt a b =
 
 -- and so does the ghost machine
 begin-edge : (p : Code) (L : ℕ) → Is (beginning p L .edge) (λ a b. (a ≡ 0) × (b ≡ 1))
-unfolding beginning either
-begin-edge p L a b = (
-  λ h. (eqb-true a 0 (both-left _ _ h), eqb-true b 1 (both-right _ _ h)),
-  λ q. both-true (eq-eqb a 0 (q .0)) (eq-eqb b 1 (q .1)),
-)
+unfolding beginning
+begin-edge p L a b = (beginning-edge p L a b, λ q. rw (q .0, q .1) (linked-new (λ a b. false) 0 1))
 
 -- a program needs two vertex rows and one edge row
 two-rows : (t : Body) (s : Lent) → Lends t s → 2 ≤ vertexRows (s .vertices)
@@ -149,10 +139,6 @@ two-rows t s h = omega (arith, h .vertex-rows)
 one-edge-row : (t : Body) (s : Lent) → Lends t s → 0 < edgeRows (s .edges)
 unfolding needs.edgeRows
 one-edge-row t s h = omega (arith, h .edge-rows)
-
--- the status in a row
-statusOf : Words → ℕ
-statusOf (row st pl sc ph a b c) = st
 
 module _ (bytes : List ℕ) (s : Lent) (t : Body) (h : Lends t s) where
   -- the offset of the last byte
@@ -181,9 +167,9 @@ module _ (bytes : List ℕ) (s : Lent) (t : Body) (h : Lends t s) where
   rows-follow (suc (suc v)) lt = absurd (omega arith)
 
   statuses-follow : (k : ℕ) → k < 2 → status (loadedTables bytes s .vertices) k ≡ RELEASED
-  unfolding loadedTables statusOf
-  statuses-follow zero lt = ap statusOf (first-row (s .vertices) L (two-rows t s h))
-  statuses-follow (suc zero) lt = ap statusOf (second-row (s .vertices) L (two-rows t s h))
+  unfolding loadedTables
+  statuses-follow zero lt = ap statusIn (first-row (s .vertices) L (two-rows t s h))
+  statuses-follow (suc zero) lt = ap statusIn (second-row (s .vertices) L (two-rows t s h))
   statuses-follow (suc (suc v)) lt = absurd (omega arith)
 
   sound-follows : sound (loadedTables bytes s) ≡ true

@@ -21,17 +21,18 @@ use Rattle.machine.specs.Answers.{Outcome, oneStep}
 use Rattle.machine.specs.Stepping.{advanced, calls, doCommand}
 use Rattle.machine.proofs.Ghost.{Do, Control, busy, State, put, resolved, onward, done, withControl, grown, Event, Move}
 use Rattle.machine.proofs.GhostLaws.{put-other}
-use Rattle.machine.proofs.Follows.{Words, row, wordsOf, Shows, shows-busy, Follows, Answers, edgeEvent, Tallied, Stepped, moved}
+use Rattle.machine.proofs.Weights.{links}
+use Rattle.machine.proofs.Follows.{Words, row, wordsOf, Shows, shows-busy, Follows, Answers, Tallied, Followed, moved}
 use Rattle.machine.proofs.RowLaws.{Rowed, advancing, rowed-advanced, new-others}
 use Rattle.machine.proofs.FollowLaws.{row-follows, count-follows}
 use Rattle.machine.proofs.CommandLaws.{says, called}
 use Rattle.machine.proofs.DoneLaws.{new-done, asked, Joined}
 use Rattle.machine.proofs.StepLaws.{rowOf, named-is, job-item}
-use Rattle.machine.proofs.ItemLaws.{Does, does-link, does-hand, does-free, does-keeps, Acting, busyRow, Making, job-row}
+use Rattle.machine.proofs.ItemLaws.{Joins, joins-link, joins-hand, joins-free, joins-keeps, Acting, busyRow, Making, job-row}
 
 -- the tally after a command and what a step does to its row besides
 pub tallied :
-    {e : Event} {s mid s' : Lent} {v : ℕ} {f : Words → Words} → mid .steps ≡ s .steps → mid .held ≤ s .held + edgeEvent e
+    {e : Event} {s mid s' : Lent} {v : ℕ} {f : Words → Words} → mid .steps ≡ s .steps → mid .held ≤ s .held + links e
     → length (mid .vertices) ≡ length (s .vertices) → length (mid .edges) ≡ length (s .edges) → Rowed mid s' v f
     → Tallied e s (oneStep s')
 tallied q le lv le' R =
@@ -45,19 +46,19 @@ tallied q le lv le' R =
 -- the same where the command is one of the calculus
 called-tally :
     {e : Event} (c : single.Command) (s : Lent) {s' : Lent} {v : ℕ} {f : Words → Words} → sound s ≡ true
-    → leaves c s .held ≤ s .held + edgeEvent e → Rowed (leaves c s) s' v f → Tallied e s (oneStep s')
+    → leaves c s .held ≤ s .held + links e → Rowed (leaves c s) s' v f → Tallied e s (oneStep s')
 called-tally c s known le R =
     tallied (steps-kept-of c s) le (vertex-words-of c s .0) (edge-words-of c s (sound-fits s known .edges-fit) .0) R
 
 -- the command of the calculus that a joining command of an item is, with its names filled in
-pub does-calls :
+pub joins-calls :
     (s : Lent) (v n : ℕ) (spot : Spot → ℕ) (on : Lent → Lent) {st pl σ ph : ℕ} (ms : List ℕ) {c : Command} {d : Do}
-    → wordsOf s v ≡ row st pl σ ph (getD ms 0 0) (getD ms 1 0) (getD ms 2 0) → Does σ ms c d
+    → wordsOf s v ≡ row st pl σ ph (getD ms 0 0) (getD ms 1 0) (getD ms 2 0) → Joins σ ms c d
     → doCommand s v n spot on c ≡ calls (asked v d) s on
 unfolding doCommand asked
-does-calls s v n spot on ms h (does-link a b) = rw (named-is s v ms h a, named-is s v ms h b) refl
-does-calls s v n spot on ms h (does-hand a) = rw (named-is s v ms h a) refl
-does-calls s v n spot on ms h (does-free a) = rw (named-is s v ms h a) refl
+joins-calls s v n spot on ms h (joins-link a b) = rw (named-is s v ms h a, named-is s v ms h b) refl
+joins-calls s v n spot on ms h (joins-hand a) = rw (named-is s v ms h a) refl
+joins-calls s v n spot on ms h (joins-free a) = rw (named-is s v ms h a) refl
 
 -- and that of a newTd
 pub new-calls :
@@ -75,10 +76,10 @@ row-within s known c v lt = rw (vertex-words-of c s .0) (omega (arith, sound-fit
 pub by-command :
     {p : Code} {L : ℕ} {s : Lent} {S : State} {v v' : ℕ} {o : Outcome} {f : Words → Words} (c : single.Command) (on : Lent → Lent)
     (e : Event) (S' : State) → Follows p L s S → o ≡ calls c s on → Taken c s → Move L S v e S' → Follows p L (on (leaves c s)) S'
-    → Answers S v e (says c s) → leaves c s .held ≤ s .held + edgeEvent e → Rowed (leaves c s) (on (leaves c s)) v' f
-    → Stepped p L s S v o
+    → Answers S v e (says c s) → leaves c s .held ≤ s .held + links e → Rowed (leaves c s) (on (leaves c s)) v' f
+    → Followed p L s S v o
 by-command {p} {L} {s} {S} {v} c on e S' F q taken move follows answers le R =
-    subst (λ (o : Outcome). Stepped p L s S v o) (sym (q ∙ called c s on taken))
+    subst (λ (o : Outcome). Followed p L s S v o) (sym (q ∙ called c s on taken))
     (moved e S' move (count-follows follows) answers (called-tally c s (F .sound-is) le R))
 
 module _ {p : Code} {L : ℕ} {s : Lent} {S : State} (F : Follows p L s S) (v : ℕ) where
@@ -90,7 +91,7 @@ module _ {p : Code} {L : ℕ} {s : Lent} {S : State} (F : Follows p L s S) (v : 
       (withControl (done S v d) (put (done S v d .control) v (onward c ds)))
   acts-follows c d ds a j x lt =
       row-follows (done S v d) (onward c ds) (j .follows)
-      (rowed-advanced (rowOf (a .item)) (a .item .spot) (a .command) v (a .φ) x (leaves (asked v d) s) lt (does-keeps _ (a .does)))
+      (rowed-advanced (rowOf (a .item)) (a .item .spot) (a .command) v (a .φ) x (leaves (asked v d) s) lt (joins-keeps _ (a .does)))
       (rw (j .scope-same) (a .shows x (wordsOf (leaves (asked v d) s) v) (j .row-same)))
 
   -- the job's step

@@ -2,7 +2,7 @@
 -- for the job at p. `Pre c p q`: inside c the job at p comes ahead of the job at q.
 use Prim.Native.Nat.{ℕ}
 use mathlib.Core.Path.{_≡_}
-use mathlib.Core.Logic.{_⊎_, _↔_}
+use mathlib.Core.Logic.{_⊎_}
 use mathlib.Core.Option.{Option, none, some}
 use Rattle.program.specs.Located.{Code, end-at, job-at, async-at, finish-at, fork-at}
 use Rattle.machine.proofs.Ghost.{Control, draft, fresh, ready, busy, joining, over, State}

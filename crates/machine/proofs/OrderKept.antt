@@ -3,61 +3,33 @@
 --     orders-beginning   Orders p (beginning p L)
 --     orders-kept        Orders p S → Move L S v e S' → Orders p S', where p is laid and S has its invariants
 use Prim.Native.Nat.{ℕ}
-use mathlib.Core.Path.{_≡_, refl, sym, _∙_, ap, subst}
-use mathlib.Core.Bool.{true, false}
+use mathlib.Core.Path.{_≡_, refl, sym, _∙_, subst}
 use mathlib.Core.Logic.{inr, ⊎-elim}
 use mathlib.Core.List.{[], _∷_, _++_}
-use mathlib.Core.Option.{some, Option·some-injective, Option·none-ne-some}
+use mathlib.Core.Option.{some}
 use native.Mathlib.Omega.{arith}
-use Rattle.graph.proofs.TestLaws.{equal?, true-false}
-use Rattle.program.specs.Located.{Code, end-at}
+use Rattle.program.specs.Located.{Code}
 use Rattle.program.proofs.LocatedLaws.{Laid}
-use Rattle.machine.proofs.Ghost.{link, hand, free, ready, over, State, put, done, Event, Move, begins, performs, stops, makes}
-use Rattle.machine.proofs.Ghost.{splits, acts}
-use Rattle.machine.proofs.Invariant.{tasks, tasksOf, Settled, held, given, planned, Shape, Roads, Coded}
-use Rattle.machine.proofs.GhostLaws.{put-other, splits-at}
-use Rattle.machine.proofs.RoadLaws.{put-all, in-empty, linked-cases}
+use Rattle.machine.proofs.Ghost.{link, hand, free, State, done, Event, Move, begins, performs, stops, makes, splits, acts}
+use Rattle.machine.proofs.Invariant.{Shape, Roads, Coded}
+use Rattle.machine.proofs.GhostLaws.{splits-at}
 use Rattle.machine.proofs.SettledLaws.{acts-did, link-back, link-on, hand-back, hand-on, free-back, free-on}
 use Rattle.machine.proofs.RoadsKept.{roads-kept}
-use Rattle.machine.proofs.Beginning.{beginning}
-use Rattle.machine.proofs.BeginningRoads.{roads-beginning}
+use Rattle.machine.proofs.Beginning.{beginning, beginning-code}
+use Rattle.machine.proofs.BeginningRoads.{roads-beginning, beginning-settled}
 use Rattle.machine.proofs.Order.{Job, Pre, holds, Held, Orders}
-use Rattle.machine.proofs.WaitLaws.{end-job, waits-led}
+use Rattle.machine.proofs.WaitLaws.{end-job, waits-led, holds-code}
 use Rattle.machine.proofs.OrderMoves.{begins-orders, performs-orders, stops-orders, makes-orders, acts-orders}
 use Rattle.machine.proofs.OrderSplit.{splits-orders}
 
--- after loading, no item is under way
-beginning-idle : (p : Code) (L u : ℕ) → tasksOf (beginning p L) u ≡ []
-unfolding beginning tasks
-beginning-idle p L = put-all (λ x. tasks x ≡ []) _ 0 (ready p) (put-all (λ x. tasks x ≡ []) _ 1 (ready (end-at L)) (λ u. refl) refl) refl
-
--- nothing leads to vertex 0
-edge-first : (p : Code) (L x : ℕ) → beginning p L .edge x 0 ≡ true → ⊥
-unfolding beginning
-edge-first p L x e = linked-cases (λ a b. false) 0 1 x 0 e (λ z. true-false z refl) (λ q r. absurd (omega arith))
-
-into-first : (p : Code) (L x : ℕ) → Settled (beginning p L) x 0 → ⊥
-into-first p L x (held e n) = edge-first p L x e
-into-first p L x (given t i e) = edge-first p L t e
-into-first p L x (planned t i) = in-empty (beginning-idle p L t) i
-
--- and it alone holds jobs, those of the program
+-- after loading vertex 0 alone holds jobs, those of the program
 holder : (p : Code) (L u q : ℕ) {c : Code} → holds (beginning p L .control u) ≡ some c → Job c q → (u ≡ 0) × (p ≡ c)
-unfolding beginning holds
-holder p L u q {c} h j =
-    ⊎-elim
-    (λ e. (e, Option·some-injective p c (subst (λ (z : ℕ). holds (beginning p L .control z) ≡ some c) e h)))
-    (λ n.
-    ⊎-elim
-    (λ e.
-    let at : end-at L ≡ c = Option·some-injective (end-at L) c (subst (λ (z : ℕ). holds (beginning p L .control z) ≡ some c) e h) in
-    absurd (end-job L q (subst (λ (z : Code). Job z q) (sym at) j)))
-    (λ n'.
-    let at = put-other (put (λ u. over) 1 (ready (end-at L))) 0 (ready p) u n ∙ put-other (λ u. over) 1 (ready (end-at L)) u n' in
-    absurd (Option·none-ne-some c (sym (ap holds at) ∙ h)))
-    (equal? u 1))
-    (equal? u 0)
+holder p L u q h j =
+    beginning-code p L u (holds-code (beginning p L .control u) h .0)
+    (λ e e'. (e, e'))
+    (λ e e'. absurd (end-job L q (subst (λ (z : Code). Job z q) (sym e') j)))
 
+-- and nothing leads to it
 pub orders-beginning : (p : Code) (L : ℕ) → Orders p (beginning p L)
 orders-beginning p L =
     record {
@@ -69,7 +41,7 @@ orders-beginning p L =
           ⊎-elim
           (λ w.
           let (y, s) = waits-led (roads-beginning p L) w in
-          absurd (into-first p L y (subst (λ (z : ℕ). Settled (beginning p L) y z) e s)))
+          absurd (omega (arith, e, beginning-settled p L s .1)))
           (λ f. subst (λ (z : Code). Pre z x q) (sym e') f)
           a;
     }

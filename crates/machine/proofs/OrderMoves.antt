@@ -10,17 +10,17 @@ use native.Mathlib.Omega.{arith}
 use Rattle.graph.proofs.TestLaws.{equal?}
 use Rattle.program.specs.Located.{Code, end-at, job-at}
 use Rattle.program.proofs.LocatedLaws.{Laid}
-use Rattle.machine.proofs.Ghost.{Do, draft, ready, busy, joining, over, State, put, onward, done}
-use Rattle.machine.proofs.Ghost.{withControl, withEdges, grown, dropped}
+use Rattle.machine.proofs.Ghost.{Do, draft, ready, busy, joining, over, State, put, onward, done, withControl, withEdges, grown}
+use Rattle.machine.proofs.Ghost.{dropped}
 use Rattle.machine.proofs.Invariant.{tasks, Settled, Way, Shape, Roads, Coded}
-use Rattle.machine.proofs.GhostLaws.{put-same, put-other}
-use Rattle.machine.proofs.RoadLaws.{put-keeps, puts-keep, busy-waits}
+use Rattle.machine.proofs.GhostLaws.{put-same, put-other, put-keeps, puts-keep}
+use Rattle.machine.proofs.RoadLaws.{busy-waits}
 use Rattle.machine.proofs.SettledLaws.{acts-keeps, settled-same, stop-back, stop-on}
 use Rattle.machine.proofs.Ways.{way-map, way-past, nothing-to}
 use Rattle.machine.proofs.Order.{Job, InS, Pre, holds, Held, held, Waits, for-way, for-scope, for-scopes-way, Orders}
 use Rattle.machine.proofs.OrderLaws.{ins-job}
-use Rattle.machine.proofs.WaitLaws.{end-job, job-behind, job-own, holds-one, holds-onward, holds-freed, held-laid}
-use Rattle.machine.proofs.WaitLaws.{scope-led, busy-holds}
+use Rattle.machine.proofs.WaitLaws.{end-job, job-behind, job-own, holds-one, holds-onward, holds-freed, held-laid, scope-led}
+use Rattle.machine.proofs.WaitLaws.{busy-holds}
 
 -- u, which holds c in S, holds as much of the job at p in S', and leads where it led
 pub record Carried (S S' : State) (u : ℕ) (c : Code) (p : ℕ) : Type 0 where
@@ -169,9 +169,10 @@ makes-orders {S = S} {v = v} {c = c} {ms = ms} k ms' σ ρ φ sh os q =
     task = puts-keep tasks (S .control) (S .count) v (draft k) (busy c ms') (sym (ap tasks new)) (sym (ap tasks q))
 
 -- a vertex carried over as it is
-carried-as : {S S' : State} {u : ℕ} {c : Code} (p : ℕ) → holds (S' .control u) ≡ some c → S' .scope u ≡ S .scope u → Job c p
-    → ((w : ℕ) → Way (Settled S) u w → Way (Settled S') u w)
-    → ((w : ℕ) → Way (Settled S) (S .scope u) w → Way (Settled S') (S .scope u) w) → Carried S S' u c p
+carried-as :
+    {S S' : State} {u : ℕ} {c : Code} (p : ℕ) → holds (S' .control u) ≡ some c → S' .scope u ≡ S .scope u → Job c p
+    → ((w : ℕ) → Way (Settled S) u w → Way (Settled S') u w) → ((w : ℕ) → Way (Settled S) (S .scope u) w → Way (Settled S') (S .scope u) w)
+    → Carried S S' u c p
 carried-as {c = c} p h e j f g =
     record { code = c; is-held = h; scope-is = e; jobs = j; sums = λ i. i; way = f; scope-way = g }
 

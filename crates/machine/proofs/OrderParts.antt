@@ -24,9 +24,9 @@ pub data Some (Kid : ℕ → Code → Type 0) (P : Code → Type 0) : Type 0 whe
   of : (x : ℕ) (b : Code) → Kid x b → P b → Some Kid P
 
 -- what h waits for of a kid with the code b, which leads to t and has the scope s
-pub data Ahead (h t s : ℕ) (b : Code) (p : ℕ) : Type 0 where
-  led : t ≡ h → InS b p → Ahead h t s b p
-  scoped : s ≡ h → Job b p → Ahead h t s b p
+pub data Awaited (h t s : ℕ) (b : Code) (p : ℕ) : Type 0 where
+  led : t ≡ h → InS b p → Awaited h t s b p
+  scoped : s ≡ h → Job b p → Awaited h t s b p
 
 -- the code c in parts: the rest r, and the kids' codes, of which A is ahead of r
 pub record Pieces (c r : Code) (Kid : ℕ → Code → Type 0) (A : Code → ℕ → Type 0) : Type 0 where
@@ -227,7 +227,7 @@ module _ {S S' : State} {v h t s : ℕ} {c r : Code} {Kid : ℕ → Code → Typ
 
   -- what is waited for of v is waited for of its parts: by its scope,
   scope-on :
-      Roads S → Parts S S' v c h r Kid t s → Pieces c r Kid (Ahead h t s) → (w p : ℕ) → (S .scope v ≡ w) ⊎ Way (Settled S') (S .scope v) w
+      Roads S → Parts S S' v c h r Kid t s → Pieces c r Kid (Awaited h t s) → (w p : ℕ) → (S .scope v ≡ w) ⊎ Way (Settled S') (S .scope v) w
       → Job c p → Waits S' w p
   scope-on rs D E w p reach j =
       ⊎-elim
@@ -247,15 +247,15 @@ module _ {S S' : State} {v h t s : ℕ} {c r : Code} {Kid : ℕ → Code → Typ
 
   -- by its own way,
   way-part :
-      Parts S S' v c h r Kid t s → Pieces c r Kid (Ahead h t s) → (w p : ℕ) → Way (Settled S') h w → InS c p → Waits S' w p
+      Parts S S' v c h r Kid t s → Pieces c r Kid (Awaited h t s) → (w p : ℕ) → Way (Settled S') h w → InS c p → Waits S' w p
   way-part D E w p way i = ⊎-elim (λ i. for-way h r (D .rest) way i) kid-part (E .sums p i)
     where
-      kid-part : Some Kid (λ b. Ahead h t s b p) → Waits S' w p
+      kid-part : Some Kid (λ b. Awaited h t s b p) → Waits S' w p
       kid-part (of x b k (led e i)) = for-way x b (D .kid x b k) (more (D .edges .kid-on x b k) (way-from e way)) i
       kid-part (of x b k (scoped e j)) = waits-known x w p h b (D .kid x b k) (D .kid-scope x b k ∙ e) (inr way) j
 
   own-on :
-      Roads S → Parts S S' v c h r Kid t s → Pieces c r Kid (Ahead h t s) → (w p : ℕ) → Share S v c w p → Waits S' w p
+      Roads S → Parts S S' v c h r Kid t s → Pieces c r Kid (Awaited h t s) → (w p : ℕ) → Share S v c w p → Waits S' w p
   own-on rs D E w p (by-way x i) = way-part D E w p (way-rest w rs D x) i
   own-on rs D E w p (by-scope e j) = scope-on rs D E w p (inl e) j
   own-on rs D E w p (by-scopes-way x j) =
@@ -263,7 +263,7 @@ module _ {S S' : State} {v h t s : ℕ} {c r : Code} {Kid : ℕ → Code → Typ
 
   -- so all that was waited for still is
   waits-on :
-      Roads S → Parts S S' v c h r Kid t s → Pieces c r Kid (Ahead h t s) → (w p : ℕ) → Waits S w p → Waits S' w p
+      Roads S → Parts S S' v c h r Kid t s → Pieces c r Kid (Awaited h t s) → (w p : ℕ) → Waits S w p → Waits S' w p
   waits-on rs D E w p waited =
       waits-share waited
       (λ u k e a.
@@ -285,14 +285,14 @@ module _ {S S' : State} {v h t s : ℕ} {c r : Code} {Kid : ℕ → Code → Typ
 
   -- of the rest,
   rest-back :
-      Roads S → Parts S S' v c h r Kid t s → Pieces c r Kid (Ahead h t s) → (w p : ℕ) → Share S' h r w p → Waits S w p
+      Roads S → Parts S S' v c h r Kid t s → Pieces c r Kid (Awaited h t s) → (w p : ℕ) → Share S' h r w p → Waits S w p
   rest-back rs D E w p (by-way x i) = for-way v c (D .self) (rest-way w D x) (E .sum-rest p i)
   rest-back rs D E w p (by-scope e j) = scope-back rs D w p (S' .scope h) (D .rest-scope) (inl e) (E .job-rest p j)
   rest-back rs D E w p (by-scopes-way x j) = scope-back rs D w p (S' .scope h) (D .rest-scope) (inr x) (E .job-rest p j)
 
   -- of a kid,
   kid-back :
-      Roads S → Parts S S' v c h r Kid t s → Pieces c r Kid (Ahead h t s) → (w p x : ℕ) (b : Code) → (w ≡ h → ⊥) → Kid x b
+      Roads S → Parts S S' v c h r Kid t s → Pieces c r Kid (Awaited h t s) → (w p x : ℕ) (b : Code) → (w ≡ h → ⊥) → Kid x b
       → Share S' x b w p → Waits S w p
   kid-back rs D E w p x b n k (by-way y i) =
       ⊎-elim
@@ -322,7 +322,7 @@ module _ {S S' : State} {v h t s : ℕ} {c r : Code} {Kid : ℕ → Code → Typ
 
   -- so nothing else is waited for
   waits-back :
-      Roads S → Parts S S' v c h r Kid t s → Pieces c r Kid (Ahead h t s) → (w p : ℕ) → (w ≡ h → ⊥) → Waits S' w p → Waits S w p
+      Roads S → Parts S S' v c h r Kid t s → Pieces c r Kid (Awaited h t s) → (w p : ℕ) → (w ≡ h → ⊥) → Waits S' w p → Waits S w p
   waits-back rs D E w p n waited = waits-share waited (λ u k e a. go u k a (D .origin u p k e (share-job a)))
     where
       go : (u : ℕ) (k : Code) → Share S' u k w p → Origin S S' v h r Kid u k → Waits S w p
@@ -332,21 +332,21 @@ module _ {S S' : State} {v h t s : ℕ} {c r : Code} {Kid : ℕ → Code → Typ
       go u k a (a-kid i) = kid-back rs D E w p u k n i a
 
   -- The rest's vertex waits for what the kids have ahead of it,
-  kids-ahead : Parts S S' v c h r Kid t s → (p : ℕ) → Some Kid (λ b. Ahead h t s b p) → Waits S' h p
+  kids-ahead : Parts S S' v c h r Kid t s → (p : ℕ) → Some Kid (λ b. Awaited h t s b p) → Waits S' h p
   kids-ahead D p (of x b k (led e i)) =
       for-way x b (D .kid x b k) (one (subst (λ (z : ℕ). Settled S' x z) e (D .edges .kid-on x b k))) i
   kids-ahead D p (of x b k (scoped e j)) = for-scope x b (D .kid x b k) (D .kid-scope x b k ∙ e) j
 
   -- and for nothing else: whoever has it for a scope is a kid, and so is the last on a way to it
   ahead-kids :
-      Roads S → Roads S' → Parts S S' v c h r Kid t s → Pieces c r Kid (Ahead h t s) → (p : ℕ) → Waits S' h p
-      → Some Kid (λ b. Ahead h t s b p)
+      Roads S → Roads S' → Parts S S' v c h r Kid t s → Pieces c r Kid (Awaited h t s) → (p : ℕ) → Waits S' h p
+      → Some Kid (λ b. Awaited h t s b p)
   ahead-kids rs rs' D E p waited = waits-share waited go
     where
       scope-new : (u : ℕ) (k : Code) → holds (S .control u) ≡ some k → Job k p → S .scope u ≡ h → ⊥
       scope-new u k e j q = let (x, l) = scope-led u p rs e j in D .edges .rest-to x (subst (λ (z : ℕ). Settled S x z) q l)
 
-      from : (u : ℕ) (k : Code) → S' .scope u ≡ h → Job k p → Origin S S' v h r Kid u k → Some Kid (λ b. Ahead h t s b p)
+      from : (u : ℕ) (k : Code) → S' .scope u ≡ h → Job k p → Origin S S' v h r Kid u k → Some Kid (λ b. Awaited h t s b p)
       from u k q j (stood nv e e') = absurd (scope-new u k e j (sym e' ∙ q))
       from u k q j (the-rest q' e) =
           absurd
@@ -354,7 +354,7 @@ module _ {S S' : State} {v h t s : ℕ} {c r : Code} {Kid : ℕ → Code → Typ
           (sym (D .rest-scope) ∙ ap (S' .scope) (sym q') ∙ q))
       from u k q j (a-kid i) = of u k i (scoped (sym (D .kid-scope u k i) ∙ q) j)
 
-      go : (u : ℕ) (k : Code) → holds (S' .control u) ≡ some k → Share S' u k h p → Some Kid (λ b. Ahead h t s b p)
+      go : (u : ℕ) (k : Code) → holds (S' .control u) ≡ some k → Share S' u k h p → Some Kid (λ b. Awaited h t s b p)
       go u k e (by-way y i) =
           let (x, l, before) = way-last y in
           let (b, i', q) = to-rest x D l in
@@ -377,7 +377,7 @@ module _ {S S' : State} {v h t s : ℕ} {c r : Code} {Kid : ℕ → Code → Typ
 
   -- a job that is held was held, by the same vertex or by v
   held-back :
-      {u p : ℕ} → Parts S S' v c h r Kid t s → Pieces c r Kid (Ahead h t s) → Held S' u p → (x : ℕ) × Held S x p
+      {u p : ℕ} → Parts S S' v c h r Kid t s → Pieces c r Kid (Awaited h t s) → Held S' u p → (x : ℕ) × Held S x p
   held-back {u} {p} D E (held k e j) = go (D .origin u p k e j)
     where
       go : Origin S S' v h r Kid u k → (x : ℕ) × Held S x p
@@ -387,7 +387,7 @@ module _ {S S' : State} {v h t s : ℕ} {c r : Code} {Kid : ℕ → Code → Typ
 
   -- no job is held by two
   parts-alone :
-      {m : Code} → Orders m S → Parts S S' v c h r Kid t s → Pieces c r Kid (Ahead h t s) → (u w p : ℕ) → Held S' u p → Held S' w p
+      {m : Code} → Orders m S → Parts S S' v c h r Kid t s → Pieces c r Kid (Awaited h t s) → (u w p : ℕ) → Held S' u p → Held S' w p
       → u ≡ w
   parts-alone os D E u w p (held k e j) (held d e' j') = go (D .origin u p k e j) (D .origin w p d e' j')
     where
@@ -409,7 +409,7 @@ module _ {S S' : State} {v h t s : ℕ} {c r : Code} {Kid : ℕ → Code → Typ
 
   -- The order is kept.
   pub parts-orders :
-      {m : Code} → Roads S → Roads S' → Parts S S' v c h r Kid t s → Pieces c r Kid (Ahead h t s) → Orders m S → Orders m S'
+      {m : Code} → Roads S → Roads S' → Parts S S' v c h r Kid t s → Pieces c r Kid (Awaited h t s) → Orders m S → Orders m S'
   parts-orders {m} rs rs' D E os =
       record {
         alone = parts-alone os D E;
@@ -468,7 +468,7 @@ module _ {S S' : State} {v h t s : ℕ} {c r : Code} {Kid : ℕ → Code → Typ
           here : Job r q
           here = subst (λ (z : Code). Job z q) e' j
 
-          first : Some Kid (λ b. Ahead h t s b p) → Pre c p q
+          first : Some Kid (λ b. Awaited h t s b p) → Pre c p q
           first (of y b n f) = E .pre-first y p q b n f here
       each-at w q k j x p i a (a-kid n) =
           os .each v q c (D .self) (E .job-kid w q k n j) x p i

@@ -9,7 +9,7 @@ use Rattle.program.specs.Located.{Code, async-at, finish-at, fork-at}
 use Rattle.program.proofs.LocatedLaws.{Laid}
 use Rattle.machine.proofs.Order.{Job, InS, Pre}
 use Rattle.machine.proofs.OrderLaws.{ins-job, async-before, finish-before, fork-before, left-before, right-before}
-use Rattle.machine.proofs.OrderParts.{of, Ahead, led, scoped, Pieces}
+use Rattle.machine.proofs.OrderParts.{of, Awaited, led, scoped, Pieces}
 
 -- one kid, and two
 pub data One (n : ℕ) (b : Code) : ℕ → Code → Type 0 where
@@ -21,7 +21,7 @@ pub data Two (m n : ℕ) (b c : Code) : ℕ → Code → Type 0 where
 
 -- an async: its kid neither leads to the rest's vertex nor has it for a scope
 pub async-pieces :
-    (o n h t : ℕ) (b r : Code) → Laid (async-at o b r) → (t ≡ h → ⊥) → Pieces (async-at o b r) r (One n b) (Ahead h t t)
+    (o n h t : ℕ) (b r : Code) → Laid (async-at o b r) → (t ≡ h → ⊥) → Pieces (async-at o b r) r (One n b) (Awaited h t t)
 unfolding Job InS Pre
 async-pieces o n h t b r l out =
     record {
@@ -39,7 +39,7 @@ async-pieces o n h t b r l out =
       alike = kid-alike;
     }
   where
-    none : {d : Code} {p : ℕ} → Ahead h t t d p → ⊥
+    none : {d : Code} {p : ℕ} → Awaited h t t d p → ⊥
     none (led e i) = out e
     none (scoped e j) = out e
 
@@ -56,7 +56,7 @@ async-pieces o n h t b r l out =
     kid-alike x y p d e single single j j' = (refl, refl)
 
 -- a finish: the rest's vertex is its kid's scope
-pub finish-pieces : (o n h : ℕ) (b r : Code) → Laid (finish-at o b r) → Pieces (finish-at o b r) r (One n b) (Ahead h h h)
+pub finish-pieces : (o n h : ℕ) (b r : Code) → Laid (finish-at o b r) → Pieces (finish-at o b r) r (One n b) (Awaited h h h)
 unfolding Job InS Pre
 finish-pieces o n h b r l =
     record {
@@ -75,17 +75,17 @@ finish-pieces o n h b r l =
       alike = kid-alike;
     }
   where
-    all : {d : Code} {p : ℕ} → Ahead h h h d p → Job d p
+    all : {d : Code} {p : ℕ} → Awaited h h h d p → Job d p
     all {d} {p} (led e i) = ins-job d p i
     all (scoped e j) = j
 
     kid-job : (x p : ℕ) (d : Code) → One n b x d → Job d p → Job (finish-at o b r) p
     kid-job x p d single j = inl j
 
-    kid-sum : (x p : ℕ) (d : Code) → One n b x d → Ahead h h h d p → InS (finish-at o b r) p
+    kid-sum : (x p : ℕ) (d : Code) → One n b x d → Awaited h h h d p → InS (finish-at o b r) p
     kid-sum x p d single a = inl (all a)
 
-    kid-first : (x p q : ℕ) (d : Code) → One n b x d → Ahead h h h d p → Job r q → Pre (finish-at o b r) p q
+    kid-first : (x p q : ℕ) (d : Code) → One n b x d → Awaited h h h d p → Job r q → Pre (finish-at o b r) p q
     kid-first x p q d single a j = inl (all a, j)
 
     kid-pre : (x p q : ℕ) (d : Code) → One n b x d → Pre d p q → Pre (finish-at o b r) p q
@@ -99,7 +99,7 @@ finish-pieces o n h b r l =
 
 -- a fork: its kids lead to the rest's vertex
 pub fork-pieces :
-    (o m n h s : ℕ) (b c r : Code) → Laid (fork-at o b c r) → (s ≡ h → ⊥) → Pieces (fork-at o b c r) r (Two m n b c) (Ahead h h s)
+    (o m n h s : ℕ) (b c r : Code) → Laid (fork-at o b c r) → (s ≡ h → ⊥) → Pieces (fork-at o b c r) r (Two m n b c) (Awaited h h s)
 unfolding Job InS Pre
 fork-pieces o m n h s b c r l out =
     record {
@@ -121,7 +121,7 @@ fork-pieces o m n h s b c r l out =
       alike = kid-alike;
     }
   where
-    some-of : {d : Code} {p : ℕ} → Ahead h h s d p → InS d p
+    some-of : {d : Code} {p : ℕ} → Awaited h h s d p → InS d p
     some-of (led e i) = i
     some-of (scoped e j) = absurd (out e)
 
@@ -129,11 +129,11 @@ fork-pieces o m n h s b c r l out =
     kid-job x p d left j = inl j
     kid-job x p d right j = inr (inl j)
 
-    kid-sum : (x p : ℕ) (d : Code) → Two m n b c x d → Ahead h h s d p → InS (fork-at o b c r) p
+    kid-sum : (x p : ℕ) (d : Code) → Two m n b c x d → Awaited h h s d p → InS (fork-at o b c r) p
     kid-sum x p d left a = inl (some-of a)
     kid-sum x p d right a = inr (inl (some-of a))
 
-    kid-first : (x p q : ℕ) (d : Code) → Two m n b c x d → Ahead h h s d p → Job r q → Pre (fork-at o b c r) p q
+    kid-first : (x p q : ℕ) (d : Code) → Two m n b c x d → Awaited h h s d p → Job r q → Pre (fork-at o b c r) p q
     kid-first x p q d left a j = inl (inl (some-of a), j)
     kid-first x p q d right a j = inl (inr (some-of a), j)
 

@@ -11,16 +11,15 @@ use Rattle.graph.proofs.TestLaws.{equal?, true-false}
 use Rattle.program.specs.Encodings.{Name, own-scope, made-1}
 use Rattle.program.specs.Located.{Code, end-at, async-at, finish-at, fork-at}
 use Rattle.program.proofs.LocatedLaws.{Laid}
-use Rattle.machine.proofs.Ghost.{Do, link, hand, free, Control, draft, fresh, busy, over, State, put, kids, goes, resolved}
-use Rattle.machine.proofs.Ghost.{todo, onward, woken, split}
-use Rattle.machine.proofs.Invariant.{In, here, later, tasksOf, isItem, Settled, held, Draft, Drafts, Shape}
-use Rattle.machine.proofs.Invariant.{Roads, Coded}
-use Rattle.machine.proofs.GhostLaws.{put-same, put-other, clash, in-cases, in-none, in-among, among-out, tasks-onward}
-use Rattle.machine.proofs.GhostLaws.{Splits, async-1, finish-2, fork-3}
-use Rattle.machine.proofs.RoadLaws.{in-empty, busy-code, busy-waits, busy-draft, busy-below, over-waits, code-onward}
+use Rattle.machine.proofs.Ghost.{Do, link, hand, free, Control, draft, fresh, busy, over, State, put, kids, goes, resolved, todo}
+use Rattle.machine.proofs.Ghost.{onward, woken, split, stirred}
+use Rattle.machine.proofs.Invariant.{In, here, later, tasksOf, isItem, Settled, held, Draft, Drafts, Shape, Roads, Coded}
+use Rattle.machine.proofs.GhostLaws.{put-same, put-other, clash, in-cases, in-none, in-among, among-out, tasks-onward, Splits}
+use Rattle.machine.proofs.GhostLaws.{async-1, finish-2, fork-3, in-empty}
+use Rattle.machine.proofs.RoadLaws.{busy-code, busy-waits, busy-draft, busy-below, over-waits, code-onward}
 use Rattle.machine.proofs.SettledLaws.{Plans, split-cases, split-old, split-given, split-own, split-new, own-held}
 use Rattle.machine.proofs.SplitLaws.{Split, todo-async, todo-finish, todo-fork, async-links, async-hands, finish-links, finish-hands}
-use Rattle.machine.proofs.SplitLaws.{fork-links, fork-hands, stirred, split-of}
+use Rattle.machine.proofs.SplitLaws.{fork-links, fork-hands, split-of}
 use Rattle.machine.proofs.Ways.{way-last, nothing-to, nothing-to-draft}
 use Rattle.machine.proofs.Order.{Job, holds, Orders}
 use Rattle.machine.proofs.WaitLaws.{end-job, holds-one, holds-onward, held-laid, busy-holds}

@@ -25,7 +25,8 @@ pub seek : (f : ℕ → Bool) (n : ℕ) → ((u : ℕ) × (f u ≡ true)) ⊎ ((
 seek f zero = inr (λ u lt. absurd (let z : _<_ u 0 = lt in omega arith))
 seek f (suc n) = go (f n) refl (seek f n)
   where
-    go : (b : Bool) → f n ≡ b → ((u : ℕ) × (f u ≡ true)) ⊎ ((u : ℕ) → u < n → f u ≡ false)
+    go :
+        (b : Bool) → f n ≡ b → ((u : ℕ) × (f u ≡ true)) ⊎ ((u : ℕ) → u < n → f u ≡ false)
         → ((u : ℕ) × (f u ≡ true)) ⊎ ((u : ℕ) → u < suc n → f u ≡ false)
     go b e (inl found) = inl found
     go true e (inr none) = inl (n, e)

@@ -13,16 +13,18 @@ use Rattle.program.specs.Located.{Code, job-at, place, last}
 use Rattle.program.proofs.LocatedLaws.{Laid, laid-le, code-laid, code-inner}
 use Rattle.machine.proofs.Ghost.{Do, link, hand, free, Control, draft, fresh, busy, over, State, put, kids, goes, resolved, todo}
 use Rattle.machine.proofs.Ghost.{onward, withControl, withEdges, grown, split, done, Event, Move, begins, performs, stops, makes}
-use Rattle.machine.proofs.Ghost.{splits, acts}
+use Rattle.machine.proofs.Ghost.{splits, acts, stirred}
 use Rattle.machine.proofs.Invariant.{In, here, tasks, tasksOf, codeOf, isItem, Drafts, Shape, HasItem, Ranks, Coded}
-use Rattle.machine.proofs.GhostLaws.{put-same, put-other, clash, draft-new, fresh-new, tasks-onward, Makes, finish-1, fork-1}
-use Rattle.machine.proofs.GhostLaws.{fork-2, Splits, async-1, finish-2, fork-3, makes-at, splits-at, below, new-below, doer-below}
-use Rattle.machine.proofs.RoadLaws.{put-keeps, puts-keep, code-onward, code-freed, linked-cases, handed-cases, dropped-edge}
-use Rattle.machine.proofs.RoadLaws.{over-idle, busy-code, busy-below}
-use Rattle.machine.proofs.CodedKept.{makes-inner, splits-inner}
-use Rattle.machine.proofs.SettledLaws.{acts-did, acts-keeps, left-before, plan-cases}
-use Rattle.machine.proofs.SplitLaws.{split-of, split-codes, stirred, todo-async, todo-finish, todo-fork, async-links, async-hands}
+use Rattle.machine.proofs.GhostLaws.{put-same, put-other, clash, draft-new, fresh-new, tasks-onward, Makes, finish-1, fork-1, fork-2}
+use Rattle.machine.proofs.GhostLaws.{Splits, async-1, finish-2, fork-3, makes-at, splits-at, below, new-below, doer-below, put-keeps}
+use Rattle.machine.proofs.GhostLaws.{puts-keep, put-below}
+use Rattle.machine.proofs.ShapeMakes.{makes-scope, splits-scope}
+use Rattle.machine.proofs.RoadLaws.{code-onward, code-freed, linked-cases, handed-cases, dropped-edge, over-idle, busy-code}
+use Rattle.machine.proofs.RoadLaws.{busy-below}
+use Rattle.machine.proofs.SettledLaws.{acts-did, acts-keeps, task-stood, plan-cases}
+use Rattle.machine.proofs.SplitLaws.{split-of, split-codes, todo-async, todo-finish, todo-fork, async-links, async-hands}
 use Rattle.machine.proofs.SplitLaws.{finish-links, finish-hands, fork-links, fork-hands}
+use Rattle.machine.proofs.CodedKept.{makes-inner, splits-inner}
 
 -- u, which has an item now, had an item of a body that ends at the same place
 abbrev Had : State → ℕ → Code → Type 0
@@ -68,14 +70,11 @@ coded-below : {S : State} {c : Code} → Shape S → (u : ℕ) → codeOf (S .co
 coded-below sh u h = below sh u (λ o. none-some o h)
 
 -- what holds of old vertices holds with one more
-put-old : {A : Type 0} (g : ℕ → A) (n : ℕ) (x : A) (u : ℕ) → u < n → put g n x u ≡ g u
-put-old g n x u h = put-other g n x u (λ e. absurd (omega arith))
-
 lt-old : (g h : ℕ → ℕ) (n x y a b : ℕ) → a < n → b < n → g a < h b → put g n x a < put h n y b
-lt-old g h n x y a b p q r = rw (put-old g n x a p, put-old h n y b q) r
+lt-old g h n x y a b p q r = rw (put-below g n x a p, put-below h n y b q) r
 
 le-old : (g h : ℕ → ℕ) (n x y a b : ℕ) → a < n → b < n → g a ≤ h b → put g n x a ≤ put h n y b
-le-old g h n x y a b p q r = rw (put-old g n x a p, put-old h n y b q) r
+le-old g h n x y a b p q r = rw (put-below g n x a p, put-below h n y b q) r
 
 -- One new vertex, with the code k and a scope σ behind it: what is to do goes by rank, and an item is of k or ends where an item did.
 grown-ranks :
@@ -116,11 +115,11 @@ grown-ranks S v y σ k f sh rk le below behind links hands items =
       scope-rank =
           λ u c h.
           ⊎-elim
-          (λ e. rw (e .0) (rw (put-same (S .fin) n (last k), put-same (S .scope) n σ, put-old (S .rank) n (place k) σ below) behind))
+          (λ e. rw (e .0) (rw (put-same (S .fin) n (last k), put-same (S .scope) n σ, put-below (S .rank) n (place k) σ below) behind))
           (λ had.
           let (c', h', e) = had in
           let lt = coded-below sh u (h' .0) in
-          rw (put-old (S .scope) n σ u lt)
+          rw (put-below (S .scope) n σ u lt)
           (lt-old (S .fin) (S .rank) n (last k) (place k) u (S .scope u) lt (sh .scope-within u lt) (rk .scope-rank u c' h')))
           (items u c (h .0) (h .1));
       code-fin =
@@ -129,48 +128,41 @@ grown-ranks S v y σ k f sh rk le below behind links hands items =
           (λ e. ap last (e .1) ∙ rw (e .0) (sym (put-same (S .fin) n (last k))))
           (λ had.
           let (c', h', e) = had in
-          sym e ∙ rk .code-fin u c' h' ∙ sym (put-old (S .fin) n (last k) u (coded-below sh u (h' .0))))
+          sym e ∙ rk .code-fin u c' h' ∙ sym (put-below (S .fin) n (last k) u (coded-below sh u (h' .0))))
           (items u c (h .0) (h .1));
     }
   where
     n : ℕ
     n = S .count
 
--- the item that v has under way, and its scope
+-- the item that v has under way
 under-way-item :
     {x : Control} {c : Code} {ms : List ℕ} → x ≡ busy c ms → isItem c ≡ true → (codeOf x ≡ some c) × (isItem c ≡ true)
 under-way-item q m = (busy-code q, m)
 
-scope-below : {S : State} {c : Code} {ms : List ℕ} → Shape S → (v : ℕ) → S .control v ≡ busy c ms → S .scope v < S .count
-scope-below sh v q = sh .scope-within v (busy-below sh v q)
-
 -- The scope of a vertex that is made stands behind its code: it is the scope of its maker, or the vertex for the rest of a finish.
-makes-scope :
-    {S : State} {v : ℕ} {c k : Code} {ms : List ℕ} {a : Name} → Shape S → Ranks S → S .control v ≡ busy c ms → Laid c → Makes c ms k a
-    → (resolved (S .scope v) ms a < S .count) × (last k < S .rank (resolved (S .scope v) ms a))
+makes-behind :
+    {S : State} {v : ℕ} {c k : Code} {ms : List ℕ} {a : Name} → Ranks S → S .control v ≡ busy c ms → Laid c → Makes c ms k a
+    → last k < S .rank (resolved (S .scope v) ms a)
 unfolding resolved Laid last isItem
-makes-scope {v = v} sh rk q l finish-1 =
-    (scope-below sh v q, omega (arith, rk .scope-rank v _ (under-way-item q refl), rk .code-fin v _ (under-way-item q refl)))
-makes-scope {v = v} sh rk q l fork-1 =
-    let e = rk .code-fin v _ (under-way-item q refl) in (
-      scope-below sh v q,
-      omega (arith, rk .scope-rank v _ (under-way-item q refl), e, l .0 .between, l .0 .right, l .0 .ends, l .0 .rest),
-    )
-makes-scope {v = v} sh rk q l fork-2 =
+makes-behind {v = v} rk q l finish-1 = omega (arith, rk .scope-rank v _ (under-way-item q refl), rk .code-fin v _ (under-way-item q refl))
+makes-behind {v = v} rk q l fork-1 =
     let e = rk .code-fin v _ (under-way-item q refl) in
-    (scope-below sh v q, omega (arith, rk .scope-rank v _ (under-way-item q refl), e, l .0 .ends, l .0 .rest))
+    omega (arith, rk .scope-rank v _ (under-way-item q refl), e, l .0 .between, l .0 .right, l .0 .ends, l .0 .rest)
+makes-behind {v = v} rk q l fork-2 =
+    let e = rk .code-fin v _ (under-way-item q refl) in
+    omega (arith, rk .scope-rank v _ (under-way-item q refl), e, l .0 .ends, l .0 .rest)
 
-splits-scope :
+splits-behind :
     {S : State} {v : ℕ} {c k : Code} {ms : List ℕ} {a : Name} → Shape S → Ranks S → S .control v ≡ busy c ms → Laid c → Splits c ms k a
-    → (resolved (S .scope v) ms a < S .count) × (last k < S .rank (resolved (S .scope v) ms a))
+    → last k < S .rank (resolved (S .scope v) ms a)
 unfolding resolved Laid last isItem Drafts kids
-splits-scope {v = v} sh rk q l async-1 =
+splits-behind {v = v} sh rk q l async-1 =
     let e = rk .code-fin v _ (under-way-item q refl) in
-    (scope-below sh v q, omega (arith, rk .scope-rank v _ (under-way-item q refl), e, l .0 .ends, l .0 .rest))
-splits-scope {v = v} sh rk q l (finish-2 {m = m}) =
-    let made = sh .under-way v _ _ q .0 .0 in (draft-below sh m (made .is-draft), omega (arith, made .rank-is, l .0 .ends))
-splits-scope {v = v} sh rk q l fork-3 =
-    (scope-below sh v q, omega (arith, rk .scope-rank v _ (under-way-item q refl), rk .code-fin v _ (under-way-item q refl)))
+    omega (arith, rk .scope-rank v _ (under-way-item q refl), e, l .0 .ends, l .0 .rest)
+splits-behind {v = v} sh rk q l finish-2 = let made = sh .under-way v _ _ q .0 .0 in omega (arith, made .rank-is, l .0 .ends)
+splits-behind {v = v} sh rk q l fork-3 =
+    omega (arith, rk .scope-rank v _ (under-way-item q refl), rk .code-fin v _ (under-way-item q refl))
 
 -- an item that makes vertices is an item
 makes-item : {c k : Code} {ms : List ℕ} {a : Name} → Makes c ms k a → isItem c ≡ true
@@ -187,17 +179,17 @@ splits-item fork-3 = refl
 
 -- an edge from the new vertex to an old one, and from an old one to the new one
 lt-from : (g h : ℕ → ℕ) (n x y a b s : ℕ) → a ≡ n → b ≡ s → s < n → x < h s → put g n x a < put h n y b
-lt-from g h n x y a b s p q below lt = rw (p, q) (rw (put-same g n x, put-old h n y s below) lt)
+lt-from g h n x y a b s p q below lt = rw (p, q) (rw (put-same g n x, put-below h n y s below) lt)
 
 lt-to : (g h : ℕ → ℕ) (n x y a b m : ℕ) → a ≡ m → b ≡ n → m < n → g m < y → put g n x a < put h n y b
-lt-to g h n x y a b m p q below lt = rw (p, q) (rw (put-same h n y, put-old g n x m below) lt)
+lt-to g h n x y a b m p q below lt = rw (p, q) (rw (put-same h n y, put-below g n x m below) lt)
 
 -- edges handed to an old vertex, and to the new one
 le-of : (g : ℕ → ℕ) (n x a t m v : ℕ) → a ≡ m → t ≡ v → m < n → v < n → g m ≤ g v → put g n x a ≤ put g n x t
 le-of g n x a t m v p q below below' le = rw (p, q) (le-old g g n x x m v below below' le)
 
 le-from : (g : ℕ → ℕ) (n x a t v : ℕ) → a ≡ n → t ≡ v → v < n → x ≤ g v → put g n x a ≤ put g n x t
-le-from g n x a t v p q below le = rw (p, q) (rw (put-same g n x, put-old g n x v below) le)
+le-from g n x a t v p q below le = rw (p, q) (rw (put-same g n x, put-below g n x v below) le)
 
 -- the code that v goes to at a split, if it has an item, ends where v's did
 goes-last :
@@ -217,13 +209,15 @@ plans-rank :
 unfolding Laid last resolved isItem Drafts kids
 plans-rank {S} {v} sh rk q l (async-1 {o = o} {b = b} {r = r}) =
     let e = todo-async o b r (S .scope v) (S .count) in
-    let (below, lt) = splits-scope sh rk q l async-1 in (
+    let below = splits-scope sh q async-1 in
+    let lt = splits-behind sh rk q l async-1 in (
       λ x y i. let (p, q) = async-links (subst (λ ds. In (link x y) ds) e i) in lt-from (S .fin) (S .rank) _ _ _ x y _ p q below lt,
       λ h i. absurd (async-hands (subst (λ ds. In (hand h) ds) e i)),
     )
 plans-rank {S} {v} sh rk q l (finish-2 {o = o} {m = m} {b = b} {r = r}) =
     let e = todo-finish o b r (S .scope v) m (S .count) in
-    let (below, lt) = splits-scope sh rk q l finish-2 in
+    let below = splits-scope sh q finish-2 in
+    let lt = splits-behind sh rk q l finish-2 in
     let made = sh .under-way v _ _ q .0 .0 in
     let at : last r ≡ S .fin v = rk .code-fin v _ (under-way-item q refl) in
     let le : S .fin m ≤ S .fin v = omega (arith, made .fin-is) in (
@@ -278,7 +272,8 @@ splits-ranks L {S} {v} {c} {k} {ms} {a} sh rk q l le m =
     let ds = todo (S .scope v) (ms ++ (n ∷ [])) c in
     let x = onward (goes L c) ds in
     let plans = split-of L x k a ds sh q (tasks-onward (goes L c) ds) (code-onward (goes L c) ds) .plans in
-    let (below, behind) = splits-scope sh rk q l m in
+    let below = splits-scope sh q m in
+    let behind = splits-behind sh rk q l m in
     let (links, hands) = plans-rank sh rk q l m in
     grown-ranks S v (fresh k) (resolved (S .scope v) ms a) k _ sh rk le below behind
     (λ t x y i. plan-cases plans t i (λ e j. inr (links x y j)) (λ ne j. inl j))
@@ -304,7 +299,8 @@ makes-ranks :
     (put (put (S .control) (S .count) (draft k)) v (busy c ms')))
 unfolding tasks codeOf
 makes-ranks {S} {v} {c} {k} {ms} {a} ms' sh rk q l le m =
-    let (below, behind) = makes-scope sh rk q l m in
+    let below = makes-scope sh q m in
+    let behind = makes-behind rk q l m in
     let f = S .control in
     let n = S .count in
     let task = puts-keep tasks f n v (draft k) (busy c ms') (sym (over-idle (sh .beyond n (omega arith)))) (sym (ap tasks q)) in
@@ -367,7 +363,7 @@ ranks-kept {v = v} {S = S} p l sh rk cd (acts {c = c} {d = link a b} {ds = ds} q
     (λ x y e.
     linked-cases (S .edge) a b x y e (rk .edge-rank x y)
     (λ i j. rw (i, j) (rk .link-rank v a b (subst (λ ds. In (link a b) ds) (sym (ap tasks q)) here))))
-    (λ t d. left-before D t)
+    (λ t d. task-stood D t)
     (λ u d h i. (d, (sym (acts-keeps S v codeOf code-freed (code-onward c ds) q u) ∙ h, i), refl))
 ranks-kept {v = v} {S = S} p l sh rk cd (acts {c = c} {d = hand h} {ds = ds} q) =
     let D = acts-did {S = S} {v = v} q in
@@ -376,10 +372,10 @@ ranks-kept {v = v} {S = S} p l sh rk cd (acts {c = c} {d = hand h} {ds = ds} q) 
     (λ x y e.
     handed-cases (S .edge) v h x y e (λ e ne. rk .edge-rank x y e)
     (λ i e. rw i (omega (arith, le, rk .edge-rank v y e))))
-    (λ t d. left-before D t)
+    (λ t d. task-stood D t)
     (λ u d h i. (d, (sym (acts-keeps S v codeOf code-freed (code-onward c ds) q u) ∙ h, i), refl))
 ranks-kept {v = v} {S = S} p l sh rk cd (acts {c = c} {d = free m} {ds = ds} q) =
     let D = acts-did {S = S} {v = v} q in
     still S _ (S .edge) rk (rk .edge-rank)
-    (λ t d. left-before D t)
+    (λ t d. task-stood D t)
     (λ u d h i. (d, (sym (acts-keeps S v codeOf code-freed (code-onward c ds) q u) ∙ h, i), refl))

@@ -1,46 +1,18 @@
--- More laws of the parts that states and moves are made of: a function changed in one place, what is seen of a control, and edges.
+-- More laws of the parts that states and moves are made of: what is seen of a control, and of what it becomes, and edges with one more,
+-- handed on, or dropped.
 use Prim.Native.Nat.{ℕ, _<_}
-use mathlib.Core.Path.{_≡_, refl, sym, _∙_, ap, subst}
-use mathlib.Core.Bool.{Bool, true, false, cond}
+use mathlib.Core.Path.{_≡_, refl, sym, _∙_, ap}
+use mathlib.Core.Bool.{Bool, true, false}
 use mathlib.Core.Logic.{⊎-elim}
 use mathlib.Core.List.{List, [], _∷_}
 use mathlib.Core.Option.{some}
-use lib.Dec.{eqb}
 use borrow.Author.Tests.{eq-eqb, ne-eqb, eqb-true, eqb-false, not-true}
 use Rattle.graph.proofs.TestLaws.{not-of-false, both-true, both-left, both-right, either-left, either-right, either-cases}
 use Rattle.program.specs.Located.{Code}
-use Rattle.machine.proofs.Ghost.{Do, link, hand, free, Control, draft, fresh, ready, busy, joining, over, State, put, onward}
-use Rattle.machine.proofs.Ghost.{woken, freed, done, linked, handed, dropped}
-use Rattle.machine.proofs.Invariant.{In, tasks, codeOf, waits, isDraft, Shape}
-use Rattle.machine.proofs.GhostLaws.{clash, in-none, below}
-
--- a function changed in one place: what holds of its values and of the new one
-pub put-all : {A : Type 0} (P : A → Type 0) (f : ℕ → A) (v : ℕ) (x : A) → ((u : ℕ) → P (f u)) → P x → (u : ℕ) → P (put f v x u)
-put-all P f v x h p u = go (eqb u v)
-  where
-    go : (b : Bool) → P (cond b x (f u))
-    go true = p
-    go false = h u
-
--- what is seen of the new value as it was of the old one is seen everywhere as before
-pub put-keeps :
-    {A B : Type 0} (g : A → B) (f : ℕ → A) (v : ℕ) (x : A) → g x ≡ g (f v) → (u : ℕ) → g (put f v x u) ≡ g (f u)
-put-keeps g f v x e u = go (eqb u v) refl
-  where
-    go : (b : Bool) → eqb u v ≡ b → g (cond b x (f u)) ≡ g (f u)
-    go true h = e ∙ ap (λ (w : ℕ). g (f w)) (sym (eqb-true u v h))
-    go false h = refl
-
--- the same of two changes
-pub puts-keep :
-    {A B : Type 0} (g : A → B) (f : ℕ → A) (n v : ℕ) (y x : A) → g y ≡ g (f n) → g x ≡ g (f v) → (u : ℕ)
-    → g (put (put f n y) v x u) ≡ g (f u)
-puts-keep g f n v y x e d u =
-    let inner = put-keeps g f n y e in put-keeps g (put f n y) v x (d ∙ sym (inner v)) u ∙ inner u
-
--- nothing is in a list that is empty
-pub in-empty : {A B : Type 0} {x : A} {l : List A} → l ≡ [] → In x l → B
-in-empty {x = x} e i = in-none (subst (λ l. In x l) e i)
+use Rattle.machine.proofs.Ghost.{Do, link, hand, free, Control, draft, fresh, ready, busy, joining, over, State, onward, woken}
+use Rattle.machine.proofs.Ghost.{freed, done, linked, handed, dropped}
+use Rattle.machine.proofs.Invariant.{tasks, codeOf, waits, isDraft, Shape}
+use Rattle.machine.proofs.GhostLaws.{clash, below, put-keeps}
 
 -- what is seen of controls
 pub fresh-idle : {x : Control} {c : Code} → x ≡ fresh c → tasks x ≡ []

@@ -17,7 +17,8 @@ use Rattle.machine.proofs.Ghost.{split}
 use Rattle.machine.proofs.Invariant.{In, here, later, tasksOf, codeOf, isItem, waits, isNew, Settled, held, Way, one, more, Draft}
 use Rattle.machine.proofs.Invariant.{Drafts, Shape, Roads}
 use Rattle.machine.proofs.GhostLaws.{clash, apart, draft-new, busy-old, over-old, tasks-onward, Splits, async-1, finish-2, fork-3}
-use Rattle.machine.proofs.RoadLaws.{in-empty, code-onward, busy-code, busy-waits, draft-waits, over-waits, busy-draft, busy-below}
+use Rattle.machine.proofs.GhostLaws.{in-empty}
+use Rattle.machine.proofs.RoadLaws.{code-onward, busy-code, busy-waits, draft-waits, over-waits, busy-draft, busy-below}
 use Rattle.machine.proofs.SettledLaws.{plan-cases, split-cases, split-old, split-given, split-own, split-new, own-held}
 use Rattle.machine.proofs.SplitLaws.{Split, split-of, todo-async, todo-finish, todo-fork, async-links, async-hands, finish-links}
 use Rattle.machine.proofs.SplitLaws.{fork-links}

@@ -3,8 +3,8 @@
 -- numbers.
 use Prim.Native.Nat.{ℕ, suc, _+_, _*_, _<_}
 use mathlib.Core.Path.{_≡_, refl, _∙_, ap, subst}
-use mathlib.Core.Logic.{⊎-elim}
 use mathlib.Core.Bool.{Bool, true, false, cond}
+use mathlib.Core.Logic.{⊎-elim}
 use mathlib.Core.List.{List}
 use native.Mathlib.Omega.{arith}
 use lib.Dec.{eqb}
@@ -45,7 +45,7 @@ word-else l v u w i x lw li ne =
     getD-set-other l (vertexWords * v + w) (vertexWords * u + i) x 0 (vertex-apart u v i w li lw ne)
 
 -- rows of the same words are the same
-same-row :
+pub same-row :
     {st st' pl pl' sc sc' ph ph' a a' b b' c c' : ℕ} → st ≡ st' → pl ≡ pl' → sc ≡ sc' → ph ≡ ph' → a ≡ a' → b ≡ b' → c ≡ c'
     → row st pl sc ph a b c ≡ row st' pl' sc' ph' a' b' c'
 same-row p0 p1 p2 p3 p4 p5 p6 = λ i. row (p0 i) (p1 i) (p2 i) (p3 i) (p4 i) (p5 i) (p6 i)
@@ -183,8 +183,9 @@ rowed-advanced r spot c v φ x s lt lk = go (eqb (suc φ) (length (r .commands))
     k : ℕ
     k = weight makes (take φ (r .commands))
 
-    go : (b : Bool) →
-        Rowed s (cond b (withWord (cleared s v) v placeWord (spot (r .next))) (withWord (kept c s v k x) v phaseWord (suc φ))) v
+    go :
+        (b : Bool)
+        → Rowed s (cond b (withWord (cleared s v) v placeWord (spot (r .next))) (withWord (kept c s v k x) v phaseWord (suc φ))) v
         (λ w. cond b (gone (spot (r .next)) w) (setAt 3 (suc φ) (keeping c k x w)))
     go true = rowed-gone s v (spot (r .next)) lt
     go false = rowed-more phaseWord (suc φ) (omega arith) lt (rowed-kept c s v k x lt lk)

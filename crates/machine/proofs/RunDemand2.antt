@@ -1,8 +1,8 @@
--- Demand 2 of a run: it takes only steps, each of the lowest vertex that can step, counts them, and ends as it finds.
+-- Demand 2 of a run: it takes only steps, each of the lowest vertex that can step, counts them, and ends as it finds: done, stuck or spent.
 use Prim.Native.Nat.{ℕ, zero, suc, _+_, _<_, _≤_}
 use mathlib.Core.Path.{_≡_, refl, _∙_, ap, subst}
-use mathlib.Core.Logic.{⊎-elim}
 use mathlib.Core.Bool.{Bool, true, false, cond}
+use mathlib.Core.Logic.{⊎-elim}
 use mathlib.Core.List.{List}
 use mathlib.Core.Option.{Option, none, some}
 use native.Mathlib.Omega.{arith}
@@ -14,8 +14,8 @@ use Rattle.machine.specs.Answers.{Said, unsound-tables}
 use Rattle.machine.specs.Stepping.{steppable, step}
 use Rattle.machine.specs.Running.{canStep, orThis, lowestBelow, lowest, allFinished, refused, RunOutcome, ended, look, runOn, run}
 use Rattle.machine.specs.Demand2.{Steps, no-step, one-more, AllFinished, Looks, Ran, run-refused, run-steps}
-use Rattle.machine.proofs.AnswerLaws.{unless-passed}
 use Rattle.machine.proofs.StepDemand2.{step-counts}
+use Rattle.machine.proofs.AnswerLaws.{unless-passed}
 
 -- What a search below n comes to: no number, or the lowest of which the test holds.
 abbrev Finds : (ℕ → Bool) → ℕ → Option ℕ → Type 0

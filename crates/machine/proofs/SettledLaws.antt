@@ -8,12 +8,12 @@ use mathlib.Core.Logic.{⊎-elim}
 use mathlib.Core.List.{List, [], _∷_}
 use Rattle.graph.proofs.TestLaws.{equal?}
 use Rattle.program.specs.Located.{Code}
-use Rattle.machine.proofs.Ghost.{Do, link, hand, free, Control, fresh, joining, State, put, onward, freed, done, withControl}
-use Rattle.machine.proofs.Ghost.{linked, handed, dropped}
+use Rattle.machine.proofs.Ghost.{Do, link, hand, free, Control, fresh, joining, State, put, onward, freed, done, withControl, linked}
+use Rattle.machine.proofs.Ghost.{handed, dropped}
 use Rattle.machine.proofs.Invariant.{In, here, later, tasks, tasksOf, Settled, held, given, planned, Shape}
-use Rattle.machine.proofs.GhostLaws.{put-same, put-other, clash, in-cases, tasks-onward}
-use Rattle.machine.proofs.RoadLaws.{put-keeps, tasks-freed, done-keeps, fresh-idle, in-empty, linked-cases, linked-old, linked-new}
-use Rattle.machine.proofs.RoadLaws.{handed-cases, handed-old, handed-new, dropped-edge, dropped-old}
+use Rattle.machine.proofs.GhostLaws.{put-same, put-other, clash, in-cases, tasks-onward, put-keeps, in-empty}
+use Rattle.machine.proofs.RoadLaws.{tasks-freed, done-keeps, fresh-idle, linked-cases, linked-old, linked-new, handed-cases}
+use Rattle.machine.proofs.RoadLaws.{handed-old, handed-new, dropped-edge, dropped-old}
 
 -- a member of a list, in the same list
 in-same : {A : Type 0} {x : A} {l l' : List A} → l ≡ l' → In x l → In x l'
@@ -46,9 +46,9 @@ acts-keeps S v {c} {d} {ds} g f e q u =
     put-keeps g (done S v d .control) v (onward c ds) (e ∙ sym (done-keeps g f S v d v ∙ ap g q)) u ∙ done-keeps g f S v d u
 
 -- what is left was there before
-pub left-before :
+pub task-stood :
     {S S' : State} {v : ℕ} {d x : Do} {ds : List Do} → Did S S' v d ds → (t : ℕ) → In x (tasksOf S' t) → In x (tasksOf S t)
-left-before {S} {S'} {v} D t i =
+task-stood {S} {S'} {v} D t i =
     ⊎-elim
     (λ e. in-same (sym (ap (tasksOf S) e ∙ D .before)) (later (in-same (ap (tasksOf S') e ∙ D .after) i)))
     (λ n. in-same (D .others t n) i)
@@ -99,22 +99,22 @@ link-back {S} {v = v} {a = a} {b = b} {x = x} {y = y} sh D E (held e n) =
     (λ p q. settled-at p q (planned v (did-first D)))
 link-back {S} {v = v} {a = a} {b = b} {y = y} sh D E (given t i e) =
     linked-cases (S .edge) a b t y (sym (E t y) ∙ e)
-    (λ q. given t (left-before D t i) q)
-    (λ p q. in-empty (ap (tasksOf S) p ∙ source-idle v sh (did-first D)) (left-before D t i))
-link-back sh D E (planned t i) = planned t (left-before D t i)
+    (λ q. given t (task-stood D t i) q)
+    (λ p q. in-empty (ap (tasksOf S) p ∙ source-idle v sh (did-first D)) (task-stood D t i))
+link-back sh D E (planned t i) = planned t (task-stood D t i)
 
 pub link-on :
     {S S' : State} {v a b x y : ℕ} {ds : List Do} → Shape S → Did S S' v (link a b) ds
     → ((x y : ℕ) → S' .edge x y ≡ linked (S .edge) a b x y) → Settled S x y → Settled S' x y
 link-on {S} {a = a} {b = b} {x = x} {y = y} sh D E (held e n) =
-    held (E x y ∙ linked-old (S .edge) a b x y e) (λ h i. n h (left-before D x i))
+    held (E x y ∙ linked-old (S .edge) a b x y e) (λ h i. n h (task-stood D x i))
 link-on {S} {a = a} {b = b} {y = y} sh D E (given t i e) =
     left-on D t i (λ p q. clash cc) (λ j. given t j (E t y ∙ linked-old (S .edge) a b t y e))
 link-on {S} {v = v} {a = a} {b = b} {x = x} {y = y} sh D E (planned t i) =
     left-on D t i
     (λ p q.
     let new = E a b ∙ linked-new (S .edge) a b in
-    settled-at (cc) (cc) (held new (λ h j. in-empty (source-idle v sh (did-first D)) (left-before D a j))))
+    settled-at (cc) (cc) (held new (λ h j. in-empty (source-idle v sh (did-first D)) (task-stood D a j))))
     (λ j. planned t j)
 
 -- edges that are handed on
@@ -127,22 +127,22 @@ hand-back {S} {v = v} {h = h} {x = x} {y = y} sh D E (held e n) =
     (λ p q. settled-at p refl (given v (did-first D) q))
 hand-back {S} {v = v} {h = h} {y = y} sh D E (given t i e) =
     handed-cases (S .edge) v h t y (sym (E t y) ∙ e)
-    (λ q f. given t (left-before D t i) q)
-    (λ p q. in-empty (ap (tasksOf S) p ∙ hand-idle v sh (did-first D)) (left-before D t i))
-hand-back sh D E (planned t i) = planned t (left-before D t i)
+    (λ q f. given t (task-stood D t i) q)
+    (λ p q. in-empty (ap (tasksOf S) p ∙ hand-idle v sh (did-first D)) (task-stood D t i))
+hand-back sh D E (planned t i) = planned t (task-stood D t i)
 
 pub hand-on :
     {S S' : State} {v h x y : ℕ} {ds : List Do} → Shape S → Did S S' v (hand h) ds
     → ((x y : ℕ) → S' .edge x y ≡ handed (S .edge) v h x y) → Settled S x y → Settled S' x y
 hand-on {S} {v = v} {h = h} {x = x} {y = y} sh D E (held e n) =
     held (E x y ∙ handed-old (S .edge) v h x y e (λ p. n h (in-same (sym (ap (tasksOf S) p)) (did-first D))))
-    (λ k i. n k (left-before D x i))
+    (λ k i. n k (task-stood D x i))
 hand-on {S} {v = v} {h = h} {x = k} {y = y} sh D E (given t i e) =
     ⊎-elim
     (λ p.
     let new = E h y ∙ handed-new (S .edge) v h y (subst (λ (z : ℕ). S .edge z y ≡ true) p e) in
     settled-at (sh .todo-fits v .hand-one k h (in-same (ap (tasksOf S) p) i) (did-first D)) refl
-    (held new (λ k j. in-empty (hand-idle v sh (did-first D)) (left-before D h j))))
+    (held new (λ k j. in-empty (hand-idle v sh (did-first D)) (task-stood D h j))))
     (λ n. given t (in-same (sym (D .others t n)) i) (E t y ∙ handed-old (S .edge) v h t y e n))
     (equal? t v)
 hand-on sh D E (planned t i) = left-on D t i (λ p q. clash cc) (λ j. planned t j)
@@ -152,13 +152,13 @@ pub free-back :
     {S S' : State} {v m x y : ℕ} {ds : List Do} → Did S S' v (free m) ds → ((x y : ℕ) → S' .edge x y ≡ S .edge x y)
     → Settled S' x y → Settled S x y
 free-back {x = x} {y = y} D E (held e n) = held (sym (E x y) ∙ e) (λ k i. left-on D x i (λ p q. clash cc) (n k))
-free-back {y = y} D E (given t i e) = given t (left-before D t i) (sym (E t y) ∙ e)
-free-back D E (planned t i) = planned t (left-before D t i)
+free-back {y = y} D E (given t i e) = given t (task-stood D t i) (sym (E t y) ∙ e)
+free-back D E (planned t i) = planned t (task-stood D t i)
 
 pub free-on :
     {S S' : State} {v m x y : ℕ} {ds : List Do} → Did S S' v (free m) ds → ((x y : ℕ) → S' .edge x y ≡ S .edge x y)
     → Settled S x y → Settled S' x y
-free-on {x = x} {y = y} D E (held e n) = held (E x y ∙ e) (λ k i. n k (left-before D x i))
+free-on {x = x} {y = y} D E (held e n) = held (E x y ∙ e) (λ k i. n k (task-stood D x i))
 free-on {y = y} D E (given t i e) = left-on D t i (λ p q. clash cc) (λ j. given t j (E t y ∙ e))
 free-on D E (planned t i) = left-on D t i (λ p q. clash cc) (λ j. planned t j)
 

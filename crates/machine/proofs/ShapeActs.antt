@@ -10,13 +10,13 @@ use native.Mathlib.Omega.{arith}
 use borrow.Author.Tests.{eqb-true}
 use Rattle.graph.proofs.TestLaws.{equal?, true-false, either-cases, both-left, both-right}
 use Rattle.program.specs.Located.{Code}
-use Rattle.machine.proofs.Ghost.{Do, link, hand, free, Control, draft, fresh, ready, busy, joining, over, State, put, onward}
-use Rattle.machine.proofs.Ghost.{freed, withControl, withEdges, linked, handed, dropped, done}
-use Rattle.machine.proofs.Invariant.{In, here, later, Before, first, behind, Once, tasks, tasksOf, isNew, isDraft, FreesOnly}
+use Rattle.machine.proofs.Ghost.{Do, link, hand, free, Control, draft, fresh, ready, busy, joining, over, State, put, onward, freed}
+use Rattle.machine.proofs.Ghost.{withControl, withEdges, linked, handed, dropped, done}
+use Rattle.machine.proofs.Invariant.{In, here, later, Precedes, first, behind, Once, tasks, tasksOf, isNew, isDraft, FreesOnly}
 use Rattle.machine.proofs.Invariant.{Ordered, Fits, Shape}
 use Rattle.machine.proofs.GhostLaws.{put-same, put-other, put-cases, clash, apart, draft-new, fresh-new, ready-old, joining-old}
 use Rattle.machine.proofs.GhostLaws.{in-cases, in-none, no-link, no-hand, tasks-onward, below, new-below, one-freer}
-use Rattle.machine.proofs.ShapeStep.{made, made-busy, none-made, onward-old, onward-made, Turn, itself, stays, rises, Same}
+use Rattle.machine.proofs.ShapeStep.{madeOf, made-busy, none-made, onward-old, onward-made, Turn, itself, stays, rises, Same}
 use Rattle.machine.proofs.ShapeStep.{fits-kept, shape-step, Fine, shape-edges}
 
 -- a new vertex was the same before, where v does not come to be new
@@ -27,15 +27,15 @@ new-was f v y m old new h =
 
 -- a vertex that has made none has no drafts
 no-drafts :
-    {S : State} {v m : ℕ} {k : Code} {A : Type 0} → Shape S → made (S .control v) ≡ [] → S .control m ≡ draft k → S .maker m ≡ v → A
+    {S : State} {v m : ℕ} {k : Code} {A : Type 0} → Shape S → madeOf (S .control v) ≡ [] → S .control m ≡ draft k → S .maker m ≡ v → A
 no-drafts {S} {v} {m} {k} sh none h by =
     let (c, ms, b, i) = sh .drafts m k h in
-    in-none (subst (λ ns. In m ns) (sym (made-busy b) ∙ ap (λ w. made (S .control w)) by ∙ none) i)
+    in-none (subst (λ ns. In m ns) (sym (made-busy b) ∙ ap (λ w. madeOf (S .control w)) by ∙ none) i)
 
 -- v alone moves, to y; no item of its own is under way before or afterwards, and all that it had to release is still to be released
 shape-turn :
     {S : State} {v : ℕ} (y : Control) → Shape S → v < S .count → isNew (S .control v) ≡ false → isNew y ≡ false
-    → made (S .control v) ≡ [] → made y ≡ [] → ((m : ℕ) → In (free m) (tasksOf S v) → In (free m) (tasks y)) → Fits S v (tasks y)
+    → madeOf (S .control v) ≡ [] → madeOf y ≡ [] → ((m : ℕ) → In (free m) (tasksOf S v) → In (free m) (tasks y)) → Fits S v (tasks y)
     → Shape (withControl S (put (S .control) v y))
 shape-turn {S} {v} y sh lt old old' none none' frees fits =
     shape-step {v = v} sh
@@ -79,7 +79,7 @@ shape-turn {S} {v} y sh lt old old' none none' frees fits =
 
 -- of two that stand one before the other, the first stands at the head, or both stand behind it
 before-cases :
-    {A P : Type 0} {x y z : A} {zs : List A} → Before x y (z ∷ zs) → (x ≡ z → In y zs → P) → (Before x y zs → P) → P
+    {A P : Type 0} {x y z : A} {zs : List A} → Precedes x y (z ∷ zs) → (x ≡ z → In y zs → P) → (Precedes x y zs → P) → P
 before-cases (first i) f g = f refl i
 before-cases (behind b) f g = g b
 
@@ -94,8 +94,8 @@ unfolding tasks
 joining-tasks h = cc
 
 -- its item is split
-joining-made : {x : Control} {c : Code} {d : Do} {ds : List Do} → x ≡ joining c d ds → made x ≡ []
-unfolding made
+joining-made : {x : Control} {c : Code} {d : Do} {ds : List Do} → x ≡ joining c d ds → madeOf x ≡ []
+unfolding madeOf
 joining-made h = cc
 
 -- and it is there
@@ -289,7 +289,7 @@ release-scope {m = m} f =
     (λ b. before-cases b (λ e i. absurd (f .once .0 i)) (λ k. absurd (f .once .0 (before-last k))))
     (f .free-scope m here)
   where
-    before-last : {A : Type 0} {x y : A} {xs : List A} → Before x y xs → In y xs
+    before-last : {A : Type 0} {x y : A} {xs : List A} → Precedes x y xs → In y xs
     before-last (first i) = later i
     before-last (behind b) = later (before-last b)
 
@@ -435,7 +435,7 @@ shape-acts (free m) sh h = shape-free m sh h
 -- a vertex that has nothing left to do of an item, and goes on
 shape-plain :
     {S : State} {v : ℕ} (y : Control) → Shape S → v < S .count → isNew (S .control v) ≡ false → isNew y ≡ false
-    → made (S .control v) ≡ [] → made y ≡ [] → tasksOf S v ≡ [] → tasks y ≡ []
+    → madeOf (S .control v) ≡ [] → madeOf y ≡ [] → tasksOf S v ≡ [] → tasks y ≡ []
     → Shape (withControl S (put (S .control) v y))
 shape-plain {S} {v} y sh lt old old' none none' idle idle' =
     shape-turn y sh lt old old' none none'
@@ -446,21 +446,21 @@ shape-plain {S} {v} y sh lt old old' none none' idle idle' =
 pub shape-begins :
     {S : State} {v : ℕ} {c : Code} → Shape S → S .control v ≡ ready c
     → Shape (withControl S (put (S .control) v (busy c [])))
-unfolding made tasks isNew
+unfolding madeOf tasks isNew
 shape-begins {v = v} {c} sh h = shape-plain (busy c []) sh (below sh v (λ o. clash cc)) (cc) refl (cc) refl (cc) refl
 
 -- a job
 pub shape-performs :
     {S : State} {v : ℕ} {c : Code} (r : Code) → Shape S → S .control v ≡ busy c []
     → Shape (withControl S (put (S .control) v (busy r [])))
-unfolding made tasks isNew
+unfolding madeOf tasks isNew
 shape-performs {v = v} r sh h = shape-plain (busy r []) sh (below sh v (λ o. clash cc)) (cc) refl (cc) refl (cc) refl
 
 -- a stop
 pub shape-stops :
     {S : State} {v : ℕ} {c : Code} → Shape S → S .control v ≡ busy c []
     → Shape (withEdges (withControl S (put (S .control) v over)) (dropped (S .edge) v))
-unfolding made tasks isNew
+unfolding madeOf tasks isNew
 shape-stops {S} {v} sh h =
     shape-edges (dropped (S .edge) v) (shape-plain over sh (below sh v (λ o. clash cc)) (cc) refl (cc) refl (cc) refl)
     (λ a b p. inl (both-left _ _ p))

@@ -1,4 +1,4 @@
--- Every move keeps the shape.
+-- Every move keeps the shape: those that make a vertex (ShapeMakes), and the others (ShapeActs).
 use Prim.Native.Nat.{ℕ}
 use Rattle.machine.proofs.Ghost.{State, Event, Move, begins, performs, stops, makes, splits, acts}
 use Rattle.machine.proofs.Invariant.{Shape}

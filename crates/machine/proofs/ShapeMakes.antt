@@ -3,7 +3,7 @@
 -- left to do of the item is known. This list is looked at for each kind of item.
 use Prim.Native.Nat.{ℕ, _<_}
 use mathlib.Core.Path.{_≡_, refl, sym, _∙_, ap, subst}
-use mathlib.Core.Bool.{true, false, cond}
+use mathlib.Core.Bool.{true, false}
 use mathlib.Core.Logic.{_⊎_, inl, inr, ⊎-elim}
 use mathlib.Core.List.{List, [], _∷_, _++_}
 use native.Mathlib.Omega.{arith}
@@ -11,14 +11,15 @@ use Rattle.graph.proofs.TestLaws.{decide, equal?, true-false, not-so}
 use Rattle.program.specs.Encodings.{Name, own-scope, made-1, firstEdition}
 use Rattle.program.specs.Located.{Code, place, last}
 use Rattle.machine.proofs.Ghost.{Do, link, hand, free, Control, draft, fresh, busy, State, put, kids, onward, goes, todo, joins}
-use Rattle.machine.proofs.Ghost.{commandsOf, kindOf, resolved, woken, among, grown, withControl, oneMore, split}
-use Rattle.machine.proofs.Invariant.{In, here, later, Before, first, behind, Once, tasks, tasksOf, isNew, Draft, Drafts, FreesOnly}
+use Rattle.machine.proofs.Ghost.{commandsOf, kindOf, resolved, woken, among, grown, withControl, oneMore, split, stirred}
+use Rattle.machine.proofs.Invariant.{In, here, later, Precedes, first, behind, Once, tasks, tasksOf, isNew, Draft, Drafts, FreesOnly}
 use Rattle.machine.proofs.Invariant.{Ordered, Fits, Shape}
-use Rattle.machine.proofs.GhostLaws.{put-same, put-other, put-cases, clash, apart, draft-new, fresh-new, busy-old, in-cases}
-use Rattle.machine.proofs.GhostLaws.{in-none, in-left, in-last, once-snoc, among-in, in-among, among-out, EachLink, EachHand}
-use Rattle.machine.proofs.GhostLaws.{EachFree, each-link, each-hand, each-free, tasks-onward, Makes, finish-1, fork-1, fork-2}
-use Rattle.machine.proofs.GhostLaws.{Splits, async-1, finish-2, fork-3, below, new-below, draft-of}
+use Rattle.machine.proofs.GhostLaws.{put-same, put-other, put-cases, clash, apart, draft-new, fresh-new, busy-old, in-cases, in-none}
+use Rattle.machine.proofs.GhostLaws.{in-left, in-last, once-snoc, among-in, in-among, among-out, EachLink, EachHand, EachFree}
+use Rattle.machine.proofs.GhostLaws.{each-link, each-hand, each-free, tasks-onward, Makes, finish-1, fork-1, fork-2, Splits, async-1}
+use Rattle.machine.proofs.GhostLaws.{finish-2, fork-3, below, new-below, draft-of, put-below}
 use Rattle.machine.proofs.ShapeStep.{made-busy, none-made, onward-old, onward-made, Turn, itself, stays, wakes, born, shape-step}
+use Rattle.machine.proofs.RoadLaws.{busy-below}
 
 -- a vertex of an item that has just been split
 record Kid (S : State) (t m : ℕ) : Type 0 where
@@ -47,7 +48,7 @@ fits-none S t =
 
 -- what is found in the list that a split leaves: of a release, of a link and of a transfer
 abbrev ScopeFirst : State → List Do → ℕ → Type 0
-ScopeFirst S ds m = (isNew (S .control (S .scope m)) ≡ false) ⊎ Before (free (S .scope m)) (free m) ds
+ScopeFirst S ds m = (isNew (S .control (S .scope m)) ≡ false) ⊎ Precedes (free (S .scope m)) (free m) ds
 
 abbrev Planned : State → ℕ → List Do → ℕ → ℕ → Type 0
 Planned S t ds a b = In (free a) ds × (In (free b) ds ⊎ (b ≡ S .scope t))
@@ -111,7 +112,7 @@ fits-finish {S} {t} {m} {n} kid kid' ne same same' old =
     )
     (kid, (kid', tt)) (
       inl (ap (λ w. isNew (S .control w)) same ∙ old),
-      (inr (subst (λ w. Before (free w) (free n) ds) (sym same') (behind (behind (first here)))), tt),
+      (inr (subst (λ w. Precedes (free w) (free n) ds) (sym same') (behind (behind (first here)))), tt),
     )
     ((later (later (later here)), inl (later (later here))), tt) (
       (
@@ -165,10 +166,6 @@ fits-fork {S} {t} {m} {m'} {n} kid kid' kid'' ne ne' ne'' same same' same'' old 
 
     to-n : In (free n) ds ⊎ (n ≡ S .scope t)
     to-n = inl (later (later (later here)))
-
--- what is known of a vertex that was there before is as it was
-put-below : {A : Type 0} (f : ℕ → A) (n : ℕ) (x : A) (u : ℕ) → u < n → put f n x u ≡ f u
-put-below f n x u lt = put-other f n x u (λ e. absurd (omega arith))
 
 -- what v comes to
 with-own : (S : State) (v : ℕ) (base : ℕ → Control) (kid x : Control) → put (put base (S .count) kid) v x v ≡ x
@@ -296,22 +293,22 @@ own-fresh {S = S} {v} {m} {c} {k} {ms} sh h f by =
     in-none (subst (λ x. In (free m) (tasks x)) h (subst (λ w. In (free m) (tasksOf S w)) by (sh .freshes m k f)))
 
 -- the scope of a vertex that is made is there, where it is not the last one
-makes-scope :
+pub makes-scope :
     {S : State} {v : ℕ} {c : Code} {ms : List ℕ} {k : Code} {a : Name} → Shape S → S .control v ≡ busy c ms → Makes c ms k a
     → resolved (S .scope v) ms a < S .count
 unfolding resolved
-makes-scope {v = v} sh h finish-1 = sh .scope-within v (below sh v (λ o. clash cc))
-makes-scope {v = v} sh h fork-1 = sh .scope-within v (below sh v (λ o. clash cc))
-makes-scope {v = v} sh h fork-2 = sh .scope-within v (below sh v (λ o. clash cc))
+makes-scope {v = v} sh h finish-1 = sh .scope-within v (busy-below sh v h)
+makes-scope {v = v} sh h fork-1 = sh .scope-within v (busy-below sh v h)
+makes-scope {v = v} sh h fork-2 = sh .scope-within v (busy-below sh v h)
 
 -- and where it is
-splits-scope :
+pub splits-scope :
     {S : State} {v : ℕ} {c : Code} {ms : List ℕ} {k : Code} {a : Name} → Shape S → S .control v ≡ busy c ms → Splits c ms k a
     → resolved (S .scope v) ms a < S .count
 unfolding resolved
-splits-scope {v = v} sh h async-1 = sh .scope-within v (below sh v (λ o. clash cc))
+splits-scope {v = v} sh h async-1 = sh .scope-within v (busy-below sh v h)
 splits-scope {v = v} sh h finish-2 = under-way-below sh h here
-splits-scope {v = v} sh h fork-3 = sh .scope-within v (below sh v (λ o. clash cc))
+splits-scope {v = v} sh h fork-3 = sh .scope-within v (busy-below sh v h)
 
 -- the vertices of an item under way with one more
 module _
@@ -408,17 +405,13 @@ splits-frees {m = m} σ n fork-3 i =
     in-cases i (λ e. rw e (later (later (later (later (later here))))))
     (λ i. in-cases i (λ e. rw e (later (later (later here)))) (λ i. in-none i)))
 
--- what the vertices that are there come to at a split: those of the item are drafts no more
-abbrev Woken : State → List ℕ → ℕ → Control
-Woken S ms u = cond (among u ms) (woken (S .control u)) (S .control u)
-
--- one of the item's
-woken-in : (S : State) {u : ℕ} {k : Code} {ms : List ℕ} → In u ms → S .control u ≡ draft k → Woken S ms u ≡ fresh k
+-- what the vertices that are there come to at a split: one of the item's
+woken-in : (S : State) {u : ℕ} {k : Code} {ms : List ℕ} → In u ms → S .control u ≡ draft k → stirred (S .control) ms u ≡ fresh k
 unfolding woken
 woken-in S i d = rw (in-among i, d) refl
 
 -- another one
-woken-out : (S : State) {u : ℕ} {ms : List ℕ} → (In u ms → ⊥) → Woken S ms u ≡ S .control u
+woken-out : (S : State) {u : ℕ} {ms : List ℕ} → (In u ms → ⊥) → stirred (S .control) ms u ≡ S .control u
 woken-out S {u} {ms} out = rw (among-out u ms out) refl
 
 -- one of a list, or not
@@ -437,7 +430,7 @@ record Halves (S S' : State) (v : ℕ) (ms : List ℕ) (σ : ℕ) : Type 0 where
 
 -- others stay as they are, but for the item's vertices
 splits-stay :
-    {S : State} {v : ℕ} {c : Code} {ms : List ℕ} → Shape S → S .control v ≡ busy c ms → (u : ℕ) → Stays S v (Woken S ms) u
+    {S : State} {v : ℕ} {c : Code} {ms : List ℕ} → Shape S → S .control v ≡ busy c ms → (u : ℕ) → Stays S v (stirred (S .control) ms) u
 splits-stay {S} {ms = ms} sh h u =
     ⊎-elim
     (λ i. let (k, a, d) = under-way-draft sh h i in inr (k, d .made-by, d .is-draft, woken-in S i (d .is-draft)))
@@ -448,11 +441,11 @@ splits-stay {S} {ms = ms} sh h u =
 splits-old :
     {S : State} {v : ℕ} {c : Code} {ms : List ℕ} (x : Control) (k : Code) → Shape S → S .control v ≡ busy c ms → isNew x ≡ false
     → (u : ℕ) → u < S .count → isNew (S .control u) ≡ false
-    → isNew (put (put (Woken S ms) (S .count) (fresh k)) v x u) ≡ false
+    → isNew (put (put (stirred (S .control) ms) (S .count) (fresh k)) v x u) ≡ false
 splits-old {S} {v} {ms = ms} x k sh h old u lt was =
-    put-cases (λ y. isNew y ≡ false) (put (Woken S ms) (S .count) (fresh k)) v x u
+    put-cases (λ y. isNew y ≡ false) (put (stirred (S .control) ms) (S .count) (fresh k)) v x u
     (λ e. old)
-    (λ n. ap isNew (put-below (Woken S ms) (S .count) (fresh k) u lt ∙ woken-out S out) ∙ was)
+    (λ n. ap isNew (put-below (stirred (S .control) ms) (S .count) (fresh k) u lt ∙ woken-out S out) ∙ was)
   where
     out : In u ms → ⊥
     out i = let (k, a, d) = under-way-draft sh h i in true-false (draft-new (d .is-draft)) was
@@ -466,7 +459,7 @@ halves {S} {v} {c} {ms} x k a sh h old =
       now =
           record {
             code = k;
-            is-fresh = with-kid S v (Woken S ms) (fresh k) x there;
+            is-fresh = with-kid S v (stirred (S .control) ms) (fresh k) x there;
             made-by = put-same (S .maker) (S .count) v;
             bare = λ y. not-so _ (λ e. absurd (omega (arith, sh .within (S .count) y e .0)));
           };
@@ -493,7 +486,7 @@ halves {S} {v} {c} {ms} x k a sh h old =
         record {
           code = k';
           is-fresh =
-              with-other S v (Woken S ms) (fresh k) x m (apart isNew (S .control) (draft-new (d .is-draft)) (busy-old h))
+              with-other S v (stirred (S .control) ms) (fresh k) x m (apart isNew (S .control) (draft-new (d .is-draft)) (busy-old h))
               (λ e. absurd (omega (arith, lt)))
               ∙ woken-in S i (d .is-draft);
           made-by = put-below (S .maker) (S .count) v m lt ∙ d .made-by;
@@ -533,7 +526,7 @@ pub shape-splits :
     (L : ℕ) {S : State} {v : ℕ} {c : Code} {ms : List ℕ} {k : Code} {a : Name} → Shape S → S .control v ≡ busy c ms
     → Splits c ms k a → Shape (split S v ms (onward (goes L c) (todo (S .scope v) (ms ++ (S .count ∷ [])) c)) k a)
 shape-splits L {S} {v} {c} {ms} {k} {a} sh h sp =
-    shape-with S v (Woken S ms) (fresh k) x (resolved (S .scope v) ms a) (place k) (last k) sh
+    shape-with S v (stirred (S .control) ms) (fresh k) x (resolved (S .scope v) ms a) (place k) (last k) sh
     (below sh v (λ o. clash cc)) (busy-old h) old (fresh-new refl) (splits-scope sh h sp) (splits-stay sh h)
     (λ c' ns e. none-made (split S v ms x k a) v c' (sym (made-busy e) ∙ onward-made (goes L c) ds))
     (λ m k'.

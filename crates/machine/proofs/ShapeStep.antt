@@ -13,21 +13,21 @@ use Rattle.program.specs.Encodings.{Name}
 use Rattle.program.specs.Located.{Code}
 use Rattle.machine.proofs.Ghost.{Do, link, hand, free, Control, draft, fresh, ready, busy, joining, over, State, kids, resolved}
 use Rattle.machine.proofs.Ghost.{onward, withEdges}
-use Rattle.machine.proofs.Invariant.{In, Before, Once, tasks, tasksOf, isNew, isDraft, Draft, Drafts, Fits, Tasks, Shape}
+use Rattle.machine.proofs.Invariant.{In, Precedes, Once, tasks, tasksOf, isNew, isDraft, Draft, Drafts, Fits, Tasks, Shape}
 use Rattle.machine.proofs.GhostLaws.{clash, draft-new, fresh-new, ready-old, busy-old, below, new-below, doer-below, apart}
 
 -- the vertices that an item under way has made so far
-unfoldable pub made : Control → List ℕ
-made (draft c) = []
-made (fresh c) = []
-made (ready c) = []
-made (busy c ms) = ms
-made (joining c d ds) = []
-made over = []
+unfoldable pub madeOf : Control → List ℕ
+madeOf (draft c) = []
+madeOf (fresh c) = []
+madeOf (ready c) = []
+madeOf (busy c ms) = ms
+madeOf (joining c d ds) = []
+madeOf over = []
 
 -- an item under way has made what its vertex says
-pub made-busy : {x : Control} {c : Code} {ms : List ℕ} → x ≡ busy c ms → made x ≡ ms
-unfolding made
+pub made-busy : {x : Control} {c : Code} {ms : List ℕ} → x ≡ busy c ms → madeOf x ≡ ms
+unfolding madeOf
 made-busy h = cc
 
 -- an item under way with no vertices has none to keep
@@ -42,8 +42,8 @@ onward-old c [] = refl
 onward-old c (d ∷ ds) = refl
 
 -- and has made no vertices for another item
-pub onward-made : (c : Code) (ds : List Do) → made (onward c ds) ≡ []
-unfolding onward made
+pub onward-made : (c : Code) (ds : List Do) → madeOf (onward c ds) ≡ []
+unfolding onward madeOf
 onward-made c [] = refl
 onward-made c (d ∷ ds) = refl
 
@@ -187,7 +187,7 @@ fits-kept {S} {S'} {t} {ds} f s =
       frees = λ m i. let ((c, h), by) = f .frees m i in ((c, s .fresh m i h), s .maker m i ∙ by);
       free-scope =
           λ m i.
-          subst (λ (σ : ℕ). (isNew (S' .control σ) ≡ false) ⊎ Before (free σ) (free m) ds) (sym (s .scope m i))
+          subst (λ (σ : ℕ). (isNew (S' .control σ) ≡ false) ⊎ Precedes (free σ) (free m) ds) (sym (s .scope m i))
           (⊎-elim (λ h. inl (s .old m i h)) (λ b. inr b) (f .free-scope m i));
       link-from = f .link-from;
       link-to = λ a b i. ⊎-elim (λ h. inl h) (λ e. inr (e ∙ sym (s .own-scope i))) (f .link-to a b i);

@@ -11,10 +11,10 @@ use Rattle.graph.proofs.TestLaws.{equal?, true-false}
 use Rattle.program.specs.Encodings.{Name, firstEdition}
 use Rattle.program.specs.Located.{Code, async-at, finish-at, fork-at}
 use Rattle.machine.proofs.Ghost.{Do, link, hand, free, Control, fresh, busy, over, State, put, goes, kindOf, commandsOf, resolved}
-use Rattle.machine.proofs.Ghost.{joins, todo, woken, among, split}
+use Rattle.machine.proofs.Ghost.{joins, todo, woken, among, split, stirred}
 use Rattle.machine.proofs.Invariant.{In, tasks, codeOf, waits, Shape}
-use Rattle.machine.proofs.GhostLaws.{put-same, put-other, clash, EachLink, EachHand, each-link, each-hand}
-use Rattle.machine.proofs.RoadLaws.{put-keeps, tasks-woken, code-woken, waits-woken}
+use Rattle.machine.proofs.GhostLaws.{put-same, put-other, clash, EachLink, EachHand, each-link, each-hand, put-keeps}
+use Rattle.machine.proofs.RoadLaws.{tasks-woken, code-woken, waits-woken}
 use Rattle.machine.proofs.SettledLaws.{Plans}
 
 -- v has an item of code c, and its split with the vertices ms that were made before and a new one, whose scope is σ, leaves v with T to do
@@ -71,11 +71,7 @@ pub fork-hands : {n m m' h : ℕ} → In (hand h) (link m n ∷ link m' n ∷ ha
 unfolding EachHand
 fork-hands {n} i = each-hand (λ h. h ≡ n) _ (refl, tt) i
 
--- drafts become fresh
-abbrev pub stirred : (ℕ → Control) → List ℕ → ℕ → Control
-stirred f ms u = cond (among u ms) (woken (f u)) (f u)
-
--- a control is seen as before
+-- where drafts become fresh, a control is seen as before
 pub stirred-keeps :
     {B : Type 0} (g : Control → B) → ((x : Control) → g (woken x) ≡ g x) → (f : ℕ → Control) (ms : List ℕ) (u : ℕ)
     → g (stirred f ms u) ≡ g (f u)

@@ -13,14 +13,14 @@
 --     released-step     a released vertex: started, or refused by 21
 use Prim.Native.Nat.{ℕ, zero, suc, _+_, _-_, _<_, _≤_}
 use mathlib.Core.Path.{_≡_, refl, sym, _∙_, ap, subst}
-use mathlib.Core.Logic.{inl, inr, _↔_}
 use mathlib.Core.Bool.{Bool, true, false, not, cond}
+use mathlib.Core.Logic.{inl, inr, _↔_}
 use mathlib.Core.List.{List}
 use mathlib.Core.Option.{Option, none, some}
 use native.Mathlib.Omega.{arith}
 use lib.Dec.{eqb, ltb}
-use borrow.Author.Tests.{ltb-true, lt-ltb, eq-eqb, ne-eqb}
 use lib.ListN.{length}
+use borrow.Author.Tests.{ltb-true, lt-ltb, eq-eqb, ne-eqb}
 use Rattle.graph.specs.Tables.{Lent, NEW, RELEASED, FINISHED, EXECUTING, vertexRows, status}
 use Rattle.graph.specs.Answers.{edge-leads-in, decided}
 use Rattle.graph.specs.Answers as of-graph
@@ -43,11 +43,10 @@ use Rattle.program.specs.Answers as of-program
 use Rattle.program.specs.Answers.{Stands}
 use Rattle.program.specs.Located.{itemAt}
 use Rattle.machine.specs.Answers.{Said, Outcome, accepted, unless, oneStep, byCommand, unreadable}
-use Rattle.machine.specs.Stepping.{stepLimit, steppable, place, phase, Task, item, ends, nothing, task, nth, advanced}
-use Rattle.machine.specs.Stepping.{doCommand, doNth, doTask, step}
-use Rattle.machine.specs.Demand2.{Own, ownOf, movedOn, Due, refusal-due, job-due, command-due, orRefused, filledIn}
-use Rattle.machine.specs.Demand2.{nextOf, nextAt, due}
-use Rattle.machine.specs.Demand2.{saidAs, Adds, IsCommand, Does, Before, Refused, before, by-command}
+use Rattle.machine.specs.Stepping.{stepLimit, steppable, place, phase, Task, item, ends, nothing, task, nth, advanced, doCommand}
+use Rattle.machine.specs.Stepping.{doNth, doTask, step}
+use Rattle.machine.specs.Demand2.{Own, ownOf, movedOn, Due, refusal-due, job-due, command-due, orRefused, filledIn, nextOf, nextAt}
+use Rattle.machine.specs.Demand2.{due, saidAs, Adds, IsCommand, Does, Before, Refused, before, by-command}
 use Rattle.machine.proofs.OwnLaws.{Touched, touched-none, touched-adds, advanced-touched, advanced-own, command-own}
 
 -- no command says that the bare machine was opened

@@ -2,8 +2,8 @@
 -- is at decides which.
 use Prim.Native.Nat.{ℕ, _-_, _<_, _≤_}
 use mathlib.Core.Path.{_≡_, refl, sym, _∙_, ap, subst}
-use mathlib.Core.Logic.{⊎-elim}
 use mathlib.Core.Bool.{true}
+use mathlib.Core.Logic.{⊎-elim}
 use mathlib.Core.List.{List, [], _∷_, _++_}
 use mathlib.Core.Option.{some}
 use native.Mathlib.Omega.{arith}
@@ -25,26 +25,28 @@ use Rattle.program.specs.Located.{Code, end-at, job-at, locate, place, codeAt}
 use Rattle.machine.specs.Answers.{Said, Outcome, oneStep}
 use Rattle.machine.specs.Stepping.{stepLimit, steppable, advanced, doCommand, step}
 use Rattle.machine.specs.Stepping as words
-use Rattle.machine.proofs.Ghost.{Do, link, hand, free, Control, draft, fresh, ready, busy, joining, over, State, resolved, a-start, a-new, an-edge, a-job, a-stop, eventOf, Move, begins, performs, stops, makes, splits, acts}
-use Rattle.machine.proofs.Invariant.{isNew, codeOf, Shape, Ranks, Roads, Coded}
+use Rattle.machine.proofs.Ghost.{Do, link, hand, free, Control, draft, fresh, ready, busy, joining, over, State, resolved, a-start}
+use Rattle.machine.proofs.Ghost.{a-new, an-edge, a-job, a-stop, eventOf, Move, begins, performs, stops, makes, splits, acts}
+use Rattle.machine.proofs.Invariant.{isNew, Shape, Ranks, Roads, Coded}
 use Rattle.machine.proofs.GhostLaws.{draft-new, fresh-new}
-use Rattle.machine.proofs.Follows.{Words, wordsOf, Shows, shows-draft, shows-fresh, shows-busy, Follows, absent, blocked, is-new, is-over, Answers, says-start, says-new, says-job, says-stop, Stepped, refused, moved}
+use Rattle.machine.proofs.RoadLaws.{busy-code}
+use Rattle.machine.proofs.Unsplit.{MoreToMake, UnsplitAt, Unsplit}
+use Rattle.machine.proofs.Follows.{Words, wordsOf, Shows, shows-draft, shows-fresh, shows-busy, Follows, absent, blocked, is-new}
+use Rattle.machine.proofs.Follows.{is-over, Answers, says-start, says-new, says-job, says-stop, Followed, refused, moved}
 use Rattle.machine.proofs.RowLaws.{rowed-none, rowed-advanced}
 use Rattle.machine.proofs.FollowLaws.{statusOf, follows-status, woken-follows, count-follows}
 use Rattle.machine.proofs.CommandLaws.{blocked-start, into-from, first-task, stands, runs, takes-start}
 use Rattle.machine.proofs.DoneLaws.{shown-as, start-done, stop-done, asked, Room, Joined, joined}
-use Rattle.machine.proofs.StepLaws.{rowOf, steppable-of, step-absent, step-new, step-over, step-released, row-place, job-item, step-command, step-end}
-use Rattle.machine.proofs.Unsplit.{MoreToMake, UnsplitAt, Unsplit}
-use Rattle.machine.proofs.ItemLaws.{does-keeps, Acting, acting, busyRow, Making, Busy, at-end, at-job, making, splitting, busy-cases, job-next}
-use Rattle.machine.proofs.MoveLaws.{tallied, does-calls, new-calls, row-within, by-command, acts-follows, performs-follows, makes-follows, new-held, stop-held}
+use Rattle.machine.proofs.StepLaws.{rowOf, steppable-of, step-absent, step-new, step-over, step-released, row-place, job-item}
+use Rattle.machine.proofs.StepLaws.{step-command, step-end}
+use Rattle.machine.proofs.ItemLaws.{joins-keeps, Acting, acting, busyRow, Making, Busy, at-end, at-job, making, splitting}
+use Rattle.machine.proofs.ItemLaws.{busy-cases, job-next}
+use Rattle.machine.proofs.MoveLaws.{tallied, joins-calls, new-calls, row-within, by-command, acts-follows, performs-follows}
+use Rattle.machine.proofs.MoveLaws.{makes-follows, new-held, stop-held}
 
--- the row of a busy vertex, and its code
+-- the row of a busy vertex
 busy-row : {p : Code} {L σ : ℕ} {w : Words} {c : Code} {ms : List ℕ} → Shows p L w σ (busy c ms) → w ≡ busyRow c σ ms
 busy-row (shows-busy h) = h
-
-busy-code : {x : Control} {c : Code} {ms : List ℕ} → x ≡ busy c ms → codeOf x ≡ some c
-unfolding codeOf
-busy-code q = ap codeOf q
 
 -- statuses by what a vertex is at
 new-is : (x : Control) → isNew x ≡ true → statusOf x ≡ NEW
@@ -98,7 +100,7 @@ module _
     L = length bytes - 1
 
     abbrev Result : Type 0
-    Result = Stepped p L s S v (step bytes s v)
+    Result = Followed p L s S v (step bytes s v)
 
     ok : steppable s ≡ true
     ok = steppable-of s (F .sound-is) limit
@@ -146,13 +148,13 @@ module _
     step-acts c d ds q made a j =
         by-command (asked v d) (on a) (eventOf d) _ F
         (step-command bytes t s v reads ok made (a .k) (a .is-row) (a .stands) (a .item) (a .command) (a .next-is)
-        ∙ does-calls s v (a .item .number) (a .item .spot) (on a) (a .ms) (a .is-row) (a .does))
+        ∙ joins-calls s v (a .item .number) (a .item .spot) (on a) (a .ms) (a .is-row) (a .does))
         (j .is-taken)
         (acts q)
         (acts-follows F v c d ds a j (s .made) within)
         (j .answers)
         (j .held-le)
-        (rowed-advanced _ _ (a .command) v (a .φ) (s .made) (leaves (asked v d) s) within (does-keeps _ (a .does)))
+        (rowed-advanced _ _ (a .command) v (a .φ) (s .made) (leaves (asked v d) s) within (joins-keeps _ (a .does)))
       where
         on : {c : Code} {d : Do} {ds : List Do} → Acting p L (S .scope v) (wordsOf s v) d ds c → Lent → Lent
         on a = advanced (rowOf (a .item)) (a .item .spot) (a .command) v (a .φ) (s .made)
@@ -227,7 +229,7 @@ module _
     -- a job
     step-job : (o n : ℕ) (r : Code) → S .control v ≡ busy (job-at o n r) [] → Result
     step-job o n r q =
-        subst (λ (o : Outcome). Stepped p L s S v o) (sym is-step)
+        subst (λ (o : Outcome). Followed p L s S v o) (sym is-step)
         (moved (a-job o) _ (performs q)
         (count-follows (performs-follows F v o n r (s .made) shown within))
         (subst (λ (z : ℕ). Answers S v (a-job o) (Said.job n z)) (sym at-o) (says-job q))
@@ -299,5 +301,5 @@ pub step-follows :
     → Coded (locate 0 t) S → Unsplit S → Follows (locate 0 t) (length bytes - 1) s S → s .steps < stepLimit
     → ((S' : State) → Move (length bytes - 1) S v a-new S' → s .made < vertexRows (s .vertices))
     → ((S' : State) → Move (length bytes - 1) S v an-edge S' → s .held < edgeRows (s .edges))
-    → Stepped (locate 0 t) (length bytes - 1) s S v (step bytes s v)
+    → Followed (locate 0 t) (length bytes - 1) s S v (step bytes s v)
 step-follows = step-any

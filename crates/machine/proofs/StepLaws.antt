@@ -1,7 +1,8 @@
--- What a step is, by the row of its vertex: a refusal, a start, or the next command of the item at its place.
+-- What a step is, by the row of its vertex: a refusal, a start, or the next command of the item at its place. What stands at the place is
+-- told by the vertex's code (`ItemOf`).
 use Prim.Native.Nat.{ℕ, _-_, _<_, _≤_}
 use mathlib.Core.Path.{_≡_, refl, _∙_, ap}
-use mathlib.Core.Bool.{Bool, true, false, cond}
+use mathlib.Core.Bool.{Bool, true, cond}
 use mathlib.Core.List.{List}
 use mathlib.Core.Option.{Option, some}
 use native.Mathlib.Omega.{arith}
@@ -20,20 +21,13 @@ use Rattle.program.specs.Reader.{program, reading}
 use Rattle.program.specs.Located.{Code, end-at, job-at, async-at, finish-at, fork-at, locate, codeAt, head, itemAt}
 use Rattle.program.specs.Located as code
 use Rattle.program.proofs.LocatedLaws.{item-stands}
-use Rattle.machine.specs.Answers.{Outcome, refuse, unless}
-use Rattle.machine.specs.Stepping.{stepLimit, steppable, place, phase, named, Task, item, spots, task, nth, advanced, calls, doCommand, doNth, doTask, step}
+use Rattle.machine.specs.Answers.{refuse}
+use Rattle.machine.specs.Stepping.{stepLimit, steppable, place, phase, named, Task, item, spots, task, nth, advanced, calls}
+use Rattle.machine.specs.Stepping.{doCommand, doNth, doTask, step}
 use Rattle.machine.proofs.Ghost.{kindOf, goes, resolved}
 use Rattle.machine.proofs.Invariant.{isItem}
 use Rattle.machine.proofs.Follows.{row, wordsOf}
-
--- a test that passes hands on, one that fails refuses
-pass : {b : Bool} (s : Lent) (n : ℕ) (next : Outcome) → b ≡ true → unless s b n next ≡ next
-unfolding unless
-pass s n next q = rw q refl
-
-fail : {b : Bool} (s : Lent) (n : ℕ) (next : Outcome) → b ≡ false → unless s b n next ≡ refuse s n 0
-unfolding unless
-fail s n next q = rw q refl
+use Rattle.machine.proofs.AnswerLaws.{unless-pass, unless-stop}
 
 -- sound tables with steps to go
 pub steppable-of : (s : Lent) → sound s ≡ true → s .steps < stepLimit → steppable s ≡ true
@@ -44,21 +38,23 @@ steppable-of s known lt = both-true known (lt-ltb (s .steps) stepLimit lt)
 module _ (bytes : List ℕ) (s : Lent) (v : ℕ) (ok : steppable s ≡ true) where
   pub step-absent : s .made ≤ v → step bytes s v ≡ refuse s no-such-vertex 0
   unfolding step
-  step-absent le = pass s _ _ ok ∙ fail s _ _ (le-ltb v (s .made) le)
+  step-absent le = unless-pass s _ _ ok ∙ unless-stop s _ _ (le-ltb v (s .made) le)
 
   module _ (made : v < s .made) where
     pub step-new : status (s .vertices) v ≡ NEW → step bytes s v ≡ refuse s vertex-new 0
     unfolding step
     step-new q =
-        pass s _ _ ok ∙ pass s _ _ (lt-ltb v (s .made) made) ∙ fail s _ _ (not-of-true (eq-eqb (status (s .vertices) v) NEW q))
+        unless-pass s _ _ ok
+        ∙ unless-pass s _ _ (lt-ltb v (s .made) made)
+        ∙ unless-stop s _ _ (not-of-true (eq-eqb (status (s .vertices) v) NEW q))
 
     pub step-over : status (s .vertices) v ≡ FINISHED → step bytes s v ≡ refuse s vertex-finished 0
     unfolding step
     step-over q =
-        pass s _ _ ok
-        ∙ pass s _ _ (lt-ltb v (s .made) made)
-        ∙ pass s _ _ (not-of-false (ne-eqb (status (s .vertices) v) NEW (omega arith)))
-        ∙ fail s _ _ (not-of-true (eq-eqb (status (s .vertices) v) FINISHED q))
+        unless-pass s _ _ ok
+        ∙ unless-pass s _ _ (lt-ltb v (s .made) made)
+        ∙ unless-pass s _ _ (not-of-false (ne-eqb (status (s .vertices) v) NEW (omega arith)))
+        ∙ unless-stop s _ _ (not-of-true (eq-eqb (status (s .vertices) v) FINISHED q))
 
     -- one that is neither new nor finished
     step-live :
@@ -67,10 +63,10 @@ module _ (bytes : List ℕ) (s : Lent) (v : ℕ) (ok : steppable s ≡ true) whe
         ≡ cond (hasStatus s v RELEASED) (calls (Start v) s (λ s'. s')) (doTask s v (task (length bytes - 1) (itemAt bytes (place s v))))
     unfolding step
     step-live new over =
-        pass s _ _ ok
-        ∙ pass s _ _ (lt-ltb v (s .made) made)
-        ∙ pass s _ _ (not-of-false (ne-eqb (status (s .vertices) v) NEW new))
-        ∙ pass s _ _ (not-of-false (ne-eqb (status (s .vertices) v) FINISHED over))
+        unless-pass s _ _ ok
+        ∙ unless-pass s _ _ (lt-ltb v (s .made) made)
+        ∙ unless-pass s _ _ (not-of-false (ne-eqb (status (s .vertices) v) NEW new))
+        ∙ unless-pass s _ _ (not-of-false (ne-eqb (status (s .vertices) v) FINISHED over))
 
     -- a released one is started
     pub step-released : status (s .vertices) v ≡ RELEASED → step bytes s v ≡ calls (Start v) s (λ s'. s')
@@ -203,4 +199,4 @@ module _
         (o : ℕ) {σ x y z : ℕ} → wordsOf s v ≡ row EXECUTING (code.place (end-at o)) σ 0 x y z
         → codeAt (locate 0 t) (code.place (end-at o)) ≡ some (end-at o) → step bytes s v ≡ calls (Stop v) s (λ s'. s')
     unfolding doTask task head
-    step-end o h at = step-task (end-at o) h at ∙ pass s _ _ (eq-eqb (phase s v) 0 (row-phase s v h))
+    step-end o h at = step-task (end-at o) h at ∙ unless-pass s _ _ (eq-eqb (phase s v) 0 (row-phase s v h))

@@ -1,6 +1,6 @@
 -- Every trace of an engine is the plain machine's, so demand 3 holds of it.
 use Prim.Native.Nat.{ℕ}
-use mathlib.Core.Path.{_≡_, refl, sym, _∙_, ap, subst}
+use mathlib.Core.Path.{_≡_, sym, _∙_, ap, subst}
 use mathlib.Core.List.{List, [], _∷_, _++_}
 use Rattle.graph.specs.Tables.{Lent}
 use Rattle.program.specs.Trees.{Body}
@@ -9,9 +9,9 @@ use Rattle.machine.specs.Answers.{Said, accepted}
 use Rattle.machine.specs.Stepping.{step}
 use Rattle.machine.specs.Reached.{Reached, begun, stepped, runs, callAnswers}
 use Rattle.machine.specs.Demand3.{Demand3}
-use Rattle.machine.specs.Traces.{Loaded, Stepped, Ran, Trace, load-first, then-step, then-run}
-use Rattle.machine.proofs.Calls.{run-reached}
+use Rattle.machine.specs.Traces.{Trace, load-first, then-step, then-run}
 use Rattle.machine.proofs.Demand3.{demand3, reached-program}
+use Rattle.machine.proofs.Calls.{run-reached}
 
 -- Whatever an engine answers and leaves in a trace is reached by the plain machine.
 pub trace-reached : {bytes : List ℕ} {s₀ : Lent} {answers : List Said} {s : Lent} → Trace bytes s₀ answers s → Reached bytes s₀ answers s
@@ -25,7 +25,8 @@ trace-reached {bytes} {s₀} (then-run {answers} {s} {s'} budget ending last tak
     (run-reached bytes s₀ s budget (trace-reached tr))
 
 -- Demand 3 of every trace.
-pub trace-demand3 : {bytes : List ℕ} {s₀ : Lent} {answers : List Said} {s : Lent} (tr : Trace bytes s₀ answers s)
+pub trace-demand3 :
+    {bytes : List ℕ} {s₀ : Lent} {answers : List Said} {s : Lent} (tr : Trace bytes s₀ answers s)
     → (t : Body) × (reading bytes ≡ program t) × Demand3 bytes t (trace-reached tr)
 trace-demand3 {bytes} tr =
     let (t, r) = reached-program bytes (trace-reached tr) in

@@ -10,36 +10,36 @@ use lib.Dec.{ltb}
 use lib.ListN.{length, length-append}
 use Rattle.graph.specs.Tables.{Lent, usableLimit, vertexWords, edgeWords, vertexRows}
 use Rattle.graph.specs.Tables as tables
-use Rattle.graph.specs.Answers.{no-such-vertex, edge-leads-in, vertex-new, vertex-finished}
 use Rattle.program.specs.Limits.{numberBytes, programBytes, vertexLimit}
 use Rattle.program.specs.Trees.{jobs, Body, end, job, async, finish, fork, total, same, counts}
 use Rattle.program.specs.Encodings.{vertices, edgeRows, steps, firstEdition}
 use Rattle.program.specs.Reader.{reading, program}
 use Rattle.program.specs.Bytes.{topBit, encodeNumber, groupBytes, encode, size}
-use Rattle.program.specs.Located.{locate, last, place, job-at}
-use Rattle.program.proofs.LocatedLaws.{last-locate, laid-locate}
+use Rattle.program.specs.Located.{locate, place, job-at}
 use Rattle.program.specs.Claims.{Loadable}
+use Rattle.program.proofs.LocatedLaws.{laid-locate}
 use Rattle.program.proofs.Formulas.{vertices-formula, steps-formula}
 use Rattle.program.proofs.Exactness.{reading-sound}
-use Rattle.machine.specs.Answers.{Said, Outcome, accepted, refuse}
+use Rattle.machine.specs.Answers.{Said, Outcome, accepted}
 use Rattle.machine.specs.Answers as said
 use Rattle.machine.specs.Loading.{load}
 use Rattle.machine.specs.Stepping.{step, stepLimit}
 use Rattle.machine.specs.Demand2.{Lends}
 use Rattle.machine.specs.Reached.{Reached, begun, stepped}
 use Rattle.machine.specs.Demand3.{acceptedIn, answersJob, ranIn, Written, written, Answered, first, later, ByChoice}
-use Rattle.machine.proofs.Ghost.{State, Event, a-start, a-new, an-edge, a-release, a-transfer, a-job, a-stop, Move}
-use Rattle.machine.proofs.Invariant.{Coded, codeOf}
-use Rattle.machine.proofs.Counts.{news, links, jobAt, move-count, steps-bound, vertices-bound, edges-bound}
-use Rattle.machine.proofs.Weights.{spent}
-use Rattle.machine.proofs.Conservation.{Runs, no-move, and-then}
-use Rattle.machine.proofs.Beginning.{beginning}
-use Rattle.machine.proofs.Follows.{Follows, Refuses, absent, blocked, is-new, is-over, Answers, says-start, says-new, says-edge, says-release, says-transfer, says-job, says-stop, edgeEvent, Tallied, Stepped, refused, moved}
-use Rattle.machine.proofs.Kept.{Inv, inv-beginning, inv-kept}
-use Rattle.machine.proofs.GhostLaws.{clash}
-use Rattle.machine.proofs.StepFollows.{step-follows}
 use Rattle.machine.proofs.LoadLaws.{load-accepted}
-use Rattle.machine.proofs.LoadFollows.{Begun, load-follows}
+use Rattle.machine.proofs.Ghost.{State, Event, a-new, an-edge, Move}
+use Rattle.machine.proofs.Invariant.{Coded, codeOf}
+use Rattle.machine.proofs.GhostLaws.{clash}
+use Rattle.machine.proofs.Beginning.{beginning}
+use Rattle.machine.proofs.InvariantKept.{Inv, inv-beginning, inv-kept}
+use Rattle.machine.proofs.Weights.{spent, news, links, jobAt}
+use Rattle.machine.proofs.Conservation.{Runs, no-move, and-then}
+use Rattle.machine.proofs.Counts.{move-count, steps-bound, vertices-bound, edges-bound}
+use Rattle.machine.proofs.Follows.{Follows, Refuses, absent, blocked, is-new, is-over, Answers, says-start, says-new, says-edge}
+use Rattle.machine.proofs.Follows.{says-release, says-transfer, says-job, says-stop, Tallied, Followed, refused, moved}
+use Rattle.machine.proofs.StepFollows.{step-follows}
+use Rattle.machine.proofs.LoadFollows.{load-follows, last-byte}
 
 -- one answer more
 accepted-snoc : (answers : List Said) (a : Said) → acceptedIn (answers ++ (a ∷ [])) ≡ acceptedIn answers + cond (accepted a) 1 0
@@ -77,16 +77,9 @@ pub record Tracked (bytes : List ℕ) (t : Body) (s₀ : Lent) (answers : List S
   pub refusals : (n p : ℕ) → Answered (said.refused n p) answers → ByChoice n
   pub only-written : (n o : ℕ) → Answered (said.job n o) answers → Written t o n
 
--- the last byte is the end of the main body
-last-is : (bytes : List ℕ) (t : Body) → bytes ≡ encode t → last (locate 0 t) ≡ length bytes - 1
-unfolding size
-last-is bytes t e =
-    let h : suc (last (locate 0 t)) ≡ 0 + size t = last-locate 0 t in
-    let l : length bytes ≡ length (encode t) = ap length e in
-    omega arith
-
 -- After loading.
-pub tracked-begun : (bytes : List ℕ) (t : Body) (s₀ : Lent) → reading bytes ≡ program t → accepted (load bytes s₀ .answer) ≡ true
+pub tracked-begun :
+    (bytes : List ℕ) (t : Body) (s₀ : Lent) → reading bytes ≡ program t → accepted (load bytes s₀ .answer) ≡ true
     → Tracked bytes t s₀ [] (load bytes s₀ .after)
 unfolding acceptedIn ranIn spent
 tracked-begun bytes t s₀ r h =
@@ -95,7 +88,7 @@ tracked-begun bytes t s₀ r h =
       state = beginning (locate 0 t) (length bytes - 1);
       events = [];
       runs = no-move;
-      inv = inv-beginning t (length bytes - 1) (last-is bytes t (reading-sound bytes t r .0));
+      inv = inv-beginning t (length bytes - 1) (last-byte bytes t r);
       follows = f;
       steps-are = b .steps-none;
       accepted-are = refl;
@@ -150,16 +143,6 @@ by-choice (absent h) = inl refl
 by-choice (blocked at u h) = inr (inl refl)
 by-choice (is-new h) = inr (inr (inl refl))
 by-choice (is-over lt h) = inr (inr (inr refl))
-
-edge-links : (e : Event) → edgeEvent e ≡ links e
-unfolding edgeEvent links
-edge-links a-start = refl
-edge-links a-new = refl
-edge-links an-edge = refl
-edge-links a-release = refl
-edge-links a-transfer = refl
-edge-links (a-job o) = refl
-edge-links a-stop = refl
 
 -- a number has a byte
 group-some : (room n : ℕ) → 1 ≤ length (groupBytes (suc room) n)
@@ -216,7 +199,9 @@ module _ (bytes : List ℕ) (t : Body) (s₀ : Lent) (r : reading bytes ≡ prog
     room-edge : (S' : State) → Move (length bytes - 1) (T .state) v an-edge S' → s .held < tables.edgeRows (s .edges)
     unfolding spent links
     room-edge S' m =
-        let a : 1 + spent links (an-edge ∷ T .events) ≤ edgeRows firstEdition t = edges-bound 0 t (length bytes - 1) (and-then (T .runs) m) in
+        let a : 1 + spent links (an-edge ∷ T .events) ≤ edgeRows firstEdition t =
+        edges-bound 0 t (length bytes - 1) (and-then (T .runs) m)
+        in
         omega (arith, a, T .held-le, lends .edge-rows, edge-rows-are s s₀ (T .edge-length))
 
     -- the tally is not used up
@@ -252,7 +237,8 @@ module _ (bytes : List ℕ) (t : Body) (s₀ : Lent) (r : reading bytes ≡ prog
         old k o (inl i) = T .only-written k o i
         old k o (inr e) = clash cc
 
-    moved-tracked : {e : Event} {S' : State} {a : Said} {s' : Lent} → Move (length bytes - 1) (T .state) v e S'
+    moved-tracked :
+        {e : Event} {S' : State} {a : Said} {s' : Lent} → Move (length bytes - 1) (T .state) v e S'
         → Follows (locate 0 t) (length bytes - 1) s' S' → Answers (T .state) v e a → Tallied e s s'
         → Tracked bytes t s₀ (answers ++ (a ∷ [])) s'
     unfolding spent
@@ -261,19 +247,20 @@ module _ (bytes : List ℕ) (t : Body) (s₀ : Lent) (r : reading bytes ≡ prog
           state = S';
           events = e ∷ T .events;
           runs = and-then (T .runs) m;
-          inv = inv-kept (locate 0 t) (laid-locate 0 t) (last-is bytes t (reading-sound bytes t r .0)) (T .inv) m;
+          inv = inv-kept (locate 0 t) (laid-locate 0 t) (last-byte bytes t r) (T .inv) m;
           follows = f;
           steps-are = omega (arith, tally .steps-are, T .steps-are);
           accepted-are = counted (accepted a) (answers-accepted says) (accepted-snoc answers a);
           jobs-are = λ o. omega (arith, ran-snoc o answers a, answers-jobs says o, T .jobs-are o);
-          held-le = omega (arith, tally .held-le, edge-links e, T .held-le);
+          held-le = omega (arith, tally .held-le, T .held-le);
           vertex-length = tally .vertex-length ∙ T .vertex-length;
           edge-length = tally .edge-length ∙ T .edge-length;
           refusals = λ k p i. old k p (answered-snoc answers i);
           only-written = λ k o i. wrote k o (answered-snoc answers i);
         }
       where
-        counted : (b : Bool) → b ≡ true → acceptedIn (answers ++ (a ∷ [])) ≡ acceptedIn answers + cond b 1 0
+        counted :
+            (b : Bool) → b ≡ true → acceptedIn (answers ++ (a ∷ [])) ≡ acceptedIn answers + cond b 1 0
             → acceptedIn (answers ++ (a ∷ [])) ≡ suc (length (T .events))
         counted true p h = omega (arith, h, T .accepted-are)
         counted false p h = clash (sym p)
@@ -287,26 +274,31 @@ module _ (bytes : List ℕ) (t : Body) (s₀ : Lent) (r : reading bytes ≡ prog
         wrote k o (inr q) = answers-written (T .inv .coded) says q
 
     -- what the step is of the ghost machine
-    pub stepped-as : Stepped (locate 0 t) (length bytes - 1) s (T .state) v (step bytes s v)
+    pub stepped-as : Followed (locate 0 t) (length bytes - 1) s (T .state) v (step bytes s v)
     stepped-as =
-        step-follows bytes t s (T .state) v r (T .inv .shape) (T .inv .ranks) (T .inv .roads) (T .inv .coded) (T .inv .unsplit) (T .follows) room-steps room-new
-        room-edge
+        let inv = T .inv in
+        step-follows bytes t s (T .state) v r (inv .shape) (inv .ranks) (inv .roads) (inv .coded) (inv .unsplit) (T .follows) room-steps
+        room-new room-edge
 
     pub tracked-stepped : Tracked bytes t s₀ (answers ++ (step bytes s v .answer ∷ [])) (step bytes s v .after)
     tracked-stepped = go (step bytes s v) stepped-as
       where
-        go : (o : Outcome) → Stepped (locate 0 t) (length bytes - 1) s (T .state) v o → Tracked bytes t s₀ (answers ++ (o .answer ∷ [])) (o .after)
+        go :
+            (o : Outcome) → Followed (locate 0 t) (length bytes - 1) s (T .state) v o
+            → Tracked bytes t s₀ (answers ++ (o .answer ∷ [])) (o .after)
         go o (refused n h e) = rw e (refused-tracked n h)
         go o (moved e S' m f says tally) = moved-tracked m f says tally
 
 -- The rows that the program needs were lent.
-pub rows-lent : (bytes : List ℕ) (t : Body) {s₀ : Lent} {answers : List Said} {s : Lent} → reading bytes ≡ program t → Reached bytes s₀ answers s
+pub rows-lent :
+    (bytes : List ℕ) (t : Body) {s₀ : Lent} {answers : List Said} {s : Lent} → reading bytes ≡ program t → Reached bytes s₀ answers s
     → Lends t s₀
 rows-lent bytes t {s₀} r (begun h) = load-accepted bytes s₀ t r h .0
 rows-lent bytes t r (stepped q v) = rows-lent bytes t r q
 
 -- Whatever is reached is tracked.
-pub tracked : (bytes : List ℕ) (t : Body) {s₀ : Lent} {answers : List Said} {s : Lent} → reading bytes ≡ program t → Reached bytes s₀ answers s
+pub tracked :
+    (bytes : List ℕ) (t : Body) {s₀ : Lent} {answers : List Said} {s : Lent} → reading bytes ≡ program t → Reached bytes s₀ answers s
     → Tracked bytes t s₀ answers s
 tracked bytes t {s₀} r (begun h) = tracked-begun bytes t s₀ r h
 tracked bytes t {s₀} r (stepped q v) = tracked-stepped bytes t s₀ r (rows-lent bytes t r q) (tracked bytes t r q) v

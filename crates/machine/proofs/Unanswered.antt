@@ -1,47 +1,52 @@
--- A job that was not answered yet is held by some vertex: it is among what is left to do, and what is left to do is left to a vertex.
+-- A job that was not answered yet is held by some vertex: it weighs something in what is left to do, and what is left is left to a vertex,
+-- in whose code it is written, or, of a draft, in the code of the vertex that made it.
 use Prim.Native.Nat.{ℕ, zero, suc, _+_}
 use mathlib.Core.Path.{_≡_, refl, sym, _∙_, ap, subst}
-use mathlib.Core.Bool.{Bool, true, false, cond}
-use mathlib.Core.Logic.{_⊎_, inl, inr}
+use mathlib.Core.Logic.{_⊎_, inl, inr, ⊎-elim}
 use mathlib.Core.List.{List, [], _∷_}
 use native.Mathlib.Omega.{arith}
-use lib.Dec.{eqb}
 use lib.ListN.{length, drop}
-use borrow.Author.Tests.{eqb-true}
-use Rattle.program.specs.Trees.{Kind, asyncs, finishes, forks}
-use Rattle.program.specs.Encodings.{Name, Command, perform, newTd, newEdge, transfer, release, firstEdition, weight}
+use Rattle.graph.proofs.TestLaws.{equal?}
+use Rattle.program.specs.Trees.{Kind, jobs, asyncs, finishes, forks}
+use Rattle.program.specs.Encodings.{Name, firstEdition, weight}
 use Rattle.program.specs.Located.{Code, end-at, job-at, async-at, finish-at, fork-at}
 use Rattle.machine.proofs.Ghost.{Do, link, hand, free, Control, draft, fresh, ready, busy, joining, over, State, kids, eventOf}
-use Rattle.machine.proofs.Invariant.{In, Shape, Draft, Drafts}
+use Rattle.machine.proofs.Invariant.{In, Shape, Drafts}
 use Rattle.machine.proofs.GhostLaws.{in-none, in-cases}
 use Rattle.machine.proofs.Weights.{joinWeight, joinsWeight, bodyWeight, kidsWeight, behindWeight, tasksWeight, left, sumBelow, total}
-use Rattle.machine.proofs.Counts.{jobAt}
+use Rattle.machine.proofs.Weights.{jobAt}
+use Rattle.machine.proofs.Counts.{jobsAt, jobs-end, jobs-job, jobs-async, jobs-finish, jobs-fork, other-job}
 use Rattle.machine.proofs.Order.{Job, holds, Held, held}
 
--- a sum is 0 if its parts are
+-- a sum is 0, or one of its parts gives something instead
+parts-or : {A B : Type 0} {all w w' : ℕ} → all ≡ w + w' → (w ≡ 0) ⊎ A → (w' ≡ 0) ⊎ B → (all ≡ 0) ⊎ (A ⊎ B)
+parts-or e (inl x) (inl y) = inl (omega arith)
+parts-or e (inr a) y = inr (inl a)
+parts-or e (inl x) (inr b) = inr (inr b)
+
+-- so is a sum over numbers
 sum-or : {A : Type 0} (f : ℕ → ℕ) → ((v : ℕ) → (f v ≡ 0) ⊎ A) → (n : ℕ) → (sumBelow f n ≡ 0) ⊎ A
 unfolding sumBelow
 sum-or f h zero = inl refl
-sum-or {A} f h (suc n) = go (h n) (sum-or f h n)
-  where
-    go : (f n ≡ 0) ⊎ A → (sumBelow f n ≡ 0) ⊎ A → (f n + sumBelow f n ≡ 0) ⊎ A
-    go (inl x) (inl y) = inl (omega (arith, x, y))
-    go (inr a) y = inr a
-    go (inl x) (inr a) = inr a
+sum-or f h (suc n) = ⊎-elim inl (λ a. inr (⊎-elim (λ x. x) (λ x. x) a)) (parts-or refl (h n) (sum-or f h n))
 
--- joining commands weigh nothing where jobs alone are weighed
-joins-nothing : (p : ℕ) (cs : List Command) → weight (joinWeight (jobAt p)) cs ≡ 0
-unfolding weight joinWeight jobAt
-joins-nothing p [] = refl
-joins-nothing p (perform ∷ cs) = omega (arith, joins-nothing p cs)
-joins-nothing p (newTd a b ∷ cs) = omega (arith, joins-nothing p cs)
-joins-nothing p (newEdge a b ∷ cs) = omega (arith, joins-nothing p cs)
-joins-nothing p (transfer a ∷ cs) = omega (arith, joins-nothing p cs)
-joins-nothing p (release a ∷ cs) = omega (arith, joins-nothing p cs)
+-- a job weighs nothing in code, or it is written there
+job-or : (p : ℕ) (c : Code) → (jobsAt p c ≡ 0) ⊎ Job c p
+unfolding Job
+job-or p (end-at o) = inl (jobs-end p o)
+job-or p (job-at o n r) =
+    parts-or (jobs-job p o n r) (⊎-elim (λ e. inr (sym e)) (λ ne. inl (other-job o p ne)) (equal? o p)) (job-or p r)
+job-or p (async-at o b r) = parts-or (jobs-async p o b r) (job-or p b) (job-or p r)
+job-or p (finish-at o b r) = parts-or (jobs-finish p o b r) (job-or p b) (job-or p r)
+job-or p (fork-at o b c r) = parts-or (jobs-fork p o b c r) (job-or p b) (parts-or refl (job-or p c) (job-or p r))
 
-kind-nothing : (p : ℕ) (k : Kind) → joinsWeight (jobAt p) k ≡ 0
-unfolding joinsWeight
-kind-nothing p k = joins-nothing p (firstEdition k .commands)
+-- commands that join vertices weigh nothing
+joins-nothing : (p : ℕ) (k : Kind) → joinsWeight (jobAt p) k ≡ 0
+unfolding joinsWeight joinWeight weight firstEdition jobAt
+joins-nothing p jobs = refl
+joins-nothing p asyncs = refl
+joins-nothing p finishes = refl
+joins-nothing p forks = refl
 
 tasks-nothing : (p : ℕ) (ds : List Do) → tasksWeight (jobAt p) ds ≡ 0
 unfolding tasksWeight jobAt eventOf
@@ -49,40 +54,6 @@ tasks-nothing p [] = refl
 tasks-nothing p (link a b ∷ ds) = omega (arith, tasks-nothing p ds)
 tasks-nothing p (hand h ∷ ds) = omega (arith, tasks-nothing p ds)
 tasks-nothing p (free m ∷ ds) = omega (arith, tasks-nothing p ds)
-
--- a job weighs nothing in code, or it is written there
-job-or : (p : ℕ) (c : Code) → (bodyWeight (jobAt p) c ≡ 0) ⊎ Job c p
-unfolding bodyWeight jobAt Job
-job-or p (end-at o) = inl refl
-job-or p (job-at o n r) = go (eqb o p) refl (job-or p r)
-  where
-    go : (b : Bool) → eqb o p ≡ b → (bodyWeight (jobAt p) r ≡ 0) ⊎ Job r p → (cond b 1 0 + bodyWeight (jobAt p) r ≡ 0) ⊎ ((p ≡ o) ⊎ Job r p)
-    go true e x = inr (inl (sym (eqb-true o p e)))
-    go false e (inl z) = inl (omega (arith, z))
-    go false e (inr j) = inr (inr j)
-job-or p (async-at o b r) = go (job-or p b) (job-or p r)
-  where
-    go : (bodyWeight (jobAt p) b ≡ 0) ⊎ Job b p → (bodyWeight (jobAt p) r ≡ 0) ⊎ Job r p
-        → (0 + 0 + bodyWeight (jobAt p) b + (joinsWeight (jobAt p) asyncs + bodyWeight (jobAt p) r) ≡ 0) ⊎ (Job b p ⊎ Job r p)
-    go (inl x) (inl y) = inl (omega (arith, x, y, kind-nothing p asyncs))
-    go (inr j) y = inr (inl j)
-    go (inl x) (inr j) = inr (inr j)
-job-or p (finish-at o b r) = go (job-or p b) (job-or p r)
-  where
-    go : (bodyWeight (jobAt p) b ≡ 0) ⊎ Job b p → (bodyWeight (jobAt p) r ≡ 0) ⊎ Job r p
-        → (0 + 0 + bodyWeight (jobAt p) r + (0 + 0 + bodyWeight (jobAt p) b + (joinsWeight (jobAt p) finishes + 0)) ≡ 0) ⊎ (Job b p ⊎ Job r p)
-    go (inl x) (inl y) = inl (omega (arith, x, y, kind-nothing p finishes))
-    go (inr j) y = inr (inl j)
-    go (inl x) (inr j) = inr (inr j)
-job-or p (fork-at o b c r) = go (job-or p b) (job-or p c) (job-or p r)
-  where
-    go : (bodyWeight (jobAt p) b ≡ 0) ⊎ Job b p → (bodyWeight (jobAt p) c ≡ 0) ⊎ Job c p → (bodyWeight (jobAt p) r ≡ 0) ⊎ Job r p
-        → (0 + 0 + bodyWeight (jobAt p) b + (0 + 0 + bodyWeight (jobAt p) c + (0 + 0 + bodyWeight (jobAt p) r + (joinsWeight (jobAt p) forks + 0))) ≡ 0)
-        ⊎ (Job b p ⊎ (Job c p ⊎ Job r p))
-    go (inl x) (inl y) (inl z) = inl (omega (arith, x, y, z, kind-nothing p forks))
-    go (inr j) y z = inr (inl j)
-    go (inl x) (inr j) z = inr (inr (inl j))
-    go (inl x) (inl y) (inr j) = inr (inr (inr j))
 
 -- a job is written in the code of one of these vertices
 unfoldable KidJob : List (Code × Name) → ℕ → Type 0
@@ -105,7 +76,8 @@ kid-job p (fork-at o b c r) (inr (inr (inl j))) = inr (inr j)
 kid-job p (fork-at o b c r) (inr (inr (inr h))) = absurd h
 
 -- a job of a draft is one of its item's vertices'
-draft-job : (S : State) (v m p : ℕ) (all ms : List ℕ) (ks : List (Code × Name)) (c : Code) → Drafts S v all ms ks → In m ms → S .control m ≡ draft c
+draft-job :
+    (S : State) (v m p : ℕ) (all ms : List ℕ) (ks : List (Code × Name)) (c : Code) → Drafts S v all ms ks → In m ms → S .control m ≡ draft c
     → Job c p → KidJob ks p
 unfolding Drafts KidJob
 draft-job S v m p all [] ks c h i e j = in-none i
@@ -125,13 +97,7 @@ draft-job S v m p all (x ∷ ms) (k ∷ ks) c (d, ds) i e j =
 kids-or : (p : ℕ) (ks : List (Code × Name)) → (kidsWeight (jobAt p) ks ≡ 0) ⊎ KidJob ks p
 unfolding kidsWeight KidJob jobAt
 kids-or p [] = inl refl
-kids-or p (k ∷ ks) = go (job-or p (k .0)) (kids-or p ks)
-  where
-    go : (bodyWeight (jobAt p) (k .0) ≡ 0) ⊎ Job (k .0) p → (kidsWeight (jobAt p) ks ≡ 0) ⊎ KidJob ks p
-        → (0 + 0 + bodyWeight (jobAt p) (k .0) + kidsWeight (jobAt p) ks ≡ 0) ⊎ (Job (k .0) p ⊎ KidJob ks p)
-    go (inl x) (inl y) = inl (omega (arith, x, y))
-    go (inr j) y = inr (inl j)
-    go (inl x) (inr j) = inr (inr j)
+kids-or p (k ∷ ks) = parts-or (omega arith) (job-or p (k .0)) (kids-or p ks)
 
 -- the last ones among all
 kids-drop : (p n : ℕ) (ks : List (Code × Name)) → KidJob (drop n ks) p → KidJob ks p
@@ -145,46 +111,28 @@ behind-or : (p : ℕ) (c : Code) → (behindWeight (jobAt p) c ≡ 0) ⊎ Job c 
 unfolding behindWeight bodyWeight jobAt Job
 behind-or p (end-at o) = inl refl
 behind-or p (job-at o n r) = job-or p (job-at o n r)
-behind-or p (async-at o b r) = go (job-or p r)
-  where
-    go : (bodyWeight (jobAt p) r ≡ 0) ⊎ Job r p → (joinsWeight (jobAt p) asyncs + bodyWeight (jobAt p) r ≡ 0) ⊎ (Job b p ⊎ Job r p)
-    go (inl x) = inl (omega (arith, x, kind-nothing p asyncs))
-    go (inr j) = inr (inr j)
-behind-or p (finish-at o b r) = inl (omega (arith, kind-nothing p finishes))
-behind-or p (fork-at o b c r) = inl (omega (arith, kind-nothing p forks))
+behind-or p (async-at o b r) = ⊎-elim (λ z. inl (omega (arith, z, joins-nothing p asyncs))) (λ j. inr (inr j)) (job-or p r)
+behind-or p (finish-at o b r) = inl (omega (arith, joins-nothing p finishes))
+behind-or p (fork-at o b c r) = inl (omega (arith, joins-nothing p forks))
 
 -- What is left to a vertex weighs nothing, or some vertex holds the job.
 held-or : (S : State) (v p : ℕ) → Shape S → (x : Control) → S .control v ≡ x → (left (jobAt p) x ≡ 0) ⊎ ((u : ℕ) × Held S u p)
 unfolding left jobAt holds tasksWeight
-held-or S v p shape (draft c) e = go (job-or p c) (shape .drafts v c e)
-  where
-    go : (bodyWeight (jobAt p) c ≡ 0) ⊎ Job c p
-        → (c' : Code) × (ms : List ℕ) × (S .control (S .maker v) ≡ busy c' ms) × In v ms → (0 + bodyWeight (jobAt p) c ≡ 0) ⊎ ((u : ℕ) × Held S u p)
-    go (inl z) h = inl (omega (arith, z))
-    go (inr j) (c', ms, at, i) =
-        inr (S .maker v, held c' (ap holds at) (kid-job p c' (draft-job S (S .maker v) v p ms ms (kids c') c (shape .under-way (S .maker v) c' ms at .0) i e j)))
-held-or S v p shape (fresh c) e = go (job-or p c)
-  where
-    go : (bodyWeight (jobAt p) c ≡ 0) ⊎ Job c p → (0 + bodyWeight (jobAt p) c ≡ 0) ⊎ ((u : ℕ) × Held S u p)
-    go (inl z) = inl (omega (arith, z))
-    go (inr j) = inr (v, held c (ap holds e) j)
-held-or S v p shape (ready c) e = go (job-or p c)
-  where
-    go : (bodyWeight (jobAt p) c ≡ 0) ⊎ Job c p → (0 + bodyWeight (jobAt p) c ≡ 0) ⊎ ((u : ℕ) × Held S u p)
-    go (inl z) = inl (omega (arith, z))
-    go (inr j) = inr (v, held c (ap holds e) j)
-held-or S v p shape (busy c ms) e = go (kids-or p (drop (length ms) (kids c))) (behind-or p c)
-  where
-    go : (kidsWeight (jobAt p) (drop (length ms) (kids c)) ≡ 0) ⊎ KidJob (drop (length ms) (kids c)) p → (behindWeight (jobAt p) c ≡ 0) ⊎ Job c p
-        → (kidsWeight (jobAt p) (drop (length ms) (kids c)) + behindWeight (jobAt p) c ≡ 0) ⊎ ((u : ℕ) × Held S u p)
-    go (inl x) (inl y) = inl (omega (arith, x, y))
-    go (inr k) y = inr (v, held c (ap holds e) (kid-job p c (kids-drop p (length ms) (kids c) k)))
-    go (inl x) (inr j) = inr (v, held c (ap holds e) j)
-held-or S v p shape (joining c d ds) e = go (job-or p c)
-  where
-    go : (bodyWeight (jobAt p) c ≡ 0) ⊎ Job c p → (tasksWeight (jobAt p) (d ∷ ds) + bodyWeight (jobAt p) c ≡ 0) ⊎ ((u : ℕ) × Held S u p)
-    go (inl z) = inl (omega (arith, z, tasks-nothing p (d ∷ ds)))
-    go (inr j) = inr (v, held c (ap holds e) j)
+held-or S v p shape (draft c) e =
+    ⊎-elim (λ z. inl (omega (arith, z)))
+    (λ j.
+    let (c', ms, at, i) = shape .drafts v c e in
+    let drafts = shape .under-way (S .maker v) c' ms at .0 in
+    inr (S .maker v, held c' (ap holds at) (kid-job p c' (draft-job S (S .maker v) v p ms ms (kids c') c drafts i e j))))
+    (job-or p c)
+held-or S v p shape (fresh c) e = ⊎-elim (λ z. inl (omega (arith, z))) (λ j. inr (v, held c (ap holds e) j)) (job-or p c)
+held-or S v p shape (ready c) e = ⊎-elim (λ z. inl (omega (arith, z))) (λ j. inr (v, held c (ap holds e) j)) (job-or p c)
+held-or S v p shape (busy c ms) e =
+    ⊎-elim inl
+    (λ j. inr (v, held c (ap holds e) (⊎-elim (λ k. kid-job p c (kids-drop p (length ms) (kids c) k)) (λ j. j) j)))
+    (parts-or refl (kids-or p (drop (length ms) (kids c))) (behind-or p c))
+held-or S v p shape (joining c d ds) e =
+    ⊎-elim (λ z. inl (omega (arith, z, tasks-nothing p (d ∷ ds)))) (λ j. inr (v, held c (ap holds e) j)) (job-or p c)
 held-or S v p shape over e = inl refl
 
 -- Nothing of a job is left to do, or some vertex holds it.

@@ -7,10 +7,11 @@ use mathlib.Core.List.{List, [], _∷_, _++_}
 use native.Mathlib.Omega.{arith}
 use lib.ListN.{length, drop, length-append, length-drop}
 use Rattle.program.specs.Encodings.{Name}
-use Rattle.program.specs.Located.{Code, end-at}
-use Rattle.machine.proofs.Ghost.{Do, link, hand, free, Control, draft, fresh, ready, busy, joining, over, State, put, kids, onward, woken, freed, among, done, Event, Move, begins, performs, stops, makes, splits, acts}
-use Rattle.machine.proofs.Beginning.{beginning}
-use Rattle.machine.proofs.GhostLaws.{put-cases}
+use Rattle.program.specs.Located.{Code}
+use Rattle.machine.proofs.Ghost.{Do, link, hand, free, Control, draft, fresh, ready, busy, joining, over, State, put, kids, onward}
+use Rattle.machine.proofs.Ghost.{woken, freed, among, done, Event, Move, begins, performs, stops, makes, splits, acts}
+use Rattle.machine.proofs.GhostLaws.{put-all}
+use Rattle.machine.proofs.Beginning.{beginning, beginning-control}
 
 -- fewer than all of the item's vertices are made, where one is
 unfoldable pub MoreToMake : Code → List ℕ → Type 0
@@ -29,10 +30,6 @@ UnsplitAt over = Unit {0}
 -- and of all vertices
 abbrev pub Unsplit : State → Type 0
 Unsplit S = (v : ℕ) → UnsplitAt (S .control v)
-
--- a control that changes
-put-unsplit : (f : ℕ → Control) (v : ℕ) (x : Control) → ((u : ℕ) → UnsplitAt (f u)) → UnsplitAt x → (u : ℕ) → UnsplitAt (put f v x u)
-put-unsplit f v x all one u = put-cases (λ y. UnsplitAt y) f v x u (λ q. one) (λ ne. all u)
 
 -- what the moves put there has made nothing, or is what was there
 onward-unsplit : (c : Code) (ds : List Do) → UnsplitAt (onward c ds)
@@ -66,7 +63,7 @@ done-unsplit : (S : State) (v : ℕ) (d : Do) → Unsplit S → Unsplit (done S 
 unfolding done
 done-unsplit S v (link a b) h = h
 done-unsplit S v (hand k) h = h
-done-unsplit S v (free m) h = put-unsplit (S .control) m _ h (freed-unsplit (S .control m) (h m))
+done-unsplit S v (free m) h = put-all UnsplitAt (S .control) m _ h (freed-unsplit (S .control m) (h m))
 
 -- one more of at least two that were to be made
 more-left :
@@ -81,22 +78,22 @@ more-left c ms n q = shaped ms (omega (arith, ap (λ l. length l) q, length-drop
 -- every move keeps it
 pub unsplit-kept : {L : ℕ} {S S' : State} {v : ℕ} {e : Event} → Move L S v e S' → Unsplit S → Unsplit S'
 unfolding UnsplitAt MoreToMake
-unsplit-kept {S} {v} (begins {c = c} q none) h = put-unsplit (S .control) v (busy c []) h tt
-unsplit-kept {S} {v} (performs {r = r} q) h = put-unsplit (S .control) v (busy r []) h tt
-unsplit-kept {S} {v} (stops q) h = put-unsplit (S .control) v over h tt
+unsplit-kept {S} {v} (begins {c = c} q none) h = put-all UnsplitAt (S .control) v (busy c []) h tt
+unsplit-kept {S} {v} (performs {r = r} q) h = put-all UnsplitAt (S .control) v (busy r []) h tt
+unsplit-kept {S} {v} (stops q) h = put-all UnsplitAt (S .control) v over h tt
 unsplit-kept {S} {v} (makes {c = c} {ms = ms} {k = k} q next) h =
-    put-unsplit (put (S .control) (S .count) (draft k)) v _ (put-unsplit (S .control) (S .count) (draft k) h tt)
+    put-all UnsplitAt (put (S .control) (S .count) (draft k)) v _ (put-all UnsplitAt (S .control) (S .count) (draft k) h tt)
     (more-left c ms (S .count) next)
 unsplit-kept {S} {v} (splits {ms = ms} {k = k} q last) h =
-    put-unsplit (put _ (S .count) (fresh k)) v _
-    (put-unsplit _ (S .count) (fresh k)
+    put-all UnsplitAt (put _ (S .count) (fresh k)) v _
+    (put-all UnsplitAt _ (S .count) (fresh k)
     (λ u. cond-unsplit (among u ms) (woken (S .control u)) (S .control u) (woken-unsplit (S .control u) (h u)) (h u))
     tt)
     (onward-unsplit _ _)
 unsplit-kept {S} {v} (acts {c = c} {d = d} {ds = ds} q) h =
-    put-unsplit (done S v d .control) v (onward c ds) (done-unsplit S v d h) (onward-unsplit c ds)
+    put-all UnsplitAt (done S v d .control) v (onward c ds) (done-unsplit S v d h) (onward-unsplit c ds)
 
 -- and it holds at the beginning
 pub unsplit-beginning : (p : Code) (L : ℕ) → Unsplit (beginning p L)
-unfolding beginning UnsplitAt
-unsplit-beginning p L = put-unsplit _ 0 (ready p) (put-unsplit (λ u. over) 1 (ready (end-at L)) (λ u. tt) tt) tt
+unfolding UnsplitAt
+unsplit-beginning p L v = beginning-control p L UnsplitAt v (λ e. tt) (λ e. tt) (λ n n'. tt)

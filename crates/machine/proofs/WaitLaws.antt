@@ -12,10 +12,10 @@ use Rattle.program.specs.Located.{Code, end-at, job-at, async-at, finish-at, fo
 use Rattle.program.proofs.LocatedLaws.{Laid, code-laid}
 use Rattle.machine.proofs.Ghost.{Do, Control, draft, fresh, ready, busy, joining, over, State, onward, freed}
 use Rattle.machine.proofs.Invariant.{codeOf, isItem, waits, isDraft, Settled, Way, Roads, Coded}
-use Rattle.machine.proofs.OrderLaws.{job-before, pre-not-first}
 use Rattle.machine.proofs.RoadLaws.{busy-waits}
 use Rattle.machine.proofs.Ways.{way-last, nothing-to}
 use Rattle.machine.proofs.Order.{Job, Pre, holds, Held, Waits, for-way, for-scope, for-scopes-way, Orders}
+use Rattle.machine.proofs.OrderLaws.{job-before, pre-not-first}
 
 -- an end byte is no job
 pub end-job : (o p : ℕ) → Job (end-at o) p → ⊥
@@ -23,13 +23,13 @@ unfolding Job
 end-job o p h = h
 
 -- code with a job starts with an item
-pub job-item : (c : Code) (p : ℕ) → Job c p → isItem c ≡ true
+pub job-has-item : (c : Code) (p : ℕ) → Job c p → isItem c ≡ true
 unfolding Job isItem
-job-item (end-at o) p h = absurd h
-job-item (job-at o n r) p h = refl
-job-item (async-at o b r) p h = refl
-job-item (finish-at o b r) p h = refl
-job-item (fork-at o b c r) p h = refl
+job-has-item (end-at o) p h = absurd h
+job-has-item (job-at o n r) p h = refl
+job-has-item (async-at o b r) p h = refl
+job-has-item (finish-at o b r) p h = refl
+job-has-item (fork-at o b c r) p h = refl
 
 -- what a vertex holds is its code, and it is no draft
 pub holds-code : (x : Control) {c : Code} → holds x ≡ some c → (codeOf x ≡ some c) × (isDraft x ≡ false)
@@ -63,7 +63,7 @@ holds-freed over = refl
 -- a vertex that holds a job has a way to its scope
 pub held-way :
     {S : State} {u : ℕ} {c : Code} (p : ℕ) → Roads S → holds (S .control u) ≡ some c → Job c p → Way (Settled S) u (S .scope u)
-held-way {S} {u} {c} p rs h j = let (k, d) = holds-code (S .control u) h in rs .way u c (k, job-item c p j) d
+held-way {S} {u} {c} p rs h j = let (k, d) = holds-code (S .control u) h in rs .way u c (k, job-has-item c p j) d
 
 -- so an edge leads to its scope
 pub scope-led :

@@ -9,8 +9,7 @@ use Rattle.program.specs.Located.{Code}
 use Rattle.machine.proofs.Ghost.{Do, link, Control, draft, fresh, ready, busy, joining, over, State}
 use Rattle.machine.proofs.Invariant.{In, tasks, tasksOf, codeOf, waits, isNew, isDraft, Settled, held, given, planned, Way, one}
 use Rattle.machine.proofs.Invariant.{more, Shape, HasItem, Roads}
-use Rattle.machine.proofs.GhostLaws.{clash, draft-new, fresh-new, doer-below}
-use Rattle.machine.proofs.RoadLaws.{in-empty}
+use Rattle.machine.proofs.GhostLaws.{clash, draft-new, fresh-new, doer-below, in-empty}
 
 -- a way by edges that are still there
 pub way-map : {R R' : ℕ → ℕ → Type 0} {a b : ℕ} → ((x y : ℕ) → R x y → R' x y) → Way R a b → Way R' a b

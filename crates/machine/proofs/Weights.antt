@@ -3,14 +3,18 @@
 --
 -- An item's commands are weighed in two parts: making a vertex together with all that this vertex will do (`kidWeight`), and joining the
 -- vertices (`joinsWeight`). So once some of its vertices are made, an item weighs what the others weigh, and what is behind them.
+--
+-- At the end stand the weights that are used: every event, new vertices, new edges, and the job at an offset.
 use Prim.Native.Nat.{ℕ, zero, suc, _+_}
+use mathlib.Core.Bool.{cond}
 use mathlib.Core.List.{List, [], _∷_}
+use lib.Dec.{eqb}
 use lib.ListN.{length, drop}
 use Rattle.program.specs.Trees.{Kind, asyncs, finishes, forks}
 use Rattle.program.specs.Encodings.{Name, Command, perform, newTd, newEdge, transfer, release, firstEdition, weight}
 use Rattle.program.specs.Located.{Code, end-at, job-at, async-at, finish-at, fork-at}
-use Rattle.machine.proofs.Ghost.{Do, Control, draft, fresh, ready, busy, joining, over, State, kids}
-use Rattle.machine.proofs.Ghost.{Event, a-start, a-new, an-edge, a-release, a-transfer, a-job, a-stop, eventOf}
+use Rattle.machine.proofs.Ghost.{Do, Control, draft, fresh, ready, busy, joining, over, State, kids, Event, a-start, a-new, an-edge}
+use Rattle.machine.proofs.Ghost.{a-release, a-transfer, a-job, a-stop, eventOf}
 
 -- what a command weighs that joins vertices
 unfoldable pub joinWeight : (Event → ℕ) → Command → ℕ
@@ -83,3 +87,33 @@ spent ω (e ∷ es) = ω e + spent ω es
 -- every event weighs 1
 abbrev pub each : Event → ℕ
 each e = 1
+
+-- 1 for a new vertex
+unfoldable pub news : Event → ℕ
+news a-start = 0
+news a-new = 1
+news an-edge = 0
+news a-release = 0
+news a-transfer = 0
+news (a-job o) = 0
+news a-stop = 0
+
+-- 1 for a new edge
+unfoldable pub links : Event → ℕ
+links a-start = 0
+links a-new = 0
+links an-edge = 1
+links a-release = 0
+links a-transfer = 0
+links (a-job o) = 0
+links a-stop = 0
+
+-- 1 for the job at offset q
+unfoldable pub jobAt : ℕ → Event → ℕ
+jobAt q a-start = 0
+jobAt q a-new = 0
+jobAt q an-edge = 0
+jobAt q a-release = 0
+jobAt q a-transfer = 0
+jobAt q (a-job o) = cond (eqb o q) 1 0
+jobAt q a-stop = 0

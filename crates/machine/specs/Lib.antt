@@ -1,18 +1,21 @@
--- What a reader must believe of the crate `machine`: document 01's plain machine, in its order.
+-- What a reader must believe of the crate `machine`: document 01's plain machine, in its order, and what is proved of it.
 --     Answers    what a call answers, and its outcome
 --     Loading    "Loading clears the used rows and the tally, .."
 --     Stepping   "A step names a vertex."
 --     Running    "A run takes a budget of steps .."
---     Reached    what can be reached from a loading, and lists of calls
+--     Demand2    the words in which demand 2 is stated of loading, of steps and of runs
 --     Ahead      "Which job comes ahead"
+--     Reached    what can be reached from a loading, and lists of calls
 --     Demand3    demand 3
+--     Traces     traces of an engine, as the contracts of its calls tie them
+--     Examples   the starred bench examples, as one table
 pub mod Answers
 pub mod Loading
 pub mod Stepping
 pub mod Running
-pub mod Reached
-pub mod Ahead
-pub mod Demand3
 pub mod Demand2
-pub mod Examples
+pub mod Ahead
+pub mod Reached
+pub mod Demand3
 pub mod Traces
+pub mod Examples

@@ -6,7 +6,6 @@ use lib.Dec.{leb}
 use lib.ListN.{length}
 use Rattle.graph.specs.Tables.{Lent, RELEASED, vertexWords, edgeWords, placeWord, scopeWord, vertexRows, edgeRows, setStatus, setVertexWord, clear}
 use Rattle.graph.specs.Commands.{appended}
-use Rattle.program.specs.Trees.{Body}
 use Rattle.program.specs.Encodings as needs
 use Rattle.program.specs.Encodings.{firstEdition}
 use Rattle.program.specs.Reader.{Reading, program, refusal, reading}

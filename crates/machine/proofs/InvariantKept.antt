@@ -1,4 +1,5 @@
--- All that holds of a reached state, kept by every move.
+-- All that holds of a reached state, `Inv`: the four parts of the invariant, that items not split have vertices to make, that vertices that
+-- are over have no edge out, and the order of jobs. It holds after loading, and every move keeps it.
 use Prim.Native.Nat.{ℕ}
 use mathlib.Core.Path.{_≡_}
 use Rattle.program.specs.Trees.{Body}
@@ -6,17 +7,17 @@ use Rattle.program.specs.Located.{Code, last, locate}
 use Rattle.program.proofs.LocatedLaws.{Laid, laid-locate}
 use Rattle.machine.proofs.Ghost.{State, Event, Move}
 use Rattle.machine.proofs.Invariant.{Shape, Ranks, Roads, Coded}
-use Rattle.machine.proofs.Unsplit.{Unsplit, unsplit-kept, unsplit-beginning}
-use Rattle.machine.proofs.Ended.{Ended, ended-kept, ended-beginning}
 use Rattle.machine.proofs.ShapeKept.{shape-kept}
-use Rattle.machine.proofs.RanksKept.{ranks-kept}
 use Rattle.machine.proofs.RoadsKept.{roads-kept}
+use Rattle.machine.proofs.RanksKept.{ranks-kept}
 use Rattle.machine.proofs.CodedKept.{coded-kept}
+use Rattle.machine.proofs.Ended.{Ended, ended-kept, ended-beginning}
+use Rattle.machine.proofs.Unsplit.{Unsplit, unsplit-kept, unsplit-beginning}
+use Rattle.machine.proofs.Beginning.{beginning}
 use Rattle.machine.proofs.BeginningShape.{shape-beginning}
 use Rattle.machine.proofs.BeginningRoads.{ranks-beginning, roads-beginning, coded-beginning}
 use Rattle.machine.proofs.Order.{Orders}
 use Rattle.machine.proofs.OrderKept.{orders-kept, orders-beginning}
-use Rattle.machine.proofs.Beginning.{beginning}
 
 -- what holds of every state that is reached, in a program p
 pub record Inv (p : Code) (S : State) : Type 0 where
