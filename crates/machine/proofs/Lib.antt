@@ -4,7 +4,7 @@
 --
 -- The theorems:
 --     Demand3         demand 3, of whatever is reached from an accepted loading
---     Traces          every trace of an engine is the plain machine's, so demand 3 holds of it
+--     Traces          demand 3 of every list of calls, and of every trace of an engine, which is the plain machine's
 --     Calls           a list of calls, runs among them, reaches what its steps reach
 --     LoadLaws        demand 2 of loading: what is accepted, and that a refusal changes nothing
 --     StepDemand2     demand 2 of a step: it is what is due, taken where its command is

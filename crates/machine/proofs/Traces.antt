@@ -1,4 +1,4 @@
--- Every trace of an engine is the plain machine's, so demand 3 holds of it.
+-- Demand 3 of every list of calls, runs among them and the empty one too, and of every trace of an engine, which is the plain machine's.
 use Prim.Native.Nat.{ℕ}
 use mathlib.Core.Path.{_≡_, sym, _∙_, ap, subst}
 use mathlib.Core.List.{List, [], _∷_, _++_}
@@ -6,12 +6,13 @@ use Rattle.graph.specs.Tables.{Lent}
 use Rattle.program.specs.Trees.{Body}
 use Rattle.program.specs.Reader.{reading, program}
 use Rattle.machine.specs.Answers.{Said, accepted}
+use Rattle.machine.specs.Loading.{load}
 use Rattle.machine.specs.Stepping.{step}
-use Rattle.machine.specs.Reached.{Reached, begun, stepped, runs, callAnswers}
+use Rattle.machine.specs.Reached.{Reached, begun, stepped, Call, runs, callAnswers}
 use Rattle.machine.specs.Demand3.{Demand3}
 use Rattle.machine.specs.Traces.{Trace, load-first, then-step, then-run}
 use Rattle.machine.proofs.Demand3.{demand3, reached-program}
-use Rattle.machine.proofs.Calls.{run-reached}
+use Rattle.machine.proofs.Calls.{run-reached, calls-reached}
 
 -- Whatever an engine answers and leaves in a trace is reached by the plain machine.
 pub trace-reached : {bytes : List ℕ} {s₀ : Lent} {answers : List Said} {s : Lent} → Trace bytes s₀ answers s → Reached bytes s₀ answers s
@@ -31,3 +32,12 @@ pub trace-demand3 :
 trace-demand3 {bytes} tr =
     let (t, r) = reached-program bytes (trace-reached tr) in
     (t, r, demand3 bytes t r (trace-reached tr))
+
+-- Demand 3 of every list of calls from an accepted loading.
+pub list-demand3 :
+    (bytes : List ℕ) (s₀ : Lent) (h : accepted (load bytes s₀ .answer) ≡ true) (cs : List Call)
+    → (t : Body) × (reading bytes ≡ program t) × Demand3 bytes t (calls-reached bytes s₀ cs (load bytes s₀ .after) (begun h))
+list-demand3 bytes s₀ h cs =
+    let q = calls-reached bytes s₀ cs (load bytes s₀ .after) (begun h) in
+    let (t, r) = reached-program bytes q in
+    (t, r, demand3 bytes t r q)
