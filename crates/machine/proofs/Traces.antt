@@ -1,6 +1,7 @@
 -- Demand 3 of every list of calls, runs among them and the empty one too, and of every trace of an engine, which is the plain machine's.
 use Prim.Native.Nat.{ℕ}
 use mathlib.Core.Path.{_≡_, sym, _∙_, ap, subst}
+use mathlib.Core.Bool.{true}
 use mathlib.Core.List.{List, [], _∷_, _++_}
 use Rattle.graph.specs.Tables.{Lent}
 use Rattle.program.specs.Trees.{Body}
