@@ -97,7 +97,7 @@ module _ (bytes : List ℕ) (s₀ : Lent) (budget : ℕ) where
   on-made : (left : ℕ) → Onward (runOn bytes left) left
   unfolding runOn
   on-made zero s last taken steps e =
-      look-made _ 0 s last taken (allFinished s) (lowest bytes s) (λ l q. absurd (omega arith)) steps e refl (lowest-finds bytes s)
+      look-made _ 0 s last taken _ _ (λ l q. absurd (omega arith)) steps e refl (lowest-finds bytes s)
   on-made (suc left) s last taken steps e =
       look-made (runOn bytes left) (suc left) s last taken (allFinished s) (lowest bytes s)
       (λ l q. let same : left ≡ l = omega arith in subst (λ (k : ℕ). Onward (runOn bytes left) k) same (on-made left))
