@@ -17,6 +17,11 @@ pub const PLACE: usize = 1;
 
 pub const SCOPE: usize = 2;
 
+pub const PHASE: usize = 3;
+
+// The first of the three; the others follow it.
+pub const MADE: usize = 4;
+
 // An edge row.
 pub const EDGE_WORDS: usize = 2;
 

@@ -1,0 +1,156 @@
+-- Loading, by the code's four returns: the program is refused, too few vertex rows, too few edge rows, or loaded.
+use Prim.Native.Nat.{ℕ, zero, suc, _+_, _-_, _*_, _<_, _≤_}
+use mathlib.Core.Path.{_≡_, refl, sym, _∙_, ap}
+use mathlib.Core.List.{List, [], _∷_}
+use native.Mathlib.Omega.{arith}
+use lib.ListN.{length, set, length-set}
+use Rattle.graph.specs.declared.Tally.{Tally}
+use Rattle.graph.specs.declared.Done.{Done}
+use Rattle.graph.specs.Tables.{Lent, lent, RELEASED, vertexWords, statusWord, placeWord, scopeWord, edgeWords, vertexRows, edgeRows, setVertexWord, setStatus, clear}
+use Rattle.graph.specs.Answers.{outcome}
+use Rattle.graph.specs.Answers as graph-answers
+use Rattle.graph.specs.Commands.{openingRefusal, openedTables, opening, appended}
+use Rattle.graph.proofs.CallLaws.{opening-accepted}
+use Rattle.graph.proofs.RefusalLaws.{decided-is}
+use Rattle.program.specs.declared.ItemCounts.{ItemCounts}
+use Rattle.program.specs.Limits.{programBytes}
+use Rattle.program.specs.Trees.{Counts, counts, Body}
+use Rattle.program.specs.Bytes.{encode, size}
+use Rattle.program.specs.Encodings.{firstEdition, vertexFormula, edgeRowFormula}
+use Rattle.program.specs.Encodings as needs
+use Rattle.program.specs.Reader.{Reading, program, refusal, reading}
+use Rattle.program.specs.Answers.{loads, told, itemCounts}
+use Rattle.program.specs.Answers as of-program
+use Rattle.program.proofs.Formulas.{vertices-formula, edgeRows-formula}
+use Rattle.program.proofs.ReadingLaws.{encode-positive}
+use Rattle.program.proofs.Exactness.{reading-sound}
+use Rattle.machine.specs.Answers.{Said, Outcome, accepted}
+use Rattle.machine.specs.Loading.{placed, loadedTables, load}
+use Rattle.machine.specs.Demand2.{Unloaded, unread, few-vertex-rows, few-edge-rows}
+use Rattle.machine.specs.Traces.{Loaded}
+use Rattle.machine.proofs.LoadLaws.{load-taken, load-refused, load-keeps}
+
+-- words stored twice, and the length of a table that was cleared
+set-set : (l : List ℕ) (i x y : ℕ) → set (set l i x) i y ≡ set l i y
+set-set [] i x y = refl
+set-set (z ∷ l) zero x y = refl
+set-set (z ∷ l) (suc i) x y = ap (λ (r : List ℕ). z ∷ r) (set-set l i x y)
+
+clear-length : (l : List ℕ) (from n : ℕ) → length (clear l from n) ≡ length l
+unfolding clear
+clear-length l from zero = refl
+clear-length l from (suc n) = length-set (clear l from n) (from + n) 0 ∙ clear-length l from n
+
+-- what reading told
+unread-is : (r : Reading) {n p : ℕ} → of-program.Said.refused n p ≡ told r → r ≡ refusal n p
+unfolding told
+unread-is (program b) h = absurd (let z : _≡_ {A = ℕ} 0 1 = cc in omega arith)
+unread-is (refusal n p) h = cc
+
+record Read (bytes : List ℕ) (c : Counts) : Type 0 where
+  tree : Body
+  is-read : reading bytes ≡ program tree
+  counted : c ≡ counts tree
+
+read-is : (bytes : List ℕ) (r : Reading) {c : Counts} → reading bytes ≡ r → loads c ≡ told r → Read bytes c
+unfolding told
+read-is bytes (program b) e h = record { tree = b; is-read = e; counted = cc }
+read-is bytes (refusal n p) e h = absurd (let z : _≡_ {A = ℕ} 0 1 = cc in omega arith)
+
+-- a refusal
+refusing : (bytes : List ℕ) (s : Lent) {a : Said} {after : Lent} (n p : ℕ) → Unloaded bytes s n p → a ≡ Said.refused n p → after ≡ s → Loaded bytes s a after
+refusing bytes s n p u h k =
+    let o : load bytes s .answer ≡ Said.refused n p = load-refused bytes s n p .1 u in
+    record { says = h ∙ sym o; leaves = k ∙ sym (load-keeps bytes s (ap accepted o)) }
+
+refused-lent : (v e : List ℕ) {t t' : Tally} → t' ≡ t → lent v e t' ≡ lent v e t
+refused-lent v e p = ap (lent v e) p
+
+pub load-unread :
+    (bytes v e : List ℕ) (t : Tally) {a : Said} {t' : Tally} (n p : ℕ) → of-program.Said.refused n p ≡ told (reading bytes)
+    → (a ≡ Said.refused n p) × (t' ≡ t) → Loaded bytes (lent v e t) a (lent v e t')
+load-unread bytes v e t n p is h = refusing bytes (lent v e t) n p (unread (unread-is (reading bytes) is)) (h .0) (refused-lent v e (h .1))
+
+-- the rows that a program needs, as the code counts them
+needs-vertices : (b : Body) {c : Counts} {n : ℕ} → c ≡ counts b → n ≡ vertexFormula c → n ≡ needs.vertices firstEdition b
+needs-vertices b p q = q ∙ ap vertexFormula p ∙ sym (vertices-formula b)
+
+needs-edges : (b : Body) {c : Counts} {n : ℕ} → c ≡ counts b → n ≡ edgeRowFormula c → n ≡ needs.edgeRows firstEdition b
+needs-edges b p q = q ∙ ap edgeRowFormula p ∙ sym (edgeRows-formula b)
+
+below : {r r' n n' : ℕ} → r ≡ r' → n ≡ n' → r < n → r' < n'
+below p q h = omega arith
+
+enough : {r r' n n' : ℕ} → r ≡ r' → n ≡ n' → n ≤ r → n' ≤ r'
+enough p q h = omega arith
+
+-- what opening leaves, where there are rows
+opened : (v e : List ℕ) (t : Tally) (r : Done) (v' e' : List ℕ) → outcome r v' e' ≡ opening (lent v e t) → 2 ≤ vertexRows v → (v' ≡ setStatus (clear v 0 (vertexWords * vertexRows v)) 0 RELEASED) × (e' ≡ clear e 0 (edgeWords * edgeRows e))
+unfolding opening openedTables
+opened v e t r v' e' h two =
+    let s : Lent = lent v e t in
+    let some-rows : vertexRows v ≡ 0 → ⊥ = omega arith in
+    let o : outcome r v' e' ≡ record { answer = graph-answers.Said.opened; after = openedTables s } = h ∙ decided-is s (openingRefusal s) _ _ (sym (opening-accepted s refl some-rows)) in
+    (ap (λ (x : graph-answers.Outcome). x .after .vertices) o, ap (λ (x : graph-answers.Outcome). x .after .edges) o)
+
+placed-again : (x : List ℕ) (k p : ℕ) → placed (setStatus x k RELEASED) k p ≡ placed x k p
+placed-again x k p = ap (λ (y : List ℕ). setVertexWord (setVertexWord y k placeWord p) k scopeWord 1) (set-set x (vertexWords * k + statusWord) RELEASED RELEASED)
+
+module _ (bytes v e : List ℕ) (t : Tally) (c : ItemCounts) (is : loads (itemCounts c) ≡ told (reading bytes)) {vr vn : ℕ} (rows : vr ≡ vertexRows v) (need : vn ≡ vertexFormula (itemCounts c)) where
+  found : Read bytes (itemCounts c)
+  found = read-is bytes (reading bytes) refl is
+
+  pub load-few-vertices : {a : Said} {t' : Tally} → vr < vn → (a ≡ Said.refused 10 0) × (t' ≡ t) → Loaded bytes (lent v e t) a (lent v e t')
+  load-few-vertices lt h =
+      refusing bytes (lent v e t) 10 0 (few-vertex-rows (found .tree) (found .is-read) (below rows (needs-vertices (found .tree) (found .counted) need) lt)) (h .0) (refused-lent v e (h .1))
+
+  there : vn ≤ vr → needs.vertices firstEdition (found .tree) ≤ vertexRows v
+  there le = enough rows (needs-vertices (found .tree) (found .counted) need) le
+
+  pub load-few-edges : {a : Said} {t' : Tally} {er en : ℕ} → vn ≤ vr → er ≡ edgeRows e → en ≡ edgeRowFormula (itemCounts c) → er < en → (a ≡ Said.refused 11 0) × (t' ≡ t) → Loaded bytes (lent v e t) a (lent v e t')
+  load-few-edges le erows eneed lt h =
+      refusing bytes (lent v e t) 11 0 (few-edge-rows (found .tree) (found .is-read) (there le) (below erows (needs-edges (found .tree) (found .counted) eneed) lt)) (h .0) (refused-lent v e (h .1))
+
+  two-rows : vn ≤ vr → 2 ≤ vertexRows v
+  two-rows le = omega arith
+
+  pub loaded-length : (1 ≤ length bytes) × (length bytes ≤ programBytes)
+  unfolding size
+  loaded-length = let (p, q) = reading-sound bytes (found .tree) (found .is-read) in within (found .tree) p (q .bytes)
+    where
+      within : (b : Body) → bytes ≡ encode b → size b ≤ programBytes → (1 ≤ length bytes) × (length bytes ≤ programBytes)
+      within b p q = rw p (encode-positive b, q)
+
+  module _ (le : vn ≤ vr) (r : Done) (v' e' : List ℕ) (left : outcome r v' e' ≡ opening (lent v e t)) where
+    as-opened : (v' ≡ setStatus (clear v 0 (vertexWords * vertexRows v)) 0 RELEASED) × (e' ≡ clear e 0 (edgeWords * edgeRows e))
+    as-opened = opened v e t r v' e' left (two-rows le)
+
+    -- what placing the first two vertices asks for
+    pub first-two : (2 ≤ vertexRows v') × (1 ≤ length bytes) × (length bytes ≤ programBytes)
+    first-two =
+        let same : length v' ≡ length v = ap length (as-opened .0) ∙ length-set (clear v 0 (vertexWords * vertexRows v)) 0 RELEASED ∙ clear-length v 0 (vertexWords * vertexRows v) in
+        let two : 2 ≤ vertexRows v = two-rows le in
+        let rows-there : 2 ≤ vertexRows v' = omega arith in
+        (rows-there, loaded-length .0, loaded-length .1)
+
+    module _ {er en : ℕ} (erows : er ≡ edgeRows e) (eneed : en ≡ edgeRowFormula (itemCounts c)) (enough-edges : en ≤ er) where
+      pub edge-there : 1 < length (set e' 0 0)
+      edge-there =
+          let same : length (set e' 0 0) ≡ length e = length-set e' 0 0 ∙ ap length (as-opened .1) ∙ clear-length e 0 (edgeWords * edgeRows e) in
+          omega arith
+
+      tables : {v'' : List ℕ} → v'' ≡ placed (placed v' 0 0) 1 (length bytes - 1) → _≡_ {A = Lent} (record { vertices = v''; edges = set (set e' 0 0) 1 1; made = 2; held = 1; steps = 0 }) (loadedTables bytes (lent v e t))
+      unfolding loadedTables appended
+      tables placing =
+          λ i. record {
+            vertices = (placing ∙ ap (λ (x : List ℕ). placed (placed x 0 0) 1 (length bytes - 1)) (as-opened .0) ∙ ap (λ (x : List ℕ). placed x 1 (length bytes - 1)) (placed-again (clear v 0 (vertexWords * vertexRows v)) 0 0)) i;
+            edges = ap (λ (x : List ℕ). set (set x 0 0) 1 1) (as-opened .1) i;
+            made = 2;
+            held = 1;
+            steps = 0;
+          }
+
+      pub load-accepted : {v'' : List ℕ} → v'' ≡ placed (placed v' 0 0) 1 (length bytes - 1) → Loaded bytes (lent v e t) Said.loaded (record { vertices = v''; edges = set (set e' 0 0) 1 1; made = 2; held = 1; steps = 0 })
+      load-accepted placing =
+          let o = load-taken bytes (lent v e t) (found .tree) (found .is-read) (record { vertex-rows = there le; edge-rows = enough erows (needs-edges (found .tree) (found .counted) eneed) enough-edges }) in
+          record { says = ap (λ (x : Outcome). x .answer) (sym o); leaves = tables placing ∙ ap (λ (x : Outcome). x .after) (sym o) }

@@ -1,0 +1,45 @@
+-- Five words stored, one after the other.
+use borrow.Author.Needs.{needs}
+use native.Mathlib.Omega.{arith}
+use mathlib.Core.Path.{refl}
+use lib.ListN.{length-set}
+use Rattle.engine.specs.Private.{stored}
+use Rattle.engine.proofs.steps.store.Statement.{statement}
+use Rattle.engine.proofs.steps.store.Tie as tie
+
+slice-write-vertices-2 : tie.Need-slice-write-vertices-2
+slice-write-vertices-2 c = simp length-set (omega arith)
+
+slice-write-vertices-3 : tie.Need-slice-write-vertices-3
+slice-write-vertices-3 c = simp length-set (omega arith)
+
+slice-write-vertices-4 : tie.Need-slice-write-vertices-4
+slice-write-vertices-4 c = simp length-set (omega arith)
+
+slice-write-vertices-5 : tie.Need-slice-write-vertices-5
+slice-write-vertices-5 c = simp length-set (omega arith)
+
+returns : tie.Need-returns
+unfolding stored
+returns c = refl
+
+pub store-spec : {M : Type 1} → statement M
+store-spec = tie.close (tie.spec
+    (λ c. search needs)
+    (λ c. search needs)
+    (λ c. search needs)
+    (λ c. search needs)
+    (λ c. search needs)
+    (λ c. search needs)
+    slice-write-vertices-2
+    (λ c. search needs)
+    (λ c. search needs)
+    slice-write-vertices-3
+    (λ c. search needs)
+    (λ c. search needs)
+    slice-write-vertices-4
+    (λ c. search needs)
+    (λ c. search needs)
+    slice-write-vertices-5
+    (λ c. search needs)
+    returns)

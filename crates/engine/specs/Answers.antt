@@ -1,0 +1,30 @@
+-- "Where an answer is an enum, a definition gives this paper's number and values for each of its cases": the plain machine's answers have
+-- them.
+use Rattle.machine.specs.Answers.{Said}
+use Rattle.machine.specs.Demand2 as machine
+use Rattle.engine.specs.declared.Answer.{Answer}
+use Rattle.engine.specs.declared.Answer.the-variants as of-answer
+use Rattle.engine.specs.declared.Own.{Own}
+use Rattle.engine.specs.declared.Due.{Due}
+use Rattle.engine.specs.declared.Due.the-variants as of-due
+
+abbrev pub said : Answer → Said
+said of-answer.Loaded = Said.loaded
+said of-answer.Start = Said.start
+said (of-answer.New v) = Said.new v
+said (of-answer.Edge a b) = Said.edge a b
+said (of-answer.Release v) = Said.release v
+said (of-answer.Transfer v) = Said.transfer v
+said (of-answer.Job n o) = Said.job n o
+said of-answer.Stop = Said.stop
+said (of-answer.Refused r) = Said.refused (r .number) (r .place)
+
+-- a vertex's own words
+abbrev pub ownWords : Own → machine.Own
+ownWords w = machine.own (w .place) (w .phase) (w .first) (w .second) (w .third)
+
+-- what is due at a step
+abbrev pub dueOf : Due → machine.Due
+dueOf (of-due.Refused n) = machine.refusal-due n
+dueOf (of-due.Job n o w) = machine.job-due n o (ownWords w)
+dueOf (of-due.Command c w) = machine.command-due c (ownWords w)

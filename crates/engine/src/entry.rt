@@ -1,0 +1,32 @@
+// The entry points: the tally is lent too, as a struct by `&mut`. Each is thin, over the by-value core of the same name.
+use crate::Answer;
+use crate::load::load_by_value;
+use crate::steps::step_by_value;
+use graph::Tally;
+ghost use Rattle.graph.specs.Tables.{lent};
+ghost use Rattle.machine.specs.Traces.{Loaded, Stepped};
+ghost use Rattle.engine.specs.Answers.{said};
+
+pub fn load(program: &[u8], vertices: &mut [u32], edges: &mut [u32], tally: &mut Tally) -> Answer
+    ensures { λ r. ⌜ Loaded (now (program .entry)) (lent (now (vertices .entry)) (now (edges .entry)) (now (tally .entry))) (said r) (lent (now (vertices .exit)) (now (edges .exit)) (now (tally .exit))) ⌝ }
+{
+    let before = *tally;
+    let done = load_by_value(program, vertices, edges, before);
+    *tally = done.tally;
+    done.answer
+}
+
+pub fn step(
+    program: &[u8],
+    vertices: &mut [u32],
+    edges: &mut [u32],
+    tally: &mut Tally,
+    vertex: u32,
+) -> Answer
+    ensures { λ r. ⌜ Stepped (now (program .entry)) (lent (now (vertices .entry)) (now (edges .entry)) (now (tally .entry))) vertex (said r) (lent (now (vertices .exit)) (now (edges .exit)) (now (tally .exit))) ⌝ }
+{
+    let before = *tally;
+    let done = step_by_value(program, vertices, edges, before, vertex);
+    *tally = done.tally;
+    done.answer
+}

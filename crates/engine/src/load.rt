@@ -1,0 +1,79 @@
+// Loading a program.
+use crate::Answer;
+use crate::Done;
+use graph::Refusal;
+use graph::Tally;
+use graph::commands::open_by_value;
+use graph::rows::PLACE;
+use graph::rows::RELEASED;
+use graph::rows::SCOPE;
+use graph::rows::STATUS;
+use graph::rows::VERTEX_WORDS;
+use graph::rows::edge_rows;
+use graph::rows::vertex_rows;
+use program::ProgramRead;
+use program::reading::read;
+ghost use mathlib.Core.Path.{_≡_};
+ghost use Prim.Native.Nat.{_-_, _≤_};
+ghost use Rattle.graph.specs.Tables.{lent, vertexRows};
+ghost use Rattle.program.specs.Limits.{programBytes};
+ghost use Rattle.machine.specs.Loading.{placed};
+ghost use Rattle.machine.specs.Answers.{Said};
+ghost use Rattle.machine.specs.Traces.{Loaded};
+ghost use Rattle.engine.specs.Answers.{said};
+
+pub const TOO_FEW_VERTEX_ROWS: u32 = 10;
+
+pub const TOO_FEW_EDGE_ROWS: u32 = 11;
+
+// Loads a program, with the tally by value: clears the usable rows and the tally, then sets vertices 0 and 1 and the edge between them.
+pub fn load_by_value(program: &[u8], vertices: &mut [u32], edges: &mut [u32], tally: Tally) -> Done
+    ensures { λ r. ⌜ Loaded (now (program .entry)) (lent (now (vertices .entry)) (now (edges .entry)) tally) (said (r .answer)) (lent (now (vertices .exit)) (now (edges .exit)) (r .tally)) ⌝ }
+{
+    let reading = read(program);
+    match reading {
+        ProgramRead::Refused(refusal) => refused(refusal.number, refusal.place, tally),
+        ProgramRead::Program(items) => {
+            if (vertex_rows(vertices) as u64) < program::reading::vertices(items) {
+                return refused(TOO_FEW_VERTEX_ROWS, 0, tally);
+            }
+            if (edge_rows(edges) as u64) < program::reading::edge_rows(items) {
+                return refused(TOO_FEW_EDGE_ROWS, 0, tally);
+            }
+            open_by_value(vertices, edges, tally);
+            place_first(vertices, program.len());
+            edges[0] = 0;
+            edges[1] = 1;
+            Done {
+                answer: Answer::Loaded,
+                tally: Tally {
+                    made: 2,
+                    held: 1,
+                    steps: 0,
+                },
+            }
+        }
+    }
+}
+
+fn refused(number: u32, place: u32, tally: Tally) -> Done
+    ensures { λ r. ⌜ (said (r .answer) ≡ Said.refused number place) × (r .tally ≡ tally) ⌝ }
+{
+    Done {
+        answer: Answer::Refused(Refusal { number, place }),
+        tally,
+    }
+}
+
+// Vertex 0 at the program's first byte and vertex 1 at its last, both released and with the scope 1.
+fn place_first(vertices: &mut [u32], length: usize)
+    requires { ⌜ (2 ≤ vertexRows (now vertices)) × (1 ≤ length) × (length ≤ programBytes) ⌝ }
+    ensures { λ _. ⌜ now (vertices .exit) ≡ placed (placed (now (vertices .entry)) 0 0) 1 (length - 1) ⌝ }
+{
+    vertices[STATUS] = RELEASED;
+    vertices[PLACE] = 0;
+    vertices[SCOPE] = 1;
+    vertices[VERTEX_WORDS + STATUS] = RELEASED;
+    vertices[VERTEX_WORDS + PLACE] = (length - 1) as u32;
+    vertices[VERTEX_WORDS + SCOPE] = 1;
+}

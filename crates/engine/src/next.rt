@@ -1,0 +1,343 @@
+// What is due at a step of a vertex. Nothing is stored here.
+use crate::Due;
+use crate::Own;
+use graph::Command;
+use graph::Tally;
+use graph::refusals::NO_SUCH_VERTEX;
+use graph::refusals::UNSOUND_TABLES;
+use graph::refusals::VERTEX_FINISHED;
+use graph::refusals::VERTEX_NEW;
+use graph::rows::FINISHED;
+use graph::rows::MADE;
+use graph::rows::NEW;
+use graph::rows::PHASE;
+use graph::rows::PLACE;
+use graph::rows::RELEASED;
+use graph::rows::SCOPE;
+use graph::rows::STATUS;
+use graph::rows::VERTEX_WORDS;
+use graph::sound::is_sound;
+use program::ItemRead;
+use program::format::NOTHING_STARTS;
+use program::format::PROGRAM_BYTES;
+use program::items::item_at;
+ghost use mathlib.Core.Path.{_≡_};
+ghost use Rattle.graph.specs.Tables.{lent};
+ghost use Prim.Native.Nat.{_+_, _<_, _≤_};
+ghost use Rattle.graph.specs.declared.Command.the-variants.{NewTd, NewEdge, Release, Transfer};
+ghost use Rattle.program.specs.Answers.{Stands};
+ghost use Rattle.machine.specs.Demand2 as machine;
+ghost use Rattle.machine.specs.Demand2.{due};
+ghost use Rattle.engine.specs.Answers.{ownWords, dueOf};
+ghost use Rattle.engine.specs.Private.{Next, NextAt, EndNext, JobNext, AsyncNext, ForkNext, ForkLast};
+
+// The words of the vertices that the item at hand made.
+pub const FIRST: usize = MADE;
+
+pub const SECOND: usize = MADE + 1;
+
+pub const THIRD: usize = MADE + 2;
+
+// A step is refused where this many were taken.
+pub const STEP_LIMIT: u32 = 8192;
+
+// What is due at a step of `vertex`.
+pub fn next_due(program: &[u8], vertices: &[u32], edges: &[u32], tally: Tally, vertex: u32) -> Due
+    ensures { λ r. ⌜ dueOf r ≡ due (now (program .entry)) (lent (now (vertices .entry)) (now (edges .entry)) tally) vertex ⌝ }
+{
+    if !is_sound(vertices, edges, tally) {
+        return Due::Refused(UNSOUND_TABLES);
+    }
+    if STEP_LIMIT <= tally.steps {
+        return Due::Refused(UNSOUND_TABLES);
+    }
+    if tally.made <= vertex {
+        return Due::Refused(NO_SUCH_VERTEX);
+    }
+    let at = VERTEX_WORDS * (vertex as usize);
+    if vertices[at + STATUS] == NEW {
+        return Due::Refused(VERTEX_NEW);
+    }
+    if vertices[at + STATUS] == FINISHED {
+        return Due::Refused(VERTEX_FINISHED);
+    }
+    let own = Own {
+        place: vertices[at + PLACE],
+        phase: vertices[at + PHASE],
+        first: vertices[at + FIRST],
+        second: vertices[at + SECOND],
+        third: vertices[at + THIRD],
+    };
+    if vertices[at + STATUS] == RELEASED {
+        return Due::Command {
+            command: Command::Start { vertex },
+            own,
+        };
+    }
+    executing(program, vertex, vertices[at + SCOPE], own, tally.made)
+}
+
+// What is due at the step of an executing vertex with these words, where so many vertices are made.
+fn executing(program: &[u8], vertex: u32, scope: u32, own: Own, made: u32) -> Due
+    ensures { λ r. ⌜ Next (now (program .entry)) vertex scope (ownWords own) made (dueOf r) ⌝ }
+{
+    let length = program.len();
+    if length == 0 {
+        return Due::Refused(NOTHING_STARTS);
+    }
+    if PROGRAM_BYTES < length {
+        return Due::Refused(NOTHING_STARTS);
+    }
+    let last = (length - 1) as u32;
+    let item = item_at(program, own.place);
+    match item {
+        ItemRead::Refused(refusal) => Due::Refused(NOTHING_STARTS),
+        ItemRead::End => end_next(vertex, own),
+        ItemRead::Job { number, past } => job_next(vertex, own, number, past),
+        ItemRead::Async { body, past } => async_next(vertex, scope, own, made, body, past),
+        ItemRead::Finish { body, past } => finish_next(vertex, scope, own, made, body, past, last),
+        ItemRead::Fork { left, right, past } => {
+            fork_next(vertex, scope, own, made, left, right, past, last)
+        }
+    }
+}
+
+// At an end byte: stop, which moves nothing.
+fn end_next(vertex: u32, own: Own) -> Due
+    ensures { λ r. ⌜ EndNext vertex (ownWords own) (dueOf r) ⌝ }
+{
+    if own.phase != 0 {
+        return Due::Refused(NOTHING_STARTS);
+    }
+    Due::Command {
+        command: Command::Stop { caller: vertex },
+        own,
+    }
+}
+
+// A job: one step that names it; then past the item.
+fn job_next(vertex: u32, own: Own, number: u32, past: u32) -> Due
+    ensures { λ r. ⌜ JobNext vertex (ownWords own) number past (dueOf r) ⌝ }
+{
+    if own.phase != 0 {
+        return Due::Refused(NOTHING_STARTS);
+    }
+    Due::Job {
+        number,
+        offset: own.place,
+        own: idle(past),
+    }
+}
+
+// An async: newTd m1 (its body, own scope); newEdge m1 to own scope; release m1; then past the item.
+fn async_next(vertex: u32, scope: u32, own: Own, made: u32, body: u32, past: u32) -> Due
+    ensures { λ r. ⌜ AsyncNext vertex scope (ownWords own) made body past (dueOf r) ⌝ }
+{
+    let phase = own.phase;
+    if phase == 0 {
+        return new_td(vertex, body, scope, keeping(own, 0, made));
+    }
+    if phase == 1 {
+        return new_edge(vertex, own.first, scope, onward(own));
+    }
+    if phase == 2 {
+        return release(vertex, own.first, idle(past));
+    }
+    Due::Refused(NOTHING_STARTS)
+}
+
+// A finish: newTd m1 (past the item, own scope); newTd m2 (its body, scope m1); newEdge m2 to m1; transfer to m1; release m1; release
+// m2; then the last byte.
+fn finish_next(vertex: u32, scope: u32, own: Own, made: u32, body: u32, past: u32, last: u32) -> Due
+    ensures { λ r. ⌜ NextAt last vertex scope (ownWords own) made (Stands.finish body past) (dueOf r) ⌝ }
+{
+    let phase = own.phase;
+    if phase == 0 {
+        return new_td(vertex, past, scope, keeping(own, 0, made));
+    }
+    if phase == 1 {
+        return new_td(vertex, body, own.first, keeping(own, 1, made));
+    }
+    if phase == 2 {
+        return new_edge(vertex, own.second, own.first, onward(own));
+    }
+    if phase == 3 {
+        return transfer(vertex, own.first, onward(own));
+    }
+    if phase == 4 {
+        return release(vertex, own.first, onward(own));
+    }
+    if phase == 5 {
+        return release(vertex, own.second, idle(last));
+    }
+    Due::Refused(NOTHING_STARTS)
+}
+
+// A fork: newTd m1 (left), m2 (right), m3 (past the item), all with own scope; newEdge m1 to m3; newEdge m2 to m3; transfer to m3;
+// release m3, m1, m2; then the last byte.
+fn fork_next(
+    vertex: u32,
+    scope: u32,
+    own: Own,
+    made: u32,
+    left: u32,
+    right: u32,
+    past: u32,
+    last: u32,
+) -> Due
+    ensures { λ r. ⌜ NextAt last vertex scope (ownWords own) made (Stands.fork left right past) (dueOf r) ⌝ }
+{
+    let phase = own.phase;
+    if phase < 3 {
+        return fork_makes(vertex, scope, own, made, left, right, past);
+    }
+    if phase == 3 {
+        return new_edge(vertex, own.first, own.third, onward(own));
+    }
+    if phase == 4 {
+        return new_edge(vertex, own.second, own.third, onward(own));
+    }
+    if phase == 5 {
+        return transfer(vertex, own.third, onward(own));
+    }
+    fork_releases(vertex, own, last)
+}
+
+// A fork's first three commands.
+fn fork_makes(vertex: u32, scope: u32, own: Own, made: u32, left: u32, right: u32, past: u32) -> Due
+    requires { ⌜ own .phase < 3 ⌝ }
+    ensures { λ r. ⌜ ForkNext vertex scope (ownWords own) made left right past (dueOf r) ⌝ }
+{
+    let phase = own.phase;
+    if phase == 0 {
+        return new_td(vertex, left, scope, keeping(own, 0, made));
+    }
+    if phase == 1 {
+        return new_td(vertex, right, scope, keeping(own, 1, made));
+    }
+    new_td(vertex, past, scope, keeping(own, 2, made))
+}
+
+// A fork's last three commands.
+fn fork_releases(vertex: u32, own: Own, last: u32) -> Due
+    requires { ⌜ 6 ≤ own .phase ⌝ }
+    ensures { λ r. ⌜ ForkLast last vertex (ownWords own) (dueOf r) ⌝ }
+{
+    let phase = own.phase;
+    if phase == 6 {
+        return release(vertex, own.third, onward(own));
+    }
+    if phase == 7 {
+        return release(vertex, own.first, onward(own));
+    }
+    if phase == 8 {
+        return release(vertex, own.second, idle(last));
+    }
+    Due::Refused(NOTHING_STARTS)
+}
+
+// The own words of a vertex with no item under way.
+fn idle(place: u32) -> Own
+    ensures { λ r. ⌜ ownWords r ≡ machine.own place 0 0 0 0 ⌝ }
+{
+    Own {
+        place,
+        phase: 0,
+        first: 0,
+        second: 0,
+        third: 0,
+    }
+}
+
+// The own words after one more command of an item.
+fn onward(own: Own) -> Own
+    requires { ⌜ own .phase < 8 ⌝ }
+    ensures { λ r. ⌜ ownWords r ≡ machine.withPhase (own .phase + 1) (ownWords own) ⌝ }
+{
+    Own {
+        place: own.place,
+        phase: own.phase + 1,
+        first: own.first,
+        second: own.second,
+        third: own.third,
+    }
+}
+
+// The same after the item's newTd behind so many others, which made `vertex`.
+fn keeping(own: Own, others: u32, vertex: u32) -> Own
+    requires { ⌜ own .phase < 8 ⌝ }
+    ensures { λ r. ⌜ ownWords r ≡ machine.withPhase (own .phase + 1) (machine.withMade others vertex (ownWords own)) ⌝ }
+{
+    let next = own.phase + 1;
+    let place = own.place;
+    if others == 0 {
+        return Own {
+            place,
+            phase: next,
+            first: vertex,
+            second: own.second,
+            third: own.third,
+        };
+    }
+    if others == 1 {
+        return Own {
+            place,
+            phase: next,
+            first: own.first,
+            second: vertex,
+            third: own.third,
+        };
+    }
+    Own {
+        place,
+        phase: next,
+        first: own.first,
+        second: own.second,
+        third: vertex,
+    }
+}
+
+// The calculus' commands.
+fn new_td(caller: u32, place: u32, scope: u32, own: Own) -> Due
+    ensures { λ r. ⌜ dueOf r ≡ machine.command-due (NewTd caller place scope) (ownWords own) ⌝ }
+{
+    Due::Command {
+        command: Command::NewTd {
+            caller,
+            place,
+            scope,
+        },
+        own,
+    }
+}
+
+fn new_edge(caller: u32, source: u32, target: u32, own: Own) -> Due
+    ensures { λ r. ⌜ dueOf r ≡ machine.command-due (NewEdge caller source target) (ownWords own) ⌝ }
+{
+    Due::Command {
+        command: Command::NewEdge {
+            caller,
+            source,
+            target,
+        },
+        own,
+    }
+}
+
+fn release(caller: u32, vertex: u32, own: Own) -> Due
+    ensures { λ r. ⌜ dueOf r ≡ machine.command-due (Release caller vertex) (ownWords own) ⌝ }
+{
+    Due::Command {
+        command: Command::Release { caller, vertex },
+        own,
+    }
+}
+
+fn transfer(caller: u32, vertex: u32, own: Own) -> Due
+    ensures { λ r. ⌜ dueOf r ≡ machine.command-due (Transfer caller vertex) (ownWords own) ⌝ }
+{
+    Due::Command {
+        command: Command::Transfer { caller, vertex },
+        own,
+    }
+}
