@@ -1,0 +1,98 @@
+// The turns of a program. Each accepted step has a line; the refused ones are counted by their numbers, and all that they left and
+// were answered goes into one sum.
+use crate::show;
+use engine::Answer;
+use engine::load::load_by_value;
+use engine::steps::step_by_value;
+use graph::Tally;
+
+pub(crate) fn run(program: &[u8], vertices: &mut [u32], edges: &mut [u32]) {
+    show::bytes(program);
+    let before = Tally {
+        made: 5,
+        held: 6,
+        steps: 8172,
+    };
+    let done = load_by_value(program, vertices, edges, before);
+    let answer = done.answer;
+    let tally = done.tally;
+    show::answer(answer);
+    show::left(tally, vertices, edges);
+    let mut counts = [0u32; 40];
+    all(program, vertices, edges, tally, &mut counts);
+}
+
+fn all(program: &[u8], vertices: &mut [u32], edges: &mut [u32], tally: Tally, counts: &mut [u32]) {
+    let mut now = tally;
+    let mut sum: u64 = 0;
+    for turn in 0..1200u32 {
+        let vertex = named(turn, now.made);
+        let done = step_by_value(program, vertices, edges, now, vertex);
+        let answer = done.answer;
+        now = done.tally;
+        sum = after(sum, vertex, answer, now, vertices, edges);
+        count(counts, refusal(answer));
+    }
+    all_counts(counts);
+    show::number(b" sum ", (sum % 1000003) as u32);
+    show::left(now, vertices, edges);
+}
+
+// The vertex of a turn: all that are made, and the two next numbers.
+fn named(turn: u32, made: u32) -> u32 {
+    (turn % 8192 * 5 + turn / 9) % (made % 4096 + 2)
+}
+
+// The number and place of a refusal as one number.
+fn refusal(answer: Answer) -> u64 {
+    match answer {
+        Answer::Loaded => 0,
+        Answer::Start => 0,
+        Answer::New(v) => 0,
+        Answer::Edge(a, b) => 0,
+        Answer::Release(v) => 0,
+        Answer::Transfer(v) => 0,
+        Answer::Job { number, offset } => 0,
+        Answer::Stop => 0,
+        Answer::Refused(r) => (r.number as u64) * 4294967296 + (r.place as u64),
+    }
+}
+
+fn after(
+    sum: u64,
+    vertex: u32,
+    answer: Answer,
+    tally: Tally,
+    vertices: &[u32],
+    edges: &[u32],
+) -> u64 {
+    let refused = refusal(answer);
+    if refused == 0 {
+        show::number(b"", vertex);
+        show::text(b" ");
+        show::answer(answer);
+        show::left(tally, vertices, edges);
+        return sum;
+    }
+    let tables = (show::sum(vertices) as u64) + (show::sum(edges) as u64);
+    let numbers = (tally.made as u64) + (tally.held as u64) + (tally.steps as u64);
+    (sum % 1000003 * 31 + refused % 1000003 + (vertex as u64) * 64 + tables + numbers) % 1000003
+}
+
+fn count(counts: &mut [u32], refused: u64) {
+    let number = (refused / 4294967296) as usize;
+    if number < counts.len() {
+        counts[number] = counts[number] % 65536 + 1;
+    }
+}
+
+// Accepted steps stand under 0.
+fn all_counts(counts: &[u32]) {
+    show::text(b"counts");
+    for i in 0..counts.len() {
+        if 0 < counts[i] {
+            show::number(b" ", (i % 65536) as u32);
+            show::number(b":", counts[i]);
+        }
+    }
+}

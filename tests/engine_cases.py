@@ -1,0 +1,330 @@
+#!/usr/bin/env python3
+"""The lines that the program `engine_cases` must write, from a model of document 01's loading and steps that shares no code with
+the engine.
+
+    tests/engine_cases.py > crates/engine_cases/stdout
+
+The program is parsed to nested lists, vertices and edges are objects, and an item is a generator of its commands; rows of words are
+made only to write their sums."""
+
+NEW, RELEASED, EXECUTING, FINISHED = 1, 2, 3, 4
+
+
+class Refused(Exception):
+    def __str__(self):
+        return "refused {} {}".format(*self.args, *[0] * (2 - len(self.args)))
+
+
+def need(test, *refusal):
+    if not test:
+        raise Refused(*refusal)
+
+
+class Text:
+    """The bytes of a program, and how far they are read."""
+
+    def __init__(self, data):
+        self.data, self.at = data, 0
+
+    def byte(self):
+        need(self.at < len(self.data), 5, len(self.data))
+        self.at += 1
+        return self.data[self.at - 1]
+
+    def number(self):
+        first, groups = self.at, []
+        while not groups or groups[-1] > 127:
+            need(len(groups) < 3, 2, first)
+            groups.append(self.byte())
+        need(len(groups) == 1 or groups[-1], 2, first)
+        value = sum(group % 128 * 128**i for i, group in enumerate(groups))
+        need(value <= 65535, 7, first)
+        return value
+
+    def body(self, level):
+        """[place, items.., end], where an item is [kind, place, past, contents..]."""
+        body = [self.at]
+        while True:
+            place = self.at
+            kind = self.byte()
+            if kind == 0:
+                return body + [["end", place, place]]
+            need(kind <= 4, 3, place)
+            if kind == 1:
+                contents = [self.number()]
+            else:
+                need(level < 32, 4, place)
+                contents = [self.body(level + 1) for _ in range(1 + (kind == 4))]
+            body.append([["job", "async", "finish", "fork"][kind - 1], place, self.at] + contents)
+
+
+def parse(data):
+    need(0 < len(data) <= 4096, 1)
+    text = Text(data)
+    main = text.body(1)
+    need(text.at == len(data), 6, text.at)
+    need(vertices_of(main) <= 1022, 8)
+    return main
+
+
+def items(body):
+    for item in body[1:]:
+        yield item
+        if item[0] not in ("job", "end"):
+            for inner in item[3:]:
+                yield from items(inner)
+
+
+def vertices_of(body):
+    return sum({"async": 1, "finish": 2, "fork": 3}.get(item[0], 0) for item in items(body))
+
+
+def edges_of(body):
+    return sum({"async": 1, "finish": 1, "fork": 2}.get(item[0], 0) for item in items(body))
+
+
+def job(past, own, number):
+    yield "job", number
+
+
+def end(past, own):
+    yield ("stop",)
+
+
+def one_async(past, own, body):
+    yield "new", body[0], own.scope
+    yield "edge", own.made[0], own.scope
+    yield "release", own.made[0]
+
+
+def finish(past, own, body):
+    yield "new", past, own.scope
+    yield "new", body[0], own.made[0]
+    rest, inner = own.made[:2]
+    yield "edge", inner, rest
+    yield "transfer", rest
+    yield "release", rest
+    yield "release", inner
+
+
+def fork(past, own, left, right):
+    for place in left[0], right[0], past:
+        yield "new", place, own.scope
+    yield "edge", own.made[0], own.made[2]
+    yield "edge", own.made[1], own.made[2]
+    yield "transfer", own.made[2]
+    for which in 2, 0, 1:
+        yield "release", own.made[which]
+
+
+COMMANDS = {"job": job, "end": end, "async": one_async, "finish": finish, "fork": fork}
+
+
+class Vertex:
+    def __init__(self, status, place, scope, phase=0, made=(0, 0, 0)):
+        self.status, self.place, self.scope, self.phase, self.made = status, place, scope, phase, list(made)
+
+    def words(self):
+        return [self.status, self.place, self.scope, self.phase] + self.made
+
+
+class Edge:
+    def __init__(self, source, target):
+        self.source, self.target = source, target
+
+
+class Shop:
+    """The tables and the tally. `spare` words are those past the rows in use."""
+
+    def __init__(self, data, vertex_words, edge_words, made, held, steps):
+        self.data, self.vertex_rows, self.edge_rows = data, len(vertex_words) // 7, len(edge_words) // 2
+        self.first_words, self.tally = (vertex_words, edge_words), (made, held, steps)
+        self.sound = made <= self.vertex_rows and held <= self.edge_rows
+        rows = [vertex_words[7 * k : 7 * k + 7] for k in range(self.vertex_rows)]
+        ends = [edge_words[2 * k : 2 * k + 2] for k in range(self.edge_rows)]
+        if self.sound:
+            self.sound = all(row[0] in (1, 2, 3, 4) for row in rows[:made]) and all(max(pair) < made for pair in ends[:held])
+        if self.sound:
+            self.vertices = [Vertex(*row[:4], row[4:]) for row in rows[:made]]
+            self.edges = [Edge(*pair) for pair in ends[:held]]
+            self.steps = steps
+            self.spare = [sum(rows, [])[7 * made :], sum(ends, [])[2 * held :]]
+        self.tails = vertex_words[7 * self.vertex_rows :], edge_words[2 * self.edge_rows :]
+
+    def load(self):
+        main = parse(self.data)
+        need(2 + vertices_of(main) <= self.vertex_rows, 10)
+        need(1 + edges_of(main) <= self.edge_rows, 11)
+        self.vertices = [Vertex(RELEASED, 0, 1), Vertex(RELEASED, len(self.data) - 1, 1)]
+        self.edges, self.steps, self.sound = [Edge(0, 1)], 0, True
+        self.spare = [[0] * 7 * (self.vertex_rows - 2), [0] * 2 * (self.edge_rows - 1)]
+        return "loaded"
+
+    def words(self):
+        if not self.sound:
+            return self.first_words
+        vertices = [word for vertex in self.vertices for word in vertex.words()] + self.spare[0]
+        edges = [word for edge in self.edges for word in (edge.source, edge.target)] + self.spare[1]
+        return vertices + self.tails[0], edges + self.tails[1]
+
+    def numbers(self):
+        return (len(self.vertices), len(self.edges), self.steps) if self.sound else self.tally
+
+    def named(self, number):
+        need(number < len(self.vertices), 20)
+        return self.vertices[number]
+
+    def behind(self, number):
+        """All vertices that a path of one or more edges leads to."""
+        found = set()
+        grown = {number}
+        while grown:
+            grown = {edge.target for edge in self.edges if edge.source in grown} - found
+            found |= grown
+        return found
+
+    def new(self, own, me, place, scope):
+        need(len(self.vertices) < self.vertex_rows, 31)
+        self.vertices.append(Vertex(NEW, place, scope))
+        del self.spare[0][:7]
+        return f"new {len(self.vertices) - 1}"
+
+    def edge(self, own, me, a, b):
+        source, target = self.named(a), self.named(b)
+        need(target.status in (NEW, RELEASED), 33)
+        if source.status != FINISHED:
+            need(not [1 for edge in self.edges if (edge.source, edge.target) == (a, b)], 34)
+            need(a not in self.behind(b) | {b}, 35)
+            need(len(self.edges) < self.edge_rows, 32)
+            self.edges.append(Edge(a, b))
+            del self.spare[1][:2]
+        return f"edge {a} {b}"
+
+    def release(self, own, me, number):
+        vertex = self.named(number)
+        need(vertex.status == NEW, 36)
+        vertex.status = RELEASED
+        return f"release {number}"
+
+    def transfer(self, own, me, number):
+        need(self.named(number).status == NEW, 37)
+        need(not [1 for edge in self.edges if edge.source == number], 38)
+        need(number not in self.behind(me), 35)
+        for edge in self.edges:
+            if edge.source == me:
+                edge.source = number
+        return f"transfer {number}"
+
+    def stop(self, own, me):
+        own.status = FINISHED
+        kept = [edge for edge in self.edges if edge.source != me]
+        self.spare[1] = [0, 0] * (len(self.edges) - len(kept)) + self.spare[1]
+        self.edges = kept
+        return "stop"
+
+    def step(self, me):
+        need(self.sound and self.steps < 8192, 12)
+        own = self.named(me)
+        need(own.status != NEW, 22)
+        need(own.status != FINISHED, 23)
+        if own.status == RELEASED:
+            need(me not in [edge.target for edge in self.edges], 21)
+            own.status, answer = EXECUTING, "start"
+        else:
+            answer = self.command(own, me)
+        self.steps += 1
+        return answer
+
+    def command(self, own, me):
+        try:
+            kind, place, past, *contents = next(item for item in items(parse(self.data)) if item[1] == own.place)
+        except (Refused, StopIteration):
+            raise Refused(13)
+        commands = list(COMMANDS[kind](past, own, *contents))
+        need(own.phase < len(commands), 13)
+        word, *numbers = commands[own.phase]
+        if word == "job":
+            answer = f"job {numbers[0]} {place}"
+        else:
+            answer = getattr(self, word)(own, me, *numbers)
+        if word == "stop":
+            return answer
+        if word == "new":
+            own.made[own.phase] = len(self.vertices) - 1
+        own.phase += 1
+        if own.phase == len(commands):
+            own.phase, own.made = 0, [0, 0, 0]
+            own.place = past if kind in ("job", "async") else len(self.data) - 1
+        return answer
+
+
+def total(words):
+    sum = 0
+    for w in words:
+        sum = (sum * 31 + w + 1) % 1000003
+    return sum
+
+
+def left(shop):
+    return "| {} {} {} | {} {}".format(*shop.numbers(), *map(total, shop.words()))
+
+
+def drawn(length, seed):
+    words = []
+    for k in range(length):
+        seed = (seed * 1103515245 + 12345) % 2**31
+        draw = seed // 4096 % 40
+        words.append((draw // 2 % 4 + 1 if draw % 2 else 3) if k % 7 == 0 else draw % 5)
+    return words
+
+
+def run(text, vertex_rows, edge_rows, seed):
+    print(" ".join(["program"] + text.split()).lower())
+    shop = Shop(bytes.fromhex(text), drawn(7 * vertex_rows + 3, seed), drawn(2 * edge_rows + 1, seed), 5, 6, 8172)
+    try:
+        answer = shop.load()
+    except Refused as refusal:
+        answer = refusal
+    print(answer, left(shop))
+    counts, mixed = {}, 0
+    for turn in range(1200):
+        vertex, number = (turn * 5 + turn // 9) % (shop.numbers()[0] + 2), 0
+        try:
+            print(vertex, shop.step(vertex), left(shop))
+        except Refused as refusal:
+            number = refusal.args[0]
+            mixed = (mixed * 31 + number * 2**32 % 1000003 + vertex * 64 + sum(map(total, shop.words())) + sum(shop.numbers())) % 1000003
+        counts[number] = counts.get(number, 0) + 1
+    print("counts", *[f"{number}:{counts[number]}" for number in sorted(counts)], "sum", mixed, left(shop))
+
+
+# bytes | vertex rows, edge rows, tables that it is tried on
+PROGRAMS = """
+00 | 40 20 1
+01 00 00 | 40 20 1
+02 01 01 00 01 02 00 | 40 20 1
+04 01 01 00 01 02 00 01 03 00 | 40 20 1
+03 02 01 05 00 00 01 06 00 | 40 20 1
+04 02 00 03 04 01 7F 00 00 00 00 01 80 01 02 04 00 00 00 00 | 40 20 1
+04 02 00 03 04 01 7F 00 00 00 00 01 80 01 02 04 00 00 00 00 00 | 40 20 1
+04 02 00 03 04 01 7F 00 00 00 00 01 80 01 02 04 00 00 00 00 00 | 15 10 1
+04 02 00 03 04 01 7F 00 00 00 00 01 80 01 02 04 00 00 00 00 00 | 15 9 30
+04 02 00 03 04 01 7F 00 00 00 00 01 80 01 02 04 00 00 00 00 00 | 7 8 30
+02 02 02 01 81 02 00 00 03 02 00 00 00 00 | 40 20 1
+05 | 40 20 1
+03 00 | 40 20 1
+| 40 20 1
+00 00 | 5 6 2
+01 00 00 | 1 20 1
+01 00 00 | 2 0 1
+02 04 00 03 00 00 00 00 | 6 7 30
+03 02 00 02 04 00 00 00 00 00 | 6 7 30
+04 03 02 00 00 03 00 00 00 00 | 8 6 30
+01 02 03 00 04 00 00 00 | 5 8 30
+"""
+
+for line in PROGRAMS.strip().splitlines():
+    text, lent = line.split("|")
+    vertex_rows, edge_rows, tables = map(int, lent.split())
+    for seed in range(tables):
+        run(text.strip(), vertex_rows, edge_rows, seed)
