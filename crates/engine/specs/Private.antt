@@ -23,7 +23,11 @@ Next bytes v σ w made d =
 -- the table with these own words in the row of vertex k
 unfoldable pub stored : List ℕ → ℕ → Own → List ℕ
 stored t k (own p φ a b c) =
-    setVertexWord (setVertexWord (setVertexWord (setVertexWord (setVertexWord t k placeWord p) k phaseWord φ) k madeWord a) k (madeWord + 1) b) k (madeWord + 2) c
+    setVertexWord
+    (setVertexWord (setVertexWord (setVertexWord (setVertexWord t k placeWord p) k phaseWord φ) k madeWord a) k (madeWord + 1) b)
+    k
+    (madeWord + 2)
+    c
 
 -- by the kind of item; what does not matter there is left open
 abbrev pub EndNext : ℕ → Own → Due → Type 0

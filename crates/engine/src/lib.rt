@@ -1,4 +1,4 @@
-// The engine: loading, steps and runs of a program on lent tables. Each call is proved equal to the plain machine's definition of it
+// The engine: loading and steps of a program on lent tables. Each call is proved equal to the plain machine's definition of it
 // (crate `machine`), so demand 3 speaks of the engine.
 pub mod entry;
 pub mod load;
