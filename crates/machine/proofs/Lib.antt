@@ -9,6 +9,7 @@
 --     LoadLaws        demand 2 of loading: what is accepted, and that a refusal changes nothing
 --     StepDemand2     demand 2 of a step: it is what is due, taken where its command is
 --     RunDemand2      demand 2 of a run: only such steps, and how it ends
+--     LookLaws        a run turn by turn: which vertex it finds, which cannot step, and what each look comes to
 --     Examples        the starred examples of document 01 hold
 --     AheadIsPre      the paper's order of jobs is the one by recursion on code that the proofs use
 --     AheadExamples   this order, on two of document 01's programs
@@ -73,6 +74,7 @@ pub mod Calls
 pub mod LoadLaws
 pub mod StepDemand2
 pub mod RunDemand2
+pub mod LookLaws
 pub mod Examples
 pub mod AheadIsPre
 pub mod AheadExamples

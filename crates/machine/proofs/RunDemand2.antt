@@ -18,7 +18,7 @@ use Rattle.machine.proofs.StepDemand2.{step-counts}
 use Rattle.machine.proofs.AnswerLaws.{unless-passed}
 
 -- What a search below n comes to: no number, or the lowest of which the test holds.
-abbrev Finds : (ℕ → Bool) → ℕ → Option ℕ → Type 0
+abbrev pub Finds : (ℕ → Bool) → ℕ → Option ℕ → Type 0
 Finds p n none = (u : ℕ) → u < n → p u ≡ false
 Finds p n (some v) = (p v ≡ true) × ((u : ℕ) → u < v → p u ≡ false)
 
@@ -35,17 +35,17 @@ unfolding lowestBelow
 below-finds p zero = λ u lt. absurd (omega arith)
 below-finds p (suc n) = or-finds p n (lowestBelow p n) (p n) refl (below-finds p n)
 
-lowest-finds : (bytes : List ℕ) (s : Lent) → Finds (canStep bytes s) (s .made) (lowest bytes s)
+pub lowest-finds : (bytes : List ℕ) (s : Lent) → Finds (canStep bytes s) (s .made) (lowest bytes s)
 unfolding lowest
 lowest-finds bytes s = below-finds (canStep bytes s) (s .made)
 
 -- only a made vertex can step
-can-made : (bytes : List ℕ) (s : Lent) (v : ℕ) → canStep bytes s v ≡ true → v < s .made
+pub can-made : (bytes : List ℕ) (s : Lent) (v : ℕ) → canStep bytes s v ≡ true → v < s .made
 unfolding step
 can-made bytes s v h = ltb-true v (s .made) (unless-passed s (isMade s v) _ _ (unless-passed s (steppable s) _ _ h .1) .0)
 
 -- "all vertices made are finished", as a test and in words
-finished-all : (s : Lent) → allFinished s ≡ true → AllFinished s
+pub finished-all : (s : Lent) → allFinished s ≡ true → AllFinished s
 unfolding allFinished
 finished-all s h v lt = eqb-true (status (s .vertices) v) FINISHED (every-at (λ v. hasStatus s v FINISHED) (s .made) h v lt)
 

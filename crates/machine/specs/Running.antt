@@ -26,6 +26,19 @@ lowestBelow p (suc n) = orThis (lowestBelow p n) (p n) n
 unfoldable pub lowest : List ℕ → Lent → Option ℕ
 lowest bytes s = lowestBelow (canStep bytes s) (s .made)
 
+-- The same as a question that a host may ask by itself; it is refused as a run is.
+pub data Choice : Type 0 where
+  choose : ℕ → Choice
+  no-choice : Choice
+  choice-refused : ℕ → ℕ → Choice
+
+unfoldable pub chosen : Option ℕ → Choice
+chosen (some v) = choose v
+chosen none = no-choice
+
+unfoldable pub choice : List ℕ → Lent → Choice
+choice bytes s = cond (steppable s) (chosen (lowest bytes s)) (choice-refused unsound-tables 0)
+
 -- "all vertices made are finished"
 unfoldable pub allFinished : Lent → Bool
 allFinished s = every (λ v. hasStatus s v FINISHED) (s .made)

@@ -16,7 +16,8 @@
 --     NumberEnds    where a number ends, and which bytes stand inside one
 --     SkipLaws      the search for a body's end
 --     ItemLaws      what the item reader tells at a place
---     PlaceLaws     what stands at a place of a whole program
+--     PlaceLaws     what starts and what stands at a place of a whole program
+--     MarkLaws      marks for the places of a whole program
 -- The theorems:
 --     Exactness     the reader accepts the encodings of the trees within all limits, each as its own tree, and nothing else
 --     Refusals      what each refusal says of the bytes
@@ -41,6 +42,7 @@ pub mod NumberEnds
 pub mod SkipLaws
 pub mod ItemLaws
 pub mod PlaceLaws
+pub mod MarkLaws
 pub mod Exactness
 pub mod Refusals
 pub mod Formulas

@@ -1,7 +1,7 @@
 -- Where a number ends, and which bytes of a program stand inside one: one law for each turn of the loops that look for it.
 use Prim.Native.Nat.{ℕ, zero, suc, _+_, _-_, _*_, _/_, _%_, _^_, _<_, _≤_}
-use mathlib.Core.Path.{_≡_, refl, sym, ap, _∙_}
-use mathlib.Core.Bool.{Bool, true, false}
+use mathlib.Core.Path.{_≡_, refl, ap, _∙_}
+use mathlib.Core.Bool.{Bool, true, false, cond}
 use mathlib.Core.List.{List, [], _∷_, _++_}
 use native.Mathlib.Nat.{pow-suc}
 use native.Mathlib.Numerals.{add-one}
@@ -85,15 +85,12 @@ pub inside-none : (xs : List ℕ) → false ≡ inNumber xs 0
 unfolding inNumber
 inside-none xs = refl
 
--- the byte behind one inside a number
-pub inside-again : (xs : List ℕ) (i : ℕ) → true ≡ inNumber xs i → leb topBit (getD xs i 0) ≡ inNumber xs (i + 1)
+-- one byte more
+pub inside-more :
+    (xs : List ℕ) (i : ℕ) (inside : Bool) → inside ≡ inNumber xs i
+    → cond inside (leb topBit (getD xs i 0)) (eqb (getD xs i 0) jobByte) ≡ inNumber xs (i + 1)
 unfolding inNumber
-inside-again xs i h = rw (add-one i, sym h) refl
-
--- the byte behind one outside
-pub inside-first : (xs : List ℕ) (i : ℕ) → false ≡ inNumber xs i → eqb (getD xs i 0) jobByte ≡ inNumber xs (i + 1)
-unfolding inNumber
-inside-first xs i h = rw (add-one i, sym h) refl
+inside-more xs i inside h = rw (add-one i, h) refl
 
 -- all bytes before the place were passed
 pub inside-end : (xs : List ℕ) (n i : ℕ) (inside : Bool) → i ≤ n → n ≤ i → inside ≡ inNumber xs i → inside ≡ inNumber xs n

@@ -1,22 +1,25 @@
--- What stands at a place of a whole program: one law for each path through `item_at`.
+-- What starts and what stands at a place of a whole program: one law for each path through `starts_at`, and what follows where an item
+-- or an end byte starts and where none does.
 use Prim.Native.Nat.{ℕ, _+_, _<_, _≤_}
 use mathlib.Core.Path.{_≡_, refl, sym, ap, _∙_, subst}
-use mathlib.Core.Bool.{true, false}
+use mathlib.Core.Bool.{Bool, true, false, not, true≢false}
 use mathlib.Core.List.{List, _++_}
-use mathlib.Core.Option.{none, some}
+use mathlib.Core.Option.{Option, none, some, Option·none-ne-some}
 use native.Mathlib.Omega.{arith}
+use lib.Dec.{ltb}
 use lib.ListN.{length, drop}
+use borrow.Author.Tests.{ltb-true, ltb-false}
 use Rattle.program.specs.Limits.{programBytes}
 use Rattle.program.specs.Trees.{Body, Counts}
 use Rattle.program.specs.Bytes.{encode, size}
 use Rattle.program.specs.Reader.{Reading, program, refusal, reading}
 use Rattle.program.specs.Answers.{Said, loads, refused, told, Stands, nothing-starts}
-use Rattle.program.specs.Located.{Code, locate, codeAt, head, found, standsIn, itemAt}
+use Rattle.program.specs.Located.{Code, locate, codeAt, head, found, standsIn, itemAt, isSome, startsIn, startsAt}
 use Rattle.program.specs.Claims.{Fits, Loadable}
 use Rattle.program.specs.Progress.{Holds, holds, Shows, inNumber}
 use Rattle.program.proofs.Exactness.{reading-sound}
 use Rattle.program.proofs.LocatedLaws.{item-stands}
-use Rattle.program.proofs.StartLaws.{Placed, placed, code-bytes, starts, starts-not, starts-within}
+use Rattle.program.proofs.StartLaws.{Placed, placed, code-bytes, starts, starts-within}
 use Rattle.program.proofs.SkipLaws.{part, part-is, part-length}
 
 -- a program is read from bytes: they are those of its tree
@@ -35,85 +38,127 @@ loads-told bytes c is = go (reading bytes) refl is
     go (program b) e is = let (same, fits) = reading-sound bytes b e in loaded b e same (ap length same) fits
     go (refusal n p) e is = absurd (subst Loading is tt)
 
+-- in a program that is read, something starts where the search finds code
+starts-read : (bytes : List ℕ) (b : Body) (p : ℕ) → reading bytes ≡ program b → startsAt bytes p ≡ isSome (codeAt (locate 0 b) p)
+unfolding startsAt startsIn
+starts-read bytes b p e = ap (λ r. startsIn r p) e
+
 -- the program is refused
-pub at-refused : (bytes : List ℕ) (p n q : ℕ) → Said.refused n q ≡ told (reading bytes) → Stands.refused nothing-starts 0 ≡ itemAt bytes p
-unfolding told itemAt standsIn
-at-refused bytes p n q is = go (reading bytes) is
+pub starts-refused : (bytes : List ℕ) (p n q : ℕ) → Said.refused n q ≡ told (reading bytes) → false ≡ startsAt bytes p
+unfolding told startsAt startsIn
+starts-refused bytes p n q is = go (reading bytes) is
   where
     Refusing : Said → Type 0
     Refusing (loads c) = ⊥
     Refusing (refused n p) = Unit {0}
 
-    go : (r : Reading) → Said.refused n q ≡ told r → Stands.refused nothing-starts 0 ≡ standsIn r p
+    go : (r : Reading) → Said.refused n q ≡ told r → false ≡ startsIn r p
     go (program b) is = absurd (subst Refusing is tt)
     go (refusal n p) is = refl
 
--- no code starts at a place
-none-stands :
-    (bytes : List ℕ) (b : Body) (p : ℕ) → reading bytes ≡ program b → codeAt (locate 0 b) p ≡ none
-    → Stands.refused nothing-starts 0 ≡ itemAt bytes p
-unfolding itemAt standsIn found
-none-stands bytes b p e h = sym (ap (λ r. standsIn r p) e ∙ ap found h)
-
 -- the place is not in the program
-pub at-outside :
-    (bytes : List ℕ) (p : ℕ) (c : Counts) → loads c ≡ told (reading bytes) → length bytes ≤ p
-    → Stands.refused nothing-starts 0 ≡ itemAt bytes p
-at-outside bytes p c is le = go (loads-told bytes c is)
+pub starts-outside :
+    (bytes : List ℕ) (p : ℕ) (c : Counts) → loads c ≡ told (reading bytes) → length bytes ≤ p → false ≡ startsAt bytes p
+unfolding isSome
+starts-outside bytes p c is le = go (loads-told bytes c is)
   where
-    go : Loads bytes → Stands.refused nothing-starts 0 ≡ itemAt bytes p
-    go (loaded b e same long fits) = none-stands bytes b p e (starts-within b p (omega arith))
+    go : Loads bytes → false ≡ startsAt bytes p
+    go (loaded b e same long fits) = sym (starts-read bytes b p e ∙ ap isSome (starts-within b p (omega arith)))
 
--- the place is inside a number
-pub at-inside :
-    (bytes : List ℕ) (p : ℕ) (c : Counts) → loads c ≡ told (reading bytes) → true ≡ inNumber bytes p
-    → Stands.refused nothing-starts 0 ≡ itemAt bytes p
-at-inside bytes p c is inside = go (loads-told bytes c is)
+-- it is in the program
+pub starts-inside :
+    (bytes : List ℕ) (p : ℕ) (c : Counts) → loads c ≡ told (reading bytes) → p < length bytes → not (inNumber bytes p) ≡ startsAt bytes p
+starts-inside bytes p c is lt = go (loads-told bytes c is)
   where
-    go : Loads bytes → Stands.refused nothing-starts 0 ≡ itemAt bytes p
+    go : Loads bytes → not (inNumber bytes p) ≡ startsAt bytes p
     go (loaded b e same long fits) =
-        none-stands bytes b p e (starts-not b p (fits .fits .numbers) (sym (inside ∙ ap (λ l. inNumber l p) same)))
+        ap (λ l. not (inNumber l p)) same ∙ starts b p (fits .fits .numbers) (omega arith) ∙ sym (starts-read bytes b p e)
 
 -- an item or an end byte starts there: the bytes from there on begin with a body, and what that begins with stands there
 data Starts (bytes : List ℕ) (p : ℕ) : Type 0 where
   starting :
       (b : Body) (rest : List ℕ) → Fits b → drop p bytes ≡ encode b ++ rest → head (locate p b) ≡ itemAt bytes p
-      → length bytes ≤ programBytes → Starts bytes p
+      → length bytes ≤ programBytes → p < length bytes → Starts bytes p
 
-starts-at :
-    (bytes : List ℕ) (p : ℕ) (c : Counts) → loads c ≡ told (reading bytes) → p < length bytes → false ≡ inNumber bytes p
-    → Starts bytes p
-starts-at bytes p c is lt outside = go (loads-told bytes c is)
+-- what the definition's test tells
+code-some : (x : Option Code) → isSome x ≡ true → (c : Code) × (x ≡ some c)
+unfolding isSome
+code-some none h = absurd (true≢false (sym h))
+code-some (some c) h = (c, refl)
+
+code-none : (x : Option Code) → isSome x ≡ false → x ≡ none
+unfolding isSome
+code-none none h = refl
+code-none (some c) h = absurd (true≢false h)
+
+-- code starts only before the end of the bytes
+code-within : (b : Body) (p : ℕ) {d : Code} → codeAt (locate 0 b) p ≡ some d → p < size b
+code-within b p {d} at = go (ltb p (size b)) refl
   where
-    there :
-        (b : Body) (d : Code) → reading bytes ≡ program b → bytes ≡ encode b → length bytes ≡ size b → Loadable b
-        → codeAt (locate 0 b) p ≡ some d → Placed b p d → Starts bytes p
-    there b d e same long fits at (placed b' rest is tail flat low) =
+    go : (t : Bool) → ltb p (size b) ≡ t → p < size b
+    go true e = ltb-true p (size b) e
+    go false e = absurd (Option·none-ne-some _ (sym (starts-within b p (ltb-false p (size b) e)) ∙ at))
+
+starts-code :
+    (bytes : List ℕ) (p : ℕ) (b : Body) (d : Code) → reading bytes ≡ program b → codeAt (locate 0 b) p ≡ some d → Starts bytes p
+unfolding size
+starts-code bytes p b d e at = go (reading-sound bytes b e) (code-bytes b p d at)
+  where
+    go : (bytes ≡ encode b) × Loadable b → Placed b p d → Starts bytes p
+    go (same, fits) (placed b' rest is tail flat low) =
+        let long : length bytes ≡ length (encode b) = ap length same in
         starting b' rest
         (record { numbers = omega (arith, fits .fits .numbers); levels = omega (arith, fits .fits .levels) })
         (ap (λ l. drop p l) same ∙ tail)
         (sym (item-stands bytes b p e at ∙ ap head is))
         (omega (arith, fits .bytes))
+        (omega (arith, code-within b p at))
 
-    go : Loads bytes → Starts bytes p
-    go (loaded b e same long fits) =
-        let (d, at) = starts b p (fits .fits .numbers) (omega arith) (sym (outside ∙ ap (λ l. inNumber l p) same)) in
-        there b d e same long fits at (code-bytes b p d at)
+starts-there : (bytes : List ℕ) (p : ℕ) → startsAt bytes p ≡ true → Starts bytes p
+unfolding startsAt startsIn
+starts-there bytes p is = go (reading bytes) refl is
+  where
+    go : (r : Reading) → reading bytes ≡ r → startsIn r p ≡ true → Starts bytes p
+    go (program b) e is = let (d, at) = code-some (codeAt (locate 0 b) p) is in starts-code bytes p b d e at
+    go (refusal n q) e is = absurd (true≢false (sym is))
 
--- what `item_here` asks then
-pub at-holds :
-    (bytes : List ℕ) (p : ℕ) (c : Counts) → loads c ≡ told (reading bytes) → p < length bytes → false ≡ inNumber bytes p
-    → Holds (part p bytes) × (p + length (part p bytes) ≤ programBytes)
-at-holds bytes p c is lt outside = go (starts-at bytes p c is lt outside)
+-- the program has bytes, not too many, and the place is one of them
+pub starts-length :
+    (bytes : List ℕ) (p : ℕ) → startsAt bytes p ≡ true → (1 ≤ length bytes) × (length bytes ≤ programBytes) × (p < length bytes)
+starts-length bytes p is = go (starts-there bytes p is)
+  where
+    go : Starts bytes p → (1 ≤ length bytes) × (length bytes ≤ programBytes) × (p < length bytes)
+    go (starting b rest fits tail stands few lt) = (omega arith, few, lt)
+
+-- so nothing starts behind the last byte that a program may have
+pub starts-beyond : (bytes : List ℕ) (p : ℕ) → programBytes ≤ p → startsAt bytes p ≡ false
+starts-beyond bytes p le = go (startsAt bytes p) refl
+  where
+    go : (t : Bool) → startsAt bytes p ≡ t → startsAt bytes p ≡ false
+    go true e = absurd (omega (arith, starts-length bytes p e))
+    go false e = e
+
+-- what `item_here` asks
+pub starting-holds :
+    (bytes : List ℕ) (p : ℕ) → startsAt bytes p ≡ true → Holds (part p bytes) × (p + length (part p bytes) ≤ programBytes)
+starting-holds bytes p is = go (starts-there bytes p is)
   where
     go : Starts bytes p → Holds (part p bytes) × (p + length (part p bytes) ≤ programBytes)
-    go (starting b rest fits tail stands few) = (holds b fits rest (part-is p bytes ∙ tail), omega (arith, part-length p bytes))
+    go (starting b rest fits tail stands few lt) = (holds b fits rest (part-is p bytes ∙ tail), omega (arith, part-length p bytes))
 
 -- what it tells stands there
-pub at-shown :
-    (bytes : List ℕ) (p : ℕ) (c : Counts) (s : Stands) → loads c ≡ told (reading bytes) → p < length bytes → false ≡ inNumber bytes p
-    → Shows (part p bytes) p s → s ≡ itemAt bytes p
-at-shown bytes p c s is lt outside shown = go (starts-at bytes p c is lt outside)
+pub starting-shown :
+    (bytes : List ℕ) (p : ℕ) (s : Stands) → startsAt bytes p ≡ true → Shows (part p bytes) p s → s ≡ itemAt bytes p
+starting-shown bytes p s is shown = go (starts-there bytes p is)
   where
     go : Starts bytes p → s ≡ itemAt bytes p
-    go (starting b rest fits tail stands few) = shown b rest fits (part-is p bytes ∙ tail) ∙ stands
+    go (starting b rest fits tail stands few lt) = shown b rest fits (part-is p bytes ∙ tail) ∙ stands
+
+-- where nothing starts, that is refused
+pub not-starting : (bytes : List ℕ) (p : ℕ) → startsAt bytes p ≡ false → itemAt bytes p ≡ Stands.refused nothing-starts 0
+unfolding startsAt startsIn itemAt standsIn found
+not-starting bytes p is = go (reading bytes) is
+  where
+    go : (r : Reading) → startsIn r p ≡ false → standsIn r p ≡ Stands.refused nothing-starts 0
+    go (program b) is = ap found (code-none (codeAt (locate 0 b) p) is)
+    go (refusal n q) is = refl

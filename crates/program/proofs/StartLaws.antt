@@ -1,12 +1,11 @@
 -- Where code starts in a program's bytes:
 --     code-bytes     what starts at a place is a body's code, laid out from there, and the body's bytes stand there
---     starts         code starts at each byte of a program outside its numbers,
---     starts-not     and at none inside a number,
+--     starts         code starts at each byte of a program outside its numbers, and at none inside a number,
 --     starts-within  and nowhere behind the last
 -- The bytes are read one by one, as the definition's test does: the state tells whether the next byte stands inside a number.
 use Prim.Native.Nat.{ℕ, zero, suc, pred, _+_, _-_, _*_, _/_, _%_, _^_, _<_, _≤_}
 use mathlib.Core.Path.{_≡_, sym, refl, _∙_, ap, subst}
-use mathlib.Core.Bool.{Bool, true, false, cond, true≢false}
+use mathlib.Core.Bool.{Bool, true, false, not, cond}
 use mathlib.Core.List.{List, [], _∷_, _++_, append-nil, append-assoc}
 use mathlib.Core.Option.{Option, none, some, Option·none-ne-some}
 use native.Mathlib.Nat.{le-of-suc-le-suc, lt-of-le-of-lt, pow-suc}
@@ -18,7 +17,7 @@ use borrow.Author.Tests.{eqb-true, eq-eqb, lt-ltb, ltb-true, ltb-false, le-leb, 
 use Rattle.program.specs.Limits.{numberBytes, jobLimit}
 use Rattle.program.specs.Trees.{Body, end, job, async, finish, fork, depth, largest}
 use Rattle.program.specs.Bytes.{jobByte, asyncByte, finishByte, forkByte, topBit, groupBytes, encodeNumber, encode, numberSize, size}
-use Rattle.program.specs.Located.{Code, locate, place, last, here, orElse, codeAt}
+use Rattle.program.specs.Located.{Code, locate, place, last, here, orElse, codeAt, isSome}
 use Rattle.program.specs.Progress.{inNumber}
 use Rattle.program.proofs.LocatedLaws.{here-cases, orElse-cases, here-later, orElse-none}
 use Rattle.program.proofs.LocatedLaws.{place-locate, last-locate, laid-locate, code-missing}
@@ -211,16 +210,11 @@ missing : Option Code → Bool
 missing none = true
 missing (some c) = false
 
--- what the test tells
-missing-true : (x : Option Code) → missing x ≡ true → x ≡ none
-unfolding missing
-missing-true none h = refl
-missing-true (some c) h = absurd (true≢false (sym h))
-
-missing-false : (x : Option Code) → missing x ≡ false → (c : Code) × (x ≡ some c)
-unfolding missing
-missing-false none h = absurd (true≢false h)
-missing-false (some c) h = (c, refl)
+-- the same by the definition's test
+missing-not : (x : Option Code) → not (missing x) ≡ isSome x
+unfolding missing isSome
+missing-not none = refl
+missing-not (some c) = refl
 
 -- code starts at its own place
 missing-here : (o p : ℕ) (c : Code) (x : Option Code) → p ≡ o + 0 → false ≡ missing (here (eqb p o) c x)
@@ -303,13 +297,5 @@ in-number-missing b p l h = in-number-after (encode b) p (omega arith) ∙ start
 
 -- code starts where the test is false, and nothing where it is true
 pub starts :
-    (b : Body) (p : ℕ) → largest b ≤ jobLimit → p < size b → inNumber (encode b) p ≡ false
-    → (c : Code) × (codeAt (locate 0 b) p ≡ some c)
-starts b p l h f = missing-false (codeAt (locate 0 b) p) (sym (in-number-missing b p l h) ∙ f)
-
-pub starts-not : (b : Body) (p : ℕ) → largest b ≤ jobLimit → inNumber (encode b) p ≡ true → codeAt (locate 0 b) p ≡ none
-starts-not b p l f = go (ltb p (size b)) refl
-  where
-    go : (t : Bool) → ltb p (size b) ≡ t → codeAt (locate 0 b) p ≡ none
-    go true e = missing-true (codeAt (locate 0 b) p) (sym (in-number-missing b p l (ltb-true p (size b) e)) ∙ f)
-    go false e = starts-within b p (ltb-false p (size b) e)
+    (b : Body) (p : ℕ) → largest b ≤ jobLimit → p < size b → not (inNumber (encode b) p) ≡ isSome (codeAt (locate 0 b) p)
+starts b p l h = ap not (in-number-missing b p l h) ∙ missing-not (codeAt (locate 0 b) p)

@@ -1,4 +1,4 @@
--- What the reader's two entry points answer. "Where an answer is an enum, a definition gives this paper's number and values for
+-- What reading a program and reading an item answer. "Where an answer is an enum, a definition gives this paper's number and values for
 -- each of its cases."
 use Prim.Native.Nat.{ℕ}
 use Rattle.program.specs.declared.ItemCounts.{ItemCounts}

@@ -1,9 +1,11 @@
 -- A tree laid out from an offset on, and what stands at a place.
-use Prim.Native.Nat.{ℕ, suc, _+_}
-use mathlib.Core.Bool.{Bool, true, false}
+use Prim.Native.Nat.{ℕ, suc, _+_, _<_}
+use mathlib.Core.Path.{_≡_}
+use mathlib.Core.Bool.{Bool, true, false, cond}
 use mathlib.Core.List.{List}
 use mathlib.Core.Option.{Option, none, some}
 use lib.Dec.{eqb}
+use lib.ListN.{length, getD}
 use Rattle.program.specs.Trees.{Body, end, job, async, finish, fork}
 use Rattle.program.specs.Bytes.{numberSize, size}
 use Rattle.program.specs.Reader.{Reading, program, refusal, reading}
@@ -78,3 +80,19 @@ standsIn (refusal n q) p = Stands.refused nothing-starts 0
 -- place where no item or end byte starts"
 unfoldable pub itemAt : List ℕ → ℕ → Stands
 itemAt bytes p = standsIn (reading bytes) p
+
+-- an item or an end byte starts at a place
+unfoldable pub isSome : Option Code → Bool
+isSome none = false
+isSome (some c) = true
+
+unfoldable pub startsIn : Reading → ℕ → Bool
+startsIn (program b) p = isSome (codeAt (locate 0 b) p)
+startsIn (refusal n q) p = false
+
+unfoldable pub startsAt : List ℕ → ℕ → Bool
+startsAt bytes p = startsIn (reading bytes) p
+
+-- marks that tell of each of their places whether something starts there
+abbrev pub Marked : List ℕ → List ℕ → Type 0
+Marked bytes marks = (p : ℕ) → p < length marks → getD marks p 0 ≡ cond (startsAt bytes p) 1 0

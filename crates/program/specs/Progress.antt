@@ -1,5 +1,5 @@
 -- A reading under way. Nobody has to believe this file: contracts of private functions cite it.
-use Prim.Native.Nat.{ℕ, zero, suc, _+_, _-_, _≤_}
+use Prim.Native.Nat.{ℕ, zero, suc, _+_, _-_, _<_, _≤_}
 use mathlib.Core.Path.{_≡_}
 use mathlib.Core.Bool.{Bool, true, false, cond}
 use mathlib.Core.List.{List, [], _∷_, _++_}
@@ -116,3 +116,7 @@ numberEnd (b ∷ left) = cond (ltb b topBit) 1 (suc (numberEnd left))
 unfoldable pub inNumber : List ℕ → ℕ → Bool
 inNumber xs zero = false
 inNumber xs (suc i) = cond (inNumber xs i) (leb topBit (getD xs i 0)) (eqb (getD xs i 0) jobByte)
+
+-- marks that tell of each of their places whether it is one of these bytes' and outside their numbers
+abbrev pub Outside : List ℕ → List ℕ → Type 0
+Outside xs marks = (p : ℕ) → p < length marks → getD marks p 0 ≡ cond (ltb p (length xs)) (cond (inNumber xs p) 0 1) 0

@@ -2,7 +2,6 @@
 use crate::ItemCounts;
 use crate::ItemRead;
 use crate::NumberRead;
-use crate::ProgramRead;
 use crate::Reader;
 use crate::Refusal;
 use crate::format::ASYNC;
@@ -11,39 +10,40 @@ use crate::format::FINISH;
 use crate::format::FORK;
 use crate::format::JOB;
 use crate::format::NOTHING_STARTS;
-use crate::format::TOP_BIT;
 use crate::numbers::number_end;
-use crate::reading::read;
+use crate::starts::starts_at;
 ghost use mathlib.Core.Path.{_≡_};
 ghost use Prim.Native.Nat.{_+_, _≤_};
+ghost use mathlib.Core.Bool.{true};
 ghost use lib.ListN.{length};
 ghost use Rattle.program.specs.Limits.{programBytes};
-ghost use Rattle.program.specs.Located.{itemAt};
-ghost use Rattle.program.specs.Answers.{Stands, stands, nothing-starts};
-ghost use Rattle.program.specs.Progress.{Holds, Shows, ShowsJob, Sized, inNumber};
+ghost use Rattle.program.specs.Located.{itemAt, startsAt};
+ghost use Rattle.program.specs.Answers.{stands};
+ghost use Rattle.program.specs.Progress.{Holds, Shows, ShowsJob, Sized};
 
 // What stands at a place of a program; refused where the program is, and where no item or end byte starts.
 pub fn item_at(program: &[u8], place: u32) -> ItemRead
     ensures { λ r. ⌜ stands r ≡ itemAt (now (program .entry)) place ⌝ }
 {
-    let reading = read(program);
-    match reading {
-        ProgramRead::Refused(refusal) => nothing(),
-        ProgramRead::Program(counts) => {
-            let at = place as usize;
-            if program.len() <= at {
-                return nothing();
-            }
-            if in_number(program, at) {
-                return nothing();
-            }
-            item_here(&program[at..], place)
-        }
+    if !starts_at(program, place) {
+        return ItemRead::Refused(Refusal {
+            number: NOTHING_STARTS,
+            place: 0,
+        });
     }
+    item_starting_at(program, place)
+}
+
+// The item or end byte that starts at a place of a program.
+pub fn item_starting_at(program: &[u8], place: u32) -> ItemRead
+    requires { ⌜ startsAt (now program) place ≡ true ⌝ }
+    ensures { λ r. ⌜ stands r ≡ itemAt (now (program .entry)) place ⌝ }
+{
+    item_here(&program[place as usize..], place)
 }
 
 // What stands at a place, where `bytes` start: the bytes of a body, or of what is left of one.
-pub(crate) fn item_here(bytes: &[u8], place: u32) -> ItemRead
+fn item_here(bytes: &[u8], place: u32) -> ItemRead
     requires { ⌜ Holds (now bytes) × (place + length (now bytes) ≤ programBytes) ⌝ }
     ensures { λ r. ⌜ Shows (now (bytes .entry)) place (stands r) ⌝ }
 {
@@ -121,30 +121,4 @@ fn body_size(bytes: &[u8]) -> usize
         from = behind + body_size(&bytes[behind..]);
     }
     from + 1
-}
-
-// The byte at a place stands inside a number, of a program that is read from its first byte.
-fn in_number(program: &[u8], place: usize) -> bool
-    requires { ⌜ place ≤ length (now program) ⌝ }
-    ensures { λ r. ⌜ r ≡ inNumber (now (program .entry)) place ⌝ }
-{
-    let mut inside = false;
-    for i in 0..place {
-        let byte = program[i];
-        if inside {
-            inside = TOP_BIT <= byte;
-        } else {
-            inside = byte == JOB;
-        }
-    }
-    inside
-}
-
-fn nothing() -> ItemRead
-    ensures { λ r. ⌜ stands r ≡ Stands.refused nothing-starts 0 ⌝ }
-{
-    ItemRead::Refused(Refusal {
-        number: NOTHING_STARTS,
-        place: 0,
-    })
 }

@@ -1,11 +1,13 @@
 // Reading programs: the bytes of a program to its items, their counts, and the refusals of its writer.
 //
-// `reading::read` reads a whole program, `items::item_at` tells what stands at a place of it. Neither asks anything of the bytes.
+// `reading::read` reads a whole program, `items::item_at` tells what stands at a place of it, `starts::mark_starts` marks where items and
+// end bytes start. None of them asks anything of the bytes.
 mod bodies;
 pub mod format;
 pub mod items;
 mod numbers;
 pub mod reading;
+pub mod starts;
 
 // How many items of each kind.
 pub struct ItemCounts {

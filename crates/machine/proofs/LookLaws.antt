@@ -1,0 +1,210 @@
+-- A run turn by turn, on any bytes and tables: that its steps leave sound tables sound, which vertices cannot step, which one a look finds,
+-- and what a run is by what it finds.
+--
+--     step-sound      a step leaves sound tables sound
+--     idle-cannot     a vertex that does not execute can step only if it is released, with no edge into it
+--     lowest-none     a look finds none where none can step
+--     lowest-is       it finds the one that can, below which none can
+--     lowest-can      what it finds can step
+--     late-none       it finds none once the steps are used up
+--     finished-none   nor once all vertices are finished
+--     run-turned      a run on tables that take no step is refused by 12
+--     run-goes        another one looks
+--     rests           it ends where it finds none
+--     used-up         or where the budget is used
+--     goes-on         and otherwise goes on behind the step of the vertex that it found
+use Prim.Native.Nat.{ℕ, zero, suc, _+_, _*_, _<_, _≤_}
+use mathlib.Core.Path.{_≡_, refl, sym, _∙_, ap, subst}
+use mathlib.Core.Bool.{Bool, true, false, cond}
+use mathlib.Core.Logic.{_⊎_, ⊎-elim}
+use mathlib.Core.List.{List}
+use mathlib.Core.Option.{Option, none, some, Option·none-ne-some}
+use native.Mathlib.Omega.{arith}
+use lib.Dec.{ltb}
+use borrow.Author.Tests.{ltb-true, ltb-false}
+use Rattle.graph.specs.Tables.{Lent, NEW, RELEASED, EXECUTING, FINISHED, vertexWords, statusWord, status}
+use Rattle.graph.specs.Answers.{edge-leads-in}
+use Rattle.graph.specs.Sound.{sound}
+use Rattle.graph.specs.Paths.{holds, leadsInto}
+use Rattle.graph.specs.Commands.{command}
+use Rattle.graph.proofs.TestLaws.{true-false, decide, not-so, equal?, both-right}
+use Rattle.graph.proofs.SoundLaws.{Known, sound-fits, fits-sound}
+use Rattle.graph.proofs.Demand2.{stays-sound}
+use Rattle.machine.specs.Answers.{Said, Outcome, accepted, unsound-tables}
+use Rattle.machine.specs.Stepping.{stepLimit, steppable, step}
+use Rattle.machine.specs.Running.{canStep, lowest, allFinished, done, stuck, spent, refused, RunOutcome, ended, look, runOn, run}
+use Rattle.machine.specs.Demand2.{Own, Due, refusal-due, job-due, command-due, due, OwnWord, Adds, Does}
+use Rattle.machine.proofs.AnswerLaws.{unless-passed}
+use Rattle.machine.proofs.StepLaws.{step-new, step-over}
+use Rattle.machine.proofs.StepDemand2.{step-does, released-step}
+use Rattle.machine.proofs.RunDemand2.{Finds, lowest-finds, can-made, finished-all}
+
+-- no vertex's status is one of the own words of a vertex
+status-not-own : (v k : ℕ) → OwnWord v (vertexWords * k + statusWord) → ⊥
+status-not-own v k = ⊎-elim (λ q. omega arith) (λ q. omega (arith, q .0, q .1))
+
+-- what a step adds leaves sound tables sound
+adds-sound : (v : ℕ) (w : Own) (left after : Lent) → Adds v w left after → sound left ≡ true → sound after ≡ true
+adds-sound v w left after a known =
+    let fits = sound-fits left known in
+    fits-sound after
+    (record {
+      vertices-fit = omega (arith, fits .vertices-fit, a .same-made, a .vertex-words .0);
+      edges-fit = rw (a .same-held, a .same-edges) (fits .edges-fit);
+      statuses-known =
+          λ k lt.
+          subst (λ (x : ℕ). Known x) (sym (a .vertex-words .1 (vertexWords * k + statusWord) (status-not-own v k)))
+          (fits .statuses-known k (subst (λ (n : ℕ). k < n) (a .same-made) lt));
+      ends-made =
+          λ x y h.
+          let held : holds (left .edges) (left .held) x y ≡ true =
+          subst (λ (n : ℕ). holds (left .edges) n x y ≡ true) (a .same-held)
+          (subst (λ (e : List ℕ). holds e (after .held) x y ≡ true) (a .same-edges) h)
+          in
+          subst (λ (n : ℕ). (x < n) × (y < n)) (sym (a .same-made)) (fits .ends-made x y held);
+    })
+
+-- so what is due leaves them sound
+does-sound : (s : Lent) (v : ℕ) (o : Outcome) (d : Due) → Does s v o d → sound s ≡ true → sound (o .after) ≡ true
+does-sound s v o (refusal-due n) does known = subst (λ (o' : Outcome). sound (o' .after) ≡ true) (sym does) known
+does-sound s v o (job-due n p w) does known = adds-sound v w s (o .after) (does .1) known
+does-sound s v o (command-due c w) does known =
+    ⊎-elim (λ h. adds-sound v w (command c s .after) (o .after) (does .taken-adds h) (stays-sound c s known))
+    (λ h. subst (λ (s' : Lent). sound s' ≡ true) (sym (does .refused-keeps h)) known)
+    (decide (accepted (o .answer)))
+
+-- A step leaves sound tables sound.
+pub step-sound : (bytes : List ℕ) (s : Lent) (v : ℕ) → sound s ≡ true → sound (step bytes s v .after) ≡ true
+step-sound bytes s v = does-sound s v (step bytes s v) (due bytes s v) (step-does bytes s v)
+
+-- where a vertex can step the tables take steps
+can-steppable : (bytes : List ℕ) (s : Lent) (v : ℕ) → canStep bytes s v ≡ true → steppable s ≡ true
+unfolding step
+can-steppable bytes s v h = unless-passed s (steppable s) _ _ h .0
+
+-- a vertex that can step has steps left to take
+can-early : (bytes : List ℕ) (s : Lent) (v : ℕ) → canStep bytes s v ≡ true → s .steps < stepLimit
+unfolding steppable
+can-early bytes s v h = ltb-true (s .steps) stepLimit (both-right _ _ (can-steppable bytes s v h))
+
+-- a finished vertex cannot step
+finished-cannot : (bytes : List ℕ) (s : Lent) (v : ℕ) → v < s .made → status (s .vertices) v ≡ FINISHED → canStep bytes s v ≡ false
+finished-cannot bytes s v made over =
+    not-so (canStep bytes s v)
+    (λ h. true-false h (ap (λ (o : Outcome). accepted (o .answer)) (step-over bytes s v (can-steppable bytes s v h) made over)))
+
+-- nor can a new one
+new-cannot : (bytes : List ℕ) (s : Lent) (v : ℕ) → v < s .made → status (s .vertices) v ≡ NEW → canStep bytes s v ≡ false
+new-cannot bytes s v made new =
+    not-so (canStep bytes s v)
+    (λ h. true-false h (ap (λ (o : Outcome). accepted (o .answer)) (step-new bytes s v (can-steppable bytes s v h) made new)))
+
+-- nor a released one with an edge into it
+blocked-cannot :
+    (bytes : List ℕ) (s : Lent) (v : ℕ) → v < s .made → status (s .vertices) v ≡ RELEASED → leadsInto (s .edges) (s .held) v ≡ true
+    → canStep bytes s v ≡ false
+blocked-cannot bytes s v made released into =
+    not-so (canStep bytes s v)
+    (λ h.
+    true-false h
+    (ap accepted
+    (released-step bytes s v (can-steppable bytes s v h) made released
+    ∙ ap (λ (b : Bool). cond b (Said.refused edge-leads-in 0) Said.start) into)))
+
+-- A vertex that does not execute can step only if it is released, with no edge into it.
+pub idle-cannot :
+    (bytes : List ℕ) (s : Lent) (v : ℕ) → sound s ≡ true → v < s .made → (status (s .vertices) v ≡ EXECUTING → ⊥)
+    → ((status (s .vertices) v ≡ RELEASED → ⊥) ⊎ (leadsInto (s .edges) (s .held) v ≡ true)) → canStep bytes s v ≡ false
+idle-cannot bytes s v known made idle waits =
+    ⊎-elim (λ new. new-cannot bytes s v made new)
+    (λ not-new.
+    ⊎-elim (λ over. finished-cannot bytes s v made over)
+    (λ not-over.
+    let released : status (s .vertices) v ≡ RELEASED = omega (arith, sound-fits s known .statuses-known v made, idle, not-new, not-over) in
+    ⊎-elim (λ not-released. absurd (not-released released)) (λ into. blocked-cannot bytes s v made released into) waits)
+    (equal? (status (s .vertices) v) FINISHED))
+    (equal? (status (s .vertices) v) NEW)
+
+-- A look finds none where none can step,
+pub lowest-none : (bytes : List ℕ) (s : Lent) → ((u : ℕ) → u < s .made → canStep bytes s u ≡ false) → lowest bytes s ≡ none
+lowest-none bytes s h = go (lowest bytes s) (lowest-finds bytes s)
+  where
+    go : (x : Option ℕ) → Finds (canStep bytes s) (s .made) x → x ≡ none
+    go none f = refl
+    go (some v) f = true-false (f .0) (h v (can-made bytes s v (f .0)))
+
+-- and the vertex that can step, below which none can.
+pub lowest-is :
+    (bytes : List ℕ) (s : Lent) (v : ℕ) → v < s .made → canStep bytes s v ≡ true → ((u : ℕ) → u < v → canStep bytes s u ≡ false)
+    → lowest bytes s ≡ some v
+lowest-is bytes s v made can lower = go (lowest bytes s) (lowest-finds bytes s)
+  where
+    go : (x : Option ℕ) → Finds (canStep bytes s) (s .made) x → x ≡ some v
+    go none f = true-false can (f v made)
+    go (some u) f =
+        ⊎-elim (λ e. ap (λ (k : ℕ). some k) e)
+        (λ ne.
+        ⊎-elim (λ lt. true-false (f .0) (lower u (ltb-true u v lt)))
+        (λ ge. true-false can (f .1 v (let le : v ≤ u = ltb-false u v ge in omega arith)))
+        (decide (ltb u v)))
+        (equal? u v)
+
+-- What it finds can step.
+pub lowest-can : (bytes : List ℕ) (s : Lent) (v : ℕ) → lowest bytes s ≡ some v → canStep bytes s v ≡ true
+lowest-can bytes s v h = subst (λ (x : Option ℕ). Finds (canStep bytes s) (s .made) x) h (lowest-finds bytes s) .0
+
+-- It finds none once the steps are used up,
+pub late-none : (bytes : List ℕ) (s : Lent) → stepLimit ≤ s .steps → lowest bytes s ≡ none
+late-none bytes s late =
+    lowest-none bytes s
+    (λ u lt. not-so (canStep bytes s u) (λ h. let early : s .steps < stepLimit = can-early bytes s u h in absurd (omega arith)))
+
+-- and once all vertices are finished.
+pub finished-none : (bytes : List ℕ) (s : Lent) → allFinished s ≡ true → lowest bytes s ≡ none
+finished-none bytes s all = lowest-none bytes s (λ u lt. finished-cannot bytes s u lt (finished-all s all u lt))
+
+-- A run on tables that take no step is refused by 12,
+pub run-turned :
+    (bytes : List ℕ) (s : Lent) (budget : ℕ) → steppable s ≡ false → run bytes s budget ≡ ended (refused unsound-tables 0) none 0 s
+unfolding run
+run-turned bytes s budget h = rw h refl
+
+-- and another one looks.
+pub run-goes : (bytes : List ℕ) (s : Lent) (budget : ℕ) → steppable s ≡ true → run bytes s budget ≡ runOn bytes budget s none 0
+unfolding run
+run-goes bytes s budget h = rw h refl
+
+-- a look that finds none
+look-none :
+    (bytes : List ℕ) (again : Lent → Option Said → ℕ → RunOutcome) (left : ℕ) (s : Lent) (last : Option Said) (taken : ℕ) (all : Bool)
+    → look bytes again left s last taken all none ≡ ended (cond all done stuck) last taken s
+unfolding look
+look-none bytes again left s last taken true = refl
+look-none bytes again left s last taken false = refl
+
+-- A run ends where it finds none: done or stuck.
+pub rests :
+    (bytes : List ℕ) (left : ℕ) (s : Lent) (last : Option Said) (taken : ℕ) → lowest bytes s ≡ none
+    → runOn bytes left s last taken ≡ ended (cond (allFinished s) done stuck) last taken s
+unfolding runOn
+rests bytes zero s last taken h = rw h (look-none bytes _ 0 s last taken (allFinished s))
+rests bytes (suc left) s last taken h = rw h (look-none bytes (runOn bytes left) (suc left) s last taken (allFinished s))
+
+-- not all vertices are finished where it finds one
+found-live : (bytes : List ℕ) (s : Lent) (v : ℕ) → lowest bytes s ≡ some v → allFinished s ≡ false
+found-live bytes s v h =
+    not-so (allFinished s) (λ all. Option·none-ne-some v (sym (finished-none bytes s all) ∙ h))
+
+-- It ends where it finds a vertex and the budget is used,
+pub used-up :
+    (bytes : List ℕ) (s : Lent) (last : Option Said) (taken v : ℕ) → lowest bytes s ≡ some v
+    → runOn bytes 0 s last taken ≡ ended spent last taken s
+unfolding runOn look
+used-up bytes s last taken v h = rw (found-live bytes s v h, h) refl
+
+-- and otherwise goes on behind the step of this vertex.
+pub goes-on :
+    (bytes : List ℕ) (left : ℕ) (s : Lent) (last : Option Said) (taken v : ℕ) → lowest bytes s ≡ some v
+    → runOn bytes (suc left) s last taken ≡ runOn bytes left (step bytes s v .after) (some (step bytes s v .answer)) (suc taken)
+unfolding runOn look
+goes-on bytes left s last taken v h = rw (found-live bytes s v h, h) refl

@@ -1,0 +1,7 @@
+-- Inside a number the byte's top bit tells, and outside whether it is a job's first.
+use mathlib.Core.Path.{refl}
+use Rattle.program.proofs.starts.still_inside.Statement.{statement}
+use Rattle.program.proofs.starts.still_inside.Tie as tie
+
+pub still-inside-spec : {M : Type 1} → statement M
+still-inside-spec = tie.close (tie.spec (λ c. rw (c .if1 .taken) refl) (λ c. rw (c .if1 .left) refl))

@@ -1,0 +1,92 @@
+// Where items and end bytes start in a program.
+use crate::ProgramRead;
+use crate::format::JOB;
+use crate::format::TOP_BIT;
+use crate::reading::read;
+ghost use mathlib.Core.Path.{_≡_};
+ghost use mathlib.Core.Bool.{cond};
+ghost use Prim.Native.Nat.{_≤_};
+ghost use lib.Dec.{eqb, leb};
+ghost use lib.ListN.{length, replicate};
+ghost use Rattle.program.specs.Bytes.{jobByte, topBit};
+ghost use Rattle.program.specs.Located.{startsAt, Marked};
+ghost use Rattle.program.specs.Progress.{inNumber, Outside};
+
+// Whether an item or an end byte starts at a place of a program.
+pub fn starts_at(program: &[u8], place: u32) -> bool
+    ensures { λ r. ⌜ r ≡ startsAt (now (program .entry)) place ⌝ }
+{
+    let reading = read(program);
+    match reading {
+        ProgramRead::Refused(refusal) => false,
+        ProgramRead::Program(counts) => {
+            let at = place as usize;
+            if program.len() <= at {
+                return false;
+            }
+            !in_number(program, at)
+        }
+    }
+}
+
+// The same of every place at once: marks with 1 the places where an item or an end byte starts, and the others with 0.
+pub fn mark_starts(program: &[u8], marks: &mut [u8])
+    ensures { λ _. ⌜ (length (now (marks .exit)) ≡ length (now (marks .entry))) × Marked (now (program .entry)) (now (marks .exit)) ⌝ }
+{
+    let reading = read(program);
+    match reading {
+        ProgramRead::Refused(refusal) => clear(marks),
+        ProgramRead::Program(counts) => mark_outside_numbers(program, marks),
+    }
+}
+
+fn clear(marks: &mut [u8])
+    ensures { λ _. ⌜ now (marks .exit) ≡ replicate (length (now (marks .entry))) 0 ⌝ }
+{
+    for i in 0..marks.len() {
+        marks[i] = 0;
+    }
+}
+
+// Marks the places of the program that are not inside a number.
+fn mark_outside_numbers(program: &[u8], marks: &mut [u8])
+    ensures { λ _. ⌜ (length (now (marks .exit)) ≡ length (now (marks .entry))) × Outside (now (program .entry)) (now (marks .exit)) ⌝ }
+{
+    let mut inside = false;
+    for i in 0..marks.len() {
+        if program.len() <= i {
+            marks[i] = 0;
+            continue;
+        }
+        marks[i] = mark(!inside);
+        inside = still_inside(inside, program[i]);
+    }
+}
+
+fn mark(starts: bool) -> u8
+    ensures { λ r. ⌜ r ≡ cond starts 1 0 ⌝ }
+{
+    if starts { 1 } else { 0 }
+}
+
+// The byte behind `byte` stands inside a number, where `inside` tells it of `byte` itself.
+fn still_inside(inside: bool, byte: u8) -> bool
+    ensures { λ r. ⌜ r ≡ cond inside (leb topBit byte) (eqb byte jobByte) ⌝ }
+{
+    if inside {
+        return TOP_BIT <= byte;
+    }
+    byte == JOB
+}
+
+// The byte at a place stands inside a number, of a program that is read from its first byte.
+fn in_number(program: &[u8], place: usize) -> bool
+    requires { ⌜ place ≤ length (now program) ⌝ }
+    ensures { λ r. ⌜ r ≡ inNumber (now (program .entry)) place ⌝ }
+{
+    let mut inside = false;
+    for i in 0..place {
+        inside = still_inside(inside, program[i]);
+    }
+    inside
+}
