@@ -1,11 +1,14 @@
 #!/usr/bin/env python3
-"""The lines that the program `engine_cases` must write, from a model of document 01's loading and steps that shares no code with
-the engine.
+"""The lines that the program `engine_cases` must write, from a model of document 01's loading, steps and runs that shares no code
+with the engine. Of the drawn programs it is checked that each order takes all steps, and each job once and behind those ahead of it.
 
     tests/engine_cases.py > crates/engine_cases/stdout
 
 The program is parsed to nested lists, vertices and edges are objects, and an item is a generator of its commands; rows of words are
 made only to write their sums."""
+
+from copy import deepcopy
+from functools import lru_cache
 
 NEW, RELEASED, EXECUTING, FINISHED = 1, 2, 3, 4
 
@@ -58,6 +61,7 @@ class Text:
             body.append([["job", "async", "finish", "fork"][kind - 1], place, self.at] + contents)
 
 
+@lru_cache
 def parse(data):
     need(0 < len(data) <= 4096, 1)
     text = Text(data)
@@ -258,6 +262,38 @@ class Shop:
         return answer
 
 
+    def can(self, me):
+        """Whether a step would be accepted; an executing vertex's is tried on a copy."""
+        own = self.vertices[me]
+        if own.status == RELEASED:
+            return me not in [edge.target for edge in self.edges]
+        if own.status != EXECUTING:
+            return False
+        try:
+            deepcopy(self).step(me)
+        except Refused:
+            return False
+        return True
+
+    def lowest(self):
+        need(self.sound and self.steps < 8192, 12)
+        return next((me for me in range(len(self.vertices)) if self.can(me)), None)
+
+    def run(self, budget):
+        """The ending, the last step and the steps taken."""
+        need(self.sound and self.steps < 8192, 12)
+        last, taken = "none", 0
+        while True:
+            if all(vertex.status == FINISHED for vertex in self.vertices):
+                return "done", last, taken
+            me = self.lowest() if self.steps < 8192 else None
+            if me is None:
+                return "stuck", last, taken
+            if taken == budget:
+                return "spent", last, taken
+            last, taken = self.step(me), taken + 1
+
+
 def total(words):
     sum = 0
     for w in words:
@@ -267,6 +303,20 @@ def total(words):
 
 def left(shop):
     return "| {} {} {} | {} {}".format(*shop.numbers(), *map(total, shop.words()))
+
+
+def attempt(call, *args):
+    try:
+        return call(*args)
+    except Refused as refusal:
+        return refusal
+
+
+def ran(shop, budget):
+    answer = attempt(shop.run, budget)
+    if isinstance(answer, Refused):
+        answer = answer, "none", 0
+    print("{}, last {}, taken {}".format(*answer), left(shop))
 
 
 def drawn(length, seed):
@@ -281,11 +331,10 @@ def drawn(length, seed):
 def run(text, vertex_rows, edge_rows, seed):
     print(" ".join(["program"] + text.split()).lower())
     shop = Shop(bytes.fromhex(text), drawn(7 * vertex_rows + 3, seed), drawn(2 * edge_rows + 1, seed), 5, 6, 8172)
-    try:
-        answer = shop.load()
-    except Refused as refusal:
-        answer = refusal
-    print(answer, left(shop))
+    print(attempt(shop.load), left(shop))
+    lowest = attempt(shop.lowest)
+    print("lowest", "none" if lowest is None else lowest)
+    ran(shop, 3)
     counts, mixed = {}, 0
     for turn in range(1200):
         vertex, number = (turn * 5 + turn // 9) % (shop.numbers()[0] + 2), 0
@@ -296,6 +345,119 @@ def run(text, vertex_rows, edge_rows, seed):
             mixed = (mixed * 31 + number * 2**32 % 1000003 + vertex * 64 + sum(map(total, shop.words())) + sum(shop.numbers())) % 1000003
         counts[number] = counts.get(number, 0) + 1
     print("counts", *[f"{number}:{counts[number]}" for number in sorted(counts)], "sum", mixed, left(shop))
+    ran(shop, 60)
+
+
+def to_the_end(program):
+    shop = Shop(program, [0] * 7168, [0] * 2048, 0, 0, 0)
+    print(attempt(shop.load), left(shop))
+    ran(shop, 8192)
+
+
+def examples():
+    for count, apart in (31, 1), (32, 1), (1022, 2), (1023, 2):
+        print(f"asyncs {count}: ", end="")
+        program = bytearray(2 * count + 1)
+        program[: apart * count : apart] = bytes([2]) * count
+        to_the_end(bytes(program))
+    shop = Shop(bytes([1, 1, 0]), [0] * 14, [0] * 2, 0, 0, 0)
+    shop.load()
+    shop.step(0)
+    shop.vertices[0].place = 1
+    print("altered:", attempt(shop.step, 0), left(shop))
+    ran(shop, 5)
+
+
+def random(seed):
+    return (seed * 1103515245 + 12345) % 2**31
+
+
+def draw_program(seed, room):
+    program, pending = bytearray(), 1
+    while pending:
+        seed = random(seed)
+        kind = "0001112234"[seed // 4096 % 10]
+        if kind in "234" and pending > 12:
+            kind = "1"
+        if kind == "0" and pending == 1 and room - len(program) - pending >= 40:
+            kind = "3"
+        if room - len(program) - pending < 4:
+            kind = "0"
+        pending += {"0": -1, "1": 0, "2": 1, "3": 1, "4": 2}[kind]
+        program.append(int(kind))
+        if kind == "1":
+            number = seed // 65536
+            program += bytes([number % 128] if number % 3 else [128 + number % 100, 1 + number % 7])
+    return bytes(program)
+
+
+def ways(body, way=()):
+    """Each job's offset, with the bodies and items on the way down to it."""
+    for index, item in enumerate(body[1:]):
+        here = way + ((body[0], index, item[0]),)
+        if item[0] == "job":
+            yield item[1], here
+        elif item[0] != "end":
+            for inner in item[3:]:
+                yield from ways(inner, here)
+
+
+def is_ahead(p, q):
+    """Of the ways to two jobs."""
+    depth = next(d for d, (a, b) in enumerate(zip(p, q)) if a != b)
+    (body, index, _), (other, later, _) = p[depth], q[depth]
+    if body != other or later < index:
+        return False
+    kinds = [kind for _, _, kind in p[depth:]]
+    return "async" not in kinds or "finish" in kinds[: kinds.index("async")]
+
+
+def check(program, steps, jobs):
+    assert steps == needed(program)
+    way = dict(ways(parse(program)))
+    assert sorted(jobs) == sorted(way)
+    for p in way:
+        for q in way:
+            assert p == q or not is_ahead(way[p], way[q]) or jobs.index(p) < jobs.index(q)
+
+
+def needed(program):
+    weights = {"job": 1, "async": 5, "finish": 10, "fork": 15}
+    return 4 + sum(weights.get(item[0], 0) for item in items(parse(program)))
+
+
+def turns(shop, order, seed):
+    jobs, refused = [], 0
+    for turn in range(30000):
+        if shop.steps == needed(shop.data):
+            break
+        seed, made = random(seed), len(shop.vertices)
+        vertex = [None, turn % (made + 2), made + 1 - turn % (made + 2), seed // 4096 % (made + 2)][order]
+        answer = attempt(shop.step, shop.lowest() if order == 0 else vertex)
+        if isinstance(answer, Refused):
+            refused += 1
+        elif answer.startswith("job"):
+            jobs.append(int(answer.split()[2]))
+    print(f"order {order} jobs", *jobs, "refused", refused, left(shop))
+    check(shop.data, shop.steps, jobs)
+
+
+def soak():
+    for k in range(30):
+        seed = k * 7919 + 11
+        program = draw_program(seed, 120)
+        print("program", program.hex(" "))
+        for order in range(5):
+            shop = Shop(program, [0] * 2100, [0] * 600, 0, 0, 0)
+            shop.load()
+            if order < 4:
+                turns(shop, order, seed)
+                continue
+            print("order 4 runs")
+            for turn in range(300):
+                ran(shop, turn * 5 % 17)
+                if shop.steps == needed(program):
+                    break
 
 
 # bytes | vertex rows, edge rows, tables that it is tried on
@@ -328,3 +490,6 @@ for line in PROGRAMS.strip().splitlines():
     vertex_rows, edge_rows, tables = map(int, lent.split())
     for seed in range(tables):
         run(text.strip(), vertex_rows, edge_rows, seed)
+
+examples()
+soak()

@@ -1,9 +1,13 @@
--- The types of what the cores return, for the law of thin entries (crate graph, proofs/Thin): a `Done`, of which an entry answers the `Answer`. The tally is graph's.
+-- The types of what the cores return, for the law of thin entries (crate graph, proofs/Thin): a `Done`, of which an entry answers the `Answer`, and for a run a `RunDone`, of which it answers the `RunAnswer`. The tally is graph's.
 use Rattle.graph.proofs.Thin.Results.{Results}
 use Rattle.engine.proofs.Answer as R
 use Rattle.engine.proofs.Answer.Laws as R′
 use Rattle.engine.proofs.Done as D
 use Rattle.engine.proofs.Done.Laws as D′
+use Rattle.engine.proofs.RunAnswer as S
+use Rattle.engine.proofs.RunAnswer.Laws as S′
+use Rattle.engine.proofs.RunDone as E
+use Rattle.engine.proofs.RunDone.Laws as E′
 use denote.Struct.Laws as LL
 use denote.Enum.Laws as EL
 
@@ -22,4 +26,22 @@ results = record {
   done-tells = λ r vs is. LL.tells D.the-type D′.the-laws r vs is;
   answer-is = λ r vs is. LL.owed D.the-type D′.the-laws r vs is .0;
   tally-is = λ r vs is. LL.owed D.the-type D′.the-laws r vs is .1 .0;
+}
+
+-- and of a run, whose answer is a struct
+abbrev pub run-results : Results
+run-results = record {
+  Answer = S.the-row;
+  answerTy = S′.mir;
+  answerVal = LL.val S.the-type S′.the-laws;
+  answer-typed = λ 𝓤 H A W x is. LL.lawful S.the-type S′.the-laws 𝓤 H A W .typed x _ is;
+  answer-makes = λ 𝓤 H A. LL.makes S.the-type S′.the-plain 𝓤 H A;
+  Done = E.the-row;
+  doneName = E.struct .name;
+  answer = λ r. r .answer;
+  tally = λ r. r .tally;
+  done-typed = λ 𝓤 H A W r w is. LL.lawful E.the-type E′.the-laws 𝓤 H A W .typed r _ is;
+  done-tells = λ r vs is. LL.tells E.the-type E′.the-laws r vs is;
+  answer-is = λ r vs is. LL.owed E.the-type E′.the-laws r vs is .0;
+  tally-is = λ r vs is. LL.owed E.the-type E′.the-laws r vs is .1 .0;
 }

@@ -29,13 +29,12 @@ use Rattle.machine.specs.Answers.{Said, Outcome}
 use Rattle.machine.specs.Stepping.{steppable, step}
 use Rattle.machine.specs.Demand2 as machine
 use Rattle.machine.specs.Demand2.{Due, refusal-due, job-due, command-due, orRefused, ownOf, OwnWord, due, saidAs, Adds, IsCommand, Does}
-use Rattle.machine.specs.Traces.{Stepped}
 use Rattle.machine.proofs.StepDemand2.{step-does, command-step}
 use Rattle.engine.specs.declared.Own.{Own}
 use Rattle.engine.specs.declared.Due as code
 use Rattle.engine.specs.declared.Due.the-variants as of-due
 use Rattle.engine.specs.Answers.{ownWords, dueOf}
-use Rattle.engine.specs.Private.{stored}
+use Rattle.engine.specs.Private.{IsDue, is-due, DoesDue, stored}
 
 -- THE TABLE
 -- u is t with u's own word j stored in it, where it is t elsewhere: at the place i
@@ -175,28 +174,28 @@ unfolding due
 ready-due bytes s v =
     ready-or s v (steppable s) _ _ (λ p. ready-or s v (isMade s v) _ _ (λ q. ready-any s v _ (ready-of s v p q)))
 
+ready-is : {s : Lent} {v : ℕ} {d : Due} → IsDue s v d → ReadyFor s v d
+ready-is {s} {v} {d} (is-due bytes same) = subst (λ (x : Due). ReadyFor s v x) (sym same) (ready-due bytes s v)
+
 -- ONE LAW FOR EACH PATH
 -- a refusal is due
-pub refused-path :
-    (bytes : List ℕ) (s : Lent) (k n : ℕ) (d : code.Due) → d ≡ of-due.Refused n → dueOf d ≡ due bytes s k
-    → Stepped bytes s k (Said.refused n 0) s
-refused-path bytes s k n d is e =
+pub refused-path : (s : Lent) (k n : ℕ) (d : code.Due) → d ≡ of-due.Refused n → DoesDue s k (dueOf d) (Said.refused n 0) s
+refused-path s k n d is bytes same =
     let does : Does s k (step bytes s k) (refusal-due n) =
-    subst (λ (x : Due). Does s k (step bytes s k) x) (sym e ∙ ap dueOf is) (step-does bytes s k) in
+    subst (λ (x : Due). Does s k (step bytes s k) x) (sym same ∙ ap dueOf is) (step-does bytes s k) in
     record { says = sym (ap (λ (o : Outcome). o .answer) does); leaves = sym (ap (λ (o : Outcome). o .after) does) }
 
 -- a job is due
-module _ (bytes v e : List ℕ) (t : Tally) (k n p : ℕ) (w : Own) (d : code.Due) (is : d ≡ of-due.Job n p w)
-    (same : dueOf d ≡ due bytes (lent v e t) k) where
-  pub job-ready : (k < vertexRows v) × (t .steps < 8192)
+module _ (v e : List ℕ) (t : Tally) (k n p : ℕ) (w : Own) (d : code.Due) (is : d ≡ of-due.Job n p w) where
+  pub job-ready : IsDue (lent v e t) k (dueOf d) → (k < vertexRows v) × (t .steps < 8192)
   unfolding ReadyFor
-  job-ready = subst (λ (x : Due). ReadyFor (lent v e t) k x) (sym same ∙ ap dueOf is) (ready-due bytes (lent v e t) k)
+  job-ready h = subst (λ (x : Due). ReadyFor (lent v e t) k x) (ap dueOf is) (ready-is h)
 
   pub job-path :
       (v' : List ℕ) (t' : Tally) → v' ≡ stored v k (ownWords w)
       → (t' .made ≡ t .made) × (t' .held ≡ t .held) × (t' .steps ≡ t .steps + 1)
-      → Stepped bytes (lent v e t) k (Said.job n p) (lent v' e t')
-  job-path v' t' words counted =
+      → DoesDue (lent v e t) k (dueOf d) (Said.job n p) (lent v' e t')
+  job-path v' t' words counted bytes same =
       let s = lent v e t in
       let does : Does s k (step bytes s k) (job-due n p (ownWords w)) =
       subst (λ (x : Due). Does s k (step bytes s k) x) (sym same ∙ ap dueOf is) (step-does bytes s k) in
@@ -207,14 +206,17 @@ module _ (bytes v e : List ℕ) (t : Tally) (k n p : ℕ) (w : Own) (d : code.Du
       }
 
 -- a command is due, which left this
-module _ (bytes v e : List ℕ) (t : Tally) (k : ℕ) (c : Command) (w : Own) (d : code.Due) (is : d ≡ of-due.Command c w)
-    (same : dueOf d ≡ due bytes (lent v e t) k) (v' e' : List ℕ) (done : Done)
-    (left : of-graph.outcome done v' e' ≡ command c (lent v e t)) (b : Bool) (told : b ≡ not (of-graph.accepted (of-graph.said (done .answer)))) where
-  is-due : due bytes (lent v e t) k ≡ command-due c (ownWords w)
-  is-due = sym same ∙ ap dueOf is
+module _ (v e : List ℕ) (t : Tally) (k : ℕ) (c : Command) (w : Own) (d : code.Due) (is : d ≡ of-due.Command c w) (v' e' : List ℕ)
+    (done : Done) (left : of-graph.outcome done v' e' ≡ command c (lent v e t)) (b : Bool)
+    (told : b ≡ not (of-graph.accepted (of-graph.said (done .answer)))) where
+  is-command : (bytes : List ℕ) → dueOf d ≡ due bytes (lent v e t) k → due bytes (lent v e t) k ≡ command-due c (ownWords w)
+  is-command bytes same = sym same ∙ ap dueOf is
 
-  does : IsCommand c (ownWords w) (lent v e t) k (step bytes (lent v e t) k)
-  does = subst (λ (x : Due). Does (lent v e t) k (step bytes (lent v e t) k) x) is-due (step-does bytes (lent v e t) k)
+  does :
+      (bytes : List ℕ) → dueOf d ≡ due bytes (lent v e t) k
+      → IsCommand c (ownWords w) (lent v e t) k (step bytes (lent v e t) k)
+  does bytes same =
+      subst (λ (x : Due). Does (lent v e t) k (step bytes (lent v e t) k) x) (is-command bytes same) (step-does bytes (lent v e t) k)
 
   says : of-graph.said (done .answer) ≡ command c (lent v e t) .answer
   says = ap (λ (o : of-graph.Outcome). o .answer) left
@@ -223,31 +225,35 @@ module _ (bytes v e : List ℕ) (t : Tally) (k : ℕ) (c : Command) (w : Own) (d
   leaves = ap (λ (o : of-graph.Outcome). o .after) left
 
   -- the step says what the command says
-  step-says : (a : Said) → a ≡ saidAs (of-graph.said (done .answer)) → a ≡ step bytes (lent v e t) k .answer
-  step-says a h = h ∙ ap saidAs says ∙ sym (does .says)
+  step-says :
+      (a : Said) → a ≡ saidAs (of-graph.said (done .answer)) → (bytes : List ℕ) → dueOf d ≡ due bytes (lent v e t) k
+      → a ≡ step bytes (lent v e t) k .answer
+  step-says a h bytes same = h ∙ ap saidAs says ∙ sym (does bytes same .says)
 
   -- it is refused
   pub turned-path :
-      (a : Said) → b ≡ true → a ≡ saidAs (of-graph.said (done .answer)) → Stepped bytes (lent v e t) k a (lent v' e' (done .tally))
-  turned-path a h q =
+      (a : Said) → b ≡ true → a ≡ saidAs (of-graph.said (done .answer))
+      → DoesDue (lent v e t) k (dueOf d) a (lent v' e' (done .tally))
+  turned-path a h q bytes same =
       let no : of-graph.accepted (command c (lent v e t) .answer) ≡ false =
       ap of-graph.accepted (sym says) ∙ not-true _ (sym told ∙ h) in
       record {
-        says = step-says a q;
+        says = step-says a q bytes same;
         leaves =
             leaves
             ∙ refused-keeps c (lent v e t) no
-            ∙ sym (does .refused-keeps (command-step bytes (lent v e t) k c (ownWords w) is-due ∙ no));
+            ∙ sym (does bytes same .refused-keeps
+            (command-step bytes (lent v e t) k c (ownWords w) (is-command bytes same) ∙ no));
       }
 
   -- it is taken
   taken : b ≡ false → of-graph.accepted (command c (lent v e t) .answer) ≡ true
   taken h = ap of-graph.accepted (sym says) ∙ not-false _ (sym told ∙ h)
 
-  pub taken-ready : b ≡ false → (k < vertexRows v') × (done .tally .steps < 8192)
+  pub taken-ready : IsDue (lent v e t) k (dueOf d) → b ≡ false → (k < vertexRows v') × (done .tally .steps < 8192)
   unfolding ReadyFor
-  taken-ready h =
-      let ready : Ready (lent v e t) k = subst (λ (x : Due). ReadyFor (lent v e t) k x) is-due (ready-due bytes (lent v e t) k) in
+  taken-ready due-here h =
+      let ready : Ready (lent v e t) k = subst (λ (x : Due). ReadyFor (lent v e t) k x) (ap dueOf is) (ready-is due-here) in
       let f = effect c (lent v e t) (taken h) in
       let long : length v' ≡ length v = ap (λ (x : Lent). length (x .vertices)) leaves ∙ f .vertex-words .0 in
       let steps : done .tally .steps ≡ t .steps = ap (λ (x : Lent). x .steps) leaves ∙ f .steps-kept in
@@ -256,13 +262,14 @@ module _ (bytes v e : List ℕ) (t : Tally) (k : ℕ) (c : Command) (w : Own) (d
   pub taken-path :
       (a : Said) (v'' : List ℕ) (t'' : Tally) → b ≡ false → a ≡ saidAs (of-graph.said (done .answer)) → v'' ≡ stored v' k (ownWords w)
       → (t'' .made ≡ done .tally .made) × (t'' .held ≡ done .tally .held) × (t'' .steps ≡ done .tally .steps + 1)
-      → Stepped bytes (lent v e t) k a (lent v'' e' t'')
-  taken-path a v'' t'' h q words counted =
+      → DoesDue (lent v e t) k (dueOf d) a (lent v'' e' t'')
+  taken-path a v'' t'' h q words counted bytes same =
       record {
-        says = step-says a q;
+        says = step-says a q bytes same;
         leaves =
             stored-counted v' e' (done .tally) t'' v'' k (ownWords w) words counted
             ∙ ap (λ (x : Lent). added k (ownWords w) x) leaves
             ∙ sym (adds-is k (ownWords w) (command c (lent v e t) .after) (step bytes (lent v e t) k .after)
-            (does .taken-adds (command-step bytes (lent v e t) k c (ownWords w) is-due ∙ taken h)));
+            (does bytes same .taken-adds
+            (command-step bytes (lent v e t) k c (ownWords w) (is-command bytes same) ∙ taken h)));
       }

@@ -1,9 +1,18 @@
 -- "Where an answer is an enum, a definition gives this paper's number and values for each of its cases": the plain machine's answers have
 -- them.
+use mathlib.Core.Option.{Option, none, some}
 use Rattle.machine.specs.Answers.{Said}
+use Rattle.machine.specs.Running.{done, stuck, spent, refused, Choice, choose, no-choice, choice-refused}
+use Rattle.machine.specs.Running as machine-run
 use Rattle.machine.specs.Demand2 as machine
 use Rattle.engine.specs.declared.Answer.{Answer}
 use Rattle.engine.specs.declared.Answer.the-variants as of-answer
+use Rattle.engine.specs.declared.Ending.{Ending}
+use Rattle.engine.specs.declared.Ending.the-variants as of-ending
+use Rattle.engine.specs.declared.LastStep.{LastStep}
+use Rattle.engine.specs.declared.LastStep.the-variants as of-last
+use Rattle.engine.specs.declared.Lowest.{Lowest}
+use Rattle.engine.specs.declared.Lowest.the-variants as of-lowest
 use Rattle.engine.specs.declared.Own.{Own}
 use Rattle.engine.specs.declared.Due.{Due}
 use Rattle.engine.specs.declared.Due.the-variants as of-due
@@ -18,6 +27,24 @@ said (of-answer.Transfer v) = Said.transfer v
 said (of-answer.Job n o) = Said.job n o
 said of-answer.Stop = Said.stop
 said (of-answer.Refused r) = Said.refused (r .number) (r .place)
+
+-- how a run ends
+abbrev pub endingOf : Ending → machine-run.Ending
+endingOf of-ending.Done = done
+endingOf of-ending.Stuck = stuck
+endingOf of-ending.Spent = spent
+endingOf (of-ending.Refused r) = refused (r .number) (r .place)
+
+-- its last step
+abbrev pub lastOf : LastStep → Option Said
+lastOf of-last.NoStep = none
+lastOf (of-last.Step a) = some (said a)
+
+-- the lowest vertex whose step would be accepted
+abbrev pub choiceOf : Lowest → Choice
+choiceOf (of-lowest.Vertex v) = choose v
+choiceOf of-lowest.NoVertex = no-choice
+choiceOf (of-lowest.Refused r) = choice-refused (r .number) (r .place)
 
 -- a vertex's own words
 abbrev pub ownWords : Own → machine.Own

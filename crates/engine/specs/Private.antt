@@ -1,14 +1,26 @@
 -- What is due at a step, from a vertex's own words, and words stored in a row. Nobody has to believe this file: contracts of private
 -- functions cite it.
-use Prim.Native.Nat.{ℕ, _+_, _-_}
+use Prim.Native.Nat.{ℕ, _+_, _-_, _<_}
 use mathlib.Core.Path.{_≡_}
+use mathlib.Core.Bool.{Bool, true, false, cond}
 use mathlib.Core.List.{List}
-use lib.ListN.{length}
-use Rattle.graph.specs.Tables.{Lent, placeWord, phaseWord, madeWord, setVertexWord}
+use mathlib.Core.Option.{Option, none, some}
+use lib.ListN.{length, getD}
+use Rattle.graph.specs.Tables.{Lent, lent, RELEASED, usableLimit, placeWord, phaseWord, madeWord, setVertexWord}
+use Rattle.graph.specs.Paths.{leadsInto}
+use Rattle.graph.specs.Answers as of-graph
+use Rattle.graph.specs.Commands.{hasStatus, command}
+use Rattle.graph.specs.declared.Command.the-variants.{Start}
 use Rattle.program.specs.Answers.{Stands}
 use Rattle.program.specs.Located.{itemAt}
+use Rattle.machine.specs.Answers.{Said}
 use Rattle.machine.specs.Stepping.{scope, place, task}
-use Rattle.machine.specs.Demand2.{Own, own, ownOf, Due, nextAt}
+use Rattle.machine.specs.Running.{lowest, allFinished, Ending, done, stuck, spent}
+use Rattle.machine.specs.Demand2.{Own, own, ownOf, Due, refusal-due, job-due, command-due, nextAt, due}
+use Rattle.machine.specs.Traces.{Stepped}
+use Rattle.engine.specs.declared.Attempt.{Attempt}
+use Rattle.engine.specs.declared.Attempt.the-variants as of-attempt
+use Rattle.engine.specs.Answers.{said}
 
 -- d is due at the step of the executing vertex v with the scope σ and these own words, where so many vertices are made, the program's
 -- last byte is at L, and this stands at v's place
@@ -19,6 +31,52 @@ NextAt L v σ w made item d = (s : Lent) → ownOf s v ≡ w → scope s v ≡ �
 abbrev pub Next : List ℕ → ℕ → ℕ → Own → ℕ → Due → Type 0
 Next bytes v σ w made d =
     (s : Lent) → ownOf s v ≡ w → scope s v ≡ σ → s .made ≡ made → d ≡ nextAt s v (task (length bytes - 1) (itemAt bytes (place s v)))
+
+-- w are vertex k's own words in a table
+abbrev pub OwnIn : List ℕ → ℕ → Own → Type 0
+OwnIn t k w = (s : Lent) → s .vertices ≡ t → w ≡ ownOf s k
+
+-- d is due at the step of the vertex v, which is released or executing, where these are the vertex rows and so many are made
+abbrev pub DueThere : List ℕ → List ℕ → ℕ → ℕ → Due → Type 0
+DueThere bytes t made v d =
+    (s : Lent) → s .vertices ≡ t → s .made ≡ made
+    → d ≡ cond (hasStatus s v RELEASED) (command-due (Start v) (ownOf s v)) (nextAt s v (task (length bytes - 1) (itemAt bytes (place s v))))
+
+-- d is due at the step of v, in some program
+pub data IsDue (s : Lent) (v : ℕ) (d : Due) : Type 0 where
+  is-due : (bytes : List ℕ) → d ≡ due bytes s v → IsDue s v d
+
+-- what is due was done: this is the step, in every program where d is due
+abbrev pub DoesDue : Lent → ℕ → Due → Said → Lent → Type 0
+DoesDue s v d answer after = (bytes : List ℕ) → d ≡ due bytes s v → Stepped bytes s v answer after
+
+-- what is due would be accepted
+unfoldable pub takes : Lent → Due → Bool
+takes s (refusal-due n) = false
+takes s (job-due n o w) = true
+takes s (command-due c w) = of-graph.accepted (command c s .answer)
+
+-- marks that tell of each vertex that can be made whether one of the first n edges leads into it
+abbrev pub Blocked : List ℕ → ℕ → List ℕ → Type 0
+Blocked e n marks = (length marks ≡ usableLimit) × ((v : ℕ) → v < usableLimit → getD marks v 0 ≡ cond (leadsInto e n v) 1 0)
+
+-- a step of the lowest vertex whose step would be accepted, if there is one
+abbrev pub Attempted : List ℕ → Lent → Attempt → List ℕ → List ℕ → Type 0
+Attempted bytes s of-attempt.NoStep vs es = (lowest bytes s ≡ none) × (vs ≡ s .vertices) × (es ≡ s .edges)
+Attempted bytes s (of-attempt.Taken d) vs es =
+    (v : ℕ) × (lowest bytes s ≡ some v) × Stepped bytes s v (said (d .answer)) (lent vs es (d .tally))
+
+-- how a run ends where no step would be accepted: all vertices are finished, or not
+abbrev pub atRest : Bool → Ending
+atRest finished = cond finished done stuck
+
+-- how it ends when its budget is used
+unfoldable pub endsWith : Option ℕ → Bool → Ending
+endsWith (some v) finished = spent
+endsWith none finished = atRest finished
+
+abbrev pub whenUsed : List ℕ → Lent → Ending
+whenUsed bytes s = endsWith (lowest bytes s) (allFinished s)
 
 -- the table with these own words in the row of vertex k
 unfoldable pub stored : List ℕ → ℕ → Own → List ℕ

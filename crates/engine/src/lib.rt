@@ -1,8 +1,11 @@
-// The engine: loading and steps of a program on lent tables. Each call is proved equal to the plain machine's definition of it
+// The engine: loading, steps and runs of a program on lent tables. Each call is proved equal to the plain machine's definition of it
 // (crate `machine`), so demand 3 speaks of the engine.
+pub mod demand;
 pub mod entry;
 pub mod load;
+pub mod look;
 pub mod next;
+pub mod runs;
 pub mod steps;
 
 use graph::Command;
@@ -43,4 +46,52 @@ pub enum Due {
     Refused(u32),
     Job { number: u32, offset: u32, own: Own },
     Command { command: Command, own: Own },
+}
+
+// The lowest vertex whose step would be accepted; refused as a run is.
+pub enum Lowest {
+    Vertex(u32),
+    NoVertex,
+    Refused(Refusal),
+}
+
+// A step of that vertex, if there is one.
+pub enum Attempt {
+    NoStep,
+    Taken(Done),
+}
+
+// How a run ends.
+pub enum Ending {
+    Done,
+    Stuck,
+    Spent,
+    Refused(Refusal),
+}
+
+// The last accepted step of a run, if it took one.
+pub enum LastStep {
+    NoStep,
+    Step(Answer),
+}
+
+// What a run answers: how it ended, its last step, and how many it took.
+pub struct RunAnswer {
+    pub ending: Ending,
+    pub last: LastStep,
+    pub taken: u32,
+}
+
+// The result of a run: its answer, and the tally afterwards.
+pub struct RunDone {
+    pub answer: RunAnswer,
+    pub tally: Tally,
+}
+
+// The result of loading a program and stepping a list of vertices: what loading answered, how many of the steps were accepted, and the
+// tally afterwards.
+pub struct ListDone {
+    pub loading: Answer,
+    pub accepted: u32,
+    pub tally: Tally,
 }

@@ -19,17 +19,21 @@ use graph::rows::VERTEX_WORDS;
 use graph::sound::is_sound;
 use program::ItemRead;
 use program::format::NOTHING_STARTS;
-use program::format::PROGRAM_BYTES;
-use program::items::item_at;
+use program::items::item_starting_at;
+use program::starts::starts_at;
 ghost use mathlib.Core.Path.{_≡_};
-ghost use Rattle.graph.specs.Tables.{lent};
-ghost use Prim.Native.Nat.{_+_, _<_, _≤_};
+ghost use Prim.Native.Nat.{_+_, _*_, _<_, _≤_};
+ghost use lib.Dec.{eqb};
+ghost use lib.ListN.{length, getD};
+ghost use Rattle.graph.specs.Tables.{lent, vertexWords};
 ghost use Rattle.graph.specs.declared.Command.the-variants.{NewTd, NewEdge, Release, Transfer};
+ghost use Rattle.program.specs.Limits.{programBytes};
 ghost use Rattle.program.specs.Answers.{Stands};
+ghost use Rattle.program.specs.Located.{startsAt, Marked};
 ghost use Rattle.machine.specs.Demand2 as machine;
 ghost use Rattle.machine.specs.Demand2.{due};
 ghost use Rattle.engine.specs.Answers.{ownWords, dueOf};
-ghost use Rattle.engine.specs.Private.{Next, NextAt, EndNext, JobNext, AsyncNext, ForkNext, ForkLast};
+ghost use Rattle.engine.specs.Private.{DueThere, OwnIn, Next, NextAt, EndNext, JobNext, AsyncNext, ForkNext, ForkLast};
 
 // The words of the vertices that the item at hand made.
 pub const FIRST: usize = MADE;
@@ -61,35 +65,87 @@ pub fn next_due(program: &[u8], vertices: &[u32], edges: &[u32], tally: Tally, v
     if vertices[at + STATUS] == FINISHED {
         return Due::Refused(VERTEX_FINISHED);
     }
-    let own = Own {
-        place: vertices[at + PLACE],
-        phase: vertices[at + PHASE],
-        first: vertices[at + FIRST],
-        second: vertices[at + SECOND],
-        third: vertices[at + THIRD],
-    };
+    let own = own_words(vertices, vertex as usize);
     if vertices[at + STATUS] == RELEASED {
         return Due::Command {
             command: Command::Start { vertex },
             own,
         };
     }
-    executing(program, vertex, vertices[at + SCOPE], own, tally.made)
+    executing(
+        program,
+        starts_at(program, own.place),
+        vertex,
+        vertices[at + SCOPE],
+        own,
+        tally.made,
+    )
 }
 
-// What is due at the step of an executing vertex with these words, where so many vertices are made.
-fn executing(program: &[u8], vertex: u32, scope: u32, own: Own, made: u32) -> Due
+// The same of a vertex that is released or executing, in a program with these marks where its items and end bytes start.
+pub(crate) fn marked_due(
+    program: &[u8],
+    marks: &[u8],
+    vertices: &[u32],
+    made: u32,
+    vertex: u32,
+) -> Due
+    requires { ⌜ Marked (now program) (now marks) × (length (now marks) ≡ programBytes) × (vertexWords * vertex + vertexWords ≤ length (now vertices)) ⌝ }
+    ensures { λ r. ⌜ DueThere (now (program .entry)) (now (vertices .entry)) made vertex (dueOf r) ⌝ }
+{
+    let at = VERTEX_WORDS * (vertex as usize);
+    let own = own_words(vertices, vertex as usize);
+    if vertices[at + STATUS] == RELEASED {
+        return Due::Command {
+            command: Command::Start { vertex },
+            own,
+        };
+    }
+    executing(
+        program,
+        is_marked(marks, own.place),
+        vertex,
+        vertices[at + SCOPE],
+        own,
+        made,
+    )
+}
+
+fn is_marked(marks: &[u8], place: u32) -> bool
+    ensures { λ r. ⌜ r ≡ eqb (getD (now (marks .entry)) place 0) 1 ⌝ }
+{
+    let at = place as usize;
+    if marks.len() <= at {
+        return false;
+    }
+    marks[at] == 1
+}
+
+fn own_words(vertices: &[u32], vertex: usize) -> Own
+    requires { ⌜ vertexWords * vertex + vertexWords ≤ length (now vertices) ⌝ }
+    ensures { λ r. ⌜ OwnIn (now (vertices .entry)) vertex (ownWords r) ⌝ }
+{
+    let at = VERTEX_WORDS * vertex;
+    Own {
+        place: vertices[at + PLACE],
+        phase: vertices[at + PHASE],
+        first: vertices[at + FIRST],
+        second: vertices[at + SECOND],
+        third: vertices[at + THIRD],
+    }
+}
+
+// What is due at the step of an executing vertex with these words, where so many vertices are made; `starts` tells whether an item or
+// an end byte starts at its place.
+fn executing(program: &[u8], starts: bool, vertex: u32, scope: u32, own: Own, made: u32) -> Due
+    requires { ⌜ starts ≡ startsAt (now program) (own .place) ⌝ }
     ensures { λ r. ⌜ Next (now (program .entry)) vertex scope (ownWords own) made (dueOf r) ⌝ }
 {
-    let length = program.len();
-    if length == 0 {
+    if !starts {
         return Due::Refused(NOTHING_STARTS);
     }
-    if PROGRAM_BYTES < length {
-        return Due::Refused(NOTHING_STARTS);
-    }
-    let last = (length - 1) as u32;
-    let item = item_at(program, own.place);
+    let last = (program.len() - 1) as u32;
+    let item = item_starting_at(program, own.place);
     match item {
         ItemRead::Refused(refusal) => Due::Refused(NOTHING_STARTS),
         ItemRead::End => end_next(vertex, own),

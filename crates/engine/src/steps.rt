@@ -21,8 +21,8 @@ ghost use Rattle.graph.specs.Answers as of-graph;
 ghost use Rattle.machine.specs.Stepping.{stepLimit};
 ghost use Rattle.machine.specs.Demand2.{saidAs};
 ghost use Rattle.machine.specs.Traces.{Stepped};
-ghost use Rattle.engine.specs.Answers.{said, ownWords};
-ghost use Rattle.engine.specs.Private.{stored};
+ghost use Rattle.engine.specs.Answers.{said, ownWords, dueOf};
+ghost use Rattle.engine.specs.Private.{IsDue, DoesDue, stored};
 
 // One step of `vertex`, with the tally by value.
 pub fn step_by_value(
@@ -35,6 +35,20 @@ pub fn step_by_value(
     ensures { λ r. ⌜ Stepped (now (program .entry)) (lent (now (vertices .entry)) (now (edges .entry)) tally) vertex (said (r .answer)) (lent (now (vertices .exit)) (now (edges .exit)) (r .tally)) ⌝ }
 {
     let next = next_due(program, vertices, edges, tally, vertex);
+    do_due(vertices, edges, tally, vertex, next)
+}
+
+// Does what is due at a step of `vertex`.
+pub(crate) fn do_due(
+    vertices: &mut [u32],
+    edges: &mut [u32],
+    tally: Tally,
+    vertex: u32,
+    next: Due,
+) -> Done
+    requires { ⌜ IsDue (lent (now vertices) (now edges) tally) vertex (dueOf next) ⌝ }
+    ensures { λ r. ⌜ DoesDue (lent (now (vertices .entry)) (now (edges .entry)) tally) vertex (dueOf next) (said (r .answer)) (lent (now (vertices .exit)) (now (edges .exit)) (r .tally)) ⌝ }
+{
     match next {
         Due::Refused(number) => Done {
             answer: Answer::Refused(Refusal { number, place: 0 }),

@@ -1,5 +1,9 @@
 // Writes what a call answered, the tally, and a sum over each table that any changed word shows in.
 use engine::Answer;
+use engine::Ending;
+use engine::LastStep;
+use engine::RunAnswer;
+use graph::Refusal;
 use graph::Tally;
 use libc::STDOUT_FILENO;
 
@@ -41,10 +45,37 @@ pub(crate) fn answer(a: Answer) {
             number(b" ", offset);
         }
         Answer::Stop => text(b"stop"),
-        Answer::Refused(r) => {
-            number(b"refused ", r.number);
-            number(b" ", r.place);
-        }
+        Answer::Refused(r) => refusal(r),
+    }
+}
+
+pub(crate) fn refusal(r: Refusal) {
+    number(b"refused ", r.number);
+    number(b" ", r.place);
+}
+
+pub(crate) fn run(a: RunAnswer) {
+    let how = a.ending;
+    let step = a.last;
+    ending(how);
+    last(step);
+    number(b", taken ", a.taken);
+}
+
+fn ending(e: Ending) {
+    match e {
+        Ending::Done => text(b"done"),
+        Ending::Stuck => text(b"stuck"),
+        Ending::Spent => text(b"spent"),
+        Ending::Refused(r) => refusal(r),
+    }
+}
+
+fn last(step: LastStep) {
+    text(b", last ");
+    match step {
+        LastStep::NoStep => text(b"none"),
+        LastStep::Step(a) => answer(a),
     }
 }
 

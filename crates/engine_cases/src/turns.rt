@@ -2,7 +2,10 @@
 // were answered goes into one sum.
 use crate::show;
 use engine::Answer;
+use engine::Lowest;
 use engine::load::load_by_value;
+use engine::look::lowest_vertex;
+use engine::runs::run_by_value;
 use engine::steps::step_by_value;
 use graph::Tally;
 
@@ -18,11 +21,46 @@ pub(crate) fn run(program: &[u8], vertices: &mut [u32], edges: &mut [u32]) {
     let tally = done.tally;
     show::answer(answer);
     show::left(tally, vertices, edges);
+    lowest(lowest_vertex(program, vertices, edges, tally));
+    let begun = ran(program, vertices, edges, tally, 3);
     let mut counts = [0u32; 40];
-    all(program, vertices, edges, tally, &mut counts);
+    let now = all(program, vertices, edges, begun, &mut counts);
+    ran(program, vertices, edges, now, 60);
 }
 
-fn all(program: &[u8], vertices: &mut [u32], edges: &mut [u32], tally: Tally, counts: &mut [u32]) {
+fn lowest(found: Lowest) {
+    show::text(b"lowest ");
+    match found {
+        Lowest::Vertex(v) => show::number(b"", v),
+        Lowest::NoVertex => show::text(b"none"),
+        Lowest::Refused(r) => show::refusal(r),
+    }
+    show::text(b"\n");
+}
+
+// A run, whose tally it hands on.
+pub(crate) fn ran(
+    program: &[u8],
+    vertices: &mut [u32],
+    edges: &mut [u32],
+    tally: Tally,
+    budget: u32,
+) -> Tally {
+    let done = run_by_value(program, vertices, edges, tally, budget);
+    let answer = done.answer;
+    let after = done.tally;
+    show::run(answer);
+    show::left(after, vertices, edges);
+    after
+}
+
+fn all(
+    program: &[u8],
+    vertices: &mut [u32],
+    edges: &mut [u32],
+    tally: Tally,
+    counts: &mut [u32],
+) -> Tally {
     let mut now = tally;
     let mut sum: u64 = 0;
     for turn in 0..1200u32 {
@@ -36,6 +74,7 @@ fn all(program: &[u8], vertices: &mut [u32], edges: &mut [u32], tally: Tally, co
     all_counts(counts);
     show::number(b" sum ", (sum % 1000003) as u32);
     show::left(now, vertices, edges);
+    now
 }
 
 // The vertex of a turn: all that are made, and the two next numbers.

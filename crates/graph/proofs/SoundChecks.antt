@@ -9,7 +9,7 @@ use borrow.Author.Tests.{lt-ltb, le-ltb, le-leb, lt-leb, leb-true}
 use Rattle.graph.specs.Tests.{both, every}
 use Rattle.graph.specs.Tables.{Lent, NEW, FINISHED, usableLimit, vertexWords, edgeWords, vertexRows, edgeRows, status, source, target}
 use Rattle.graph.specs.Sound.{tallyFits, statusKnown, statusesKnown, endsMade, edgesMade, sound}
-use Rattle.graph.specs.Search.{Searchable}
+use Rattle.graph.specs.Search.{Rows, Searchable}
 use Rattle.graph.proofs.PathLaws.{holds-at}
 use Rattle.graph.proofs.SoundLaws.{sound-fits}
 use Rattle.graph.proofs.TestLaws.{both-true, both-left, both-right, both-false-left, both-false-right, every-all, every-more, every-stop, at-end}
@@ -89,21 +89,21 @@ sound-rows s h =
     let q : s .held ≤ edgeRows (s .edges) = sound-fits s h .edges-fit in
     omega arith
 
-pub searchable : (s : Lent) (a b : ℕ) → sound s ≡ true → a < s .made → b < s .made → Searchable (s .edges) (s .held) a b
+pub usable-rows : (s : Lent) → sound s ≡ true → Rows (s .edges) (s .held)
 unfolding edgesMade endsMade
-searchable s a b h p q =
+usable-rows s h =
     let r = sound-rows s h in
     record {
-      rows =
-          record {
-            full = r .1 .0;
-            few = r .1 .1 .1;
-            ends =
-                every-all _ (s .held)
-                (λ i lt.
-                let m : (source (s .edges) i < s .made) × (target (s .edges) i < s .made) = sound-fits s h .ends-made _ _ (holds-at (s .edges) (s .held) i lt) in
-                both-true (lt-ltb (source (s .edges) i) usableLimit (omega arith)) (lt-ltb (target (s .edges) i) usableLimit (omega arith)));
-          };
-      from-usable = omega arith;
-      to-usable = omega arith;
+      full = r .1 .0;
+      few = r .1 .1 .1;
+      ends =
+          every-all _ (s .held)
+          (λ i lt.
+          let m : (source (s .edges) i < s .made) × (target (s .edges) i < s .made) = sound-fits s h .ends-made _ _ (holds-at (s .edges) (s .held) i lt) in
+          both-true (lt-ltb (source (s .edges) i) usableLimit (omega arith)) (lt-ltb (target (s .edges) i) usableLimit (omega arith)));
     }
+
+pub searchable : (s : Lent) (a b : ℕ) → sound s ≡ true → a < s .made → b < s .made → Searchable (s .edges) (s .held) a b
+searchable s a b h p q =
+    let r = sound-rows s h in
+    record { rows = usable-rows s h; from-usable = omega arith; to-usable = omega arith }

@@ -1,0 +1,83 @@
+-- The promise of a loading with a list of steps, from what the loading and each step are.
+--
+--     Came                        from a loading, steps of these vertices came to this
+--     Onward                      the same, from what the loading left
+--     onward-none, onward-more    before the first step, and one step more
+--     keeps-promise               after the last step demand 3 holds
+--     refused-promise             a refused loading changes nothing
+use Prim.Native.Nat.{ℕ, _+_, _<_, _≤_}
+use mathlib.Core.Path.{_≡_, refl, sym, _∙_, ap, subst}
+use mathlib.Core.Bool.{Bool, true, false, not}
+use mathlib.Core.List.{List, [], _∷_, _++_}
+use native.Mathlib.Numerals.{add-one}
+use lib.ListN.{length, getD, take}
+use lib.Seq.{take-suc, take-all}
+use borrow.Author.Tests.{not-true, not-false}
+use Rattle.graph.specs.Tables.{Lent}
+use Rattle.machine.specs.Answers.{Said, accepted}
+use Rattle.machine.specs.Loading.{load}
+use Rattle.machine.specs.Reached.{Reached, begun, stepped}
+use Rattle.machine.specs.Traces.{Loaded, Stepped}
+use Rattle.machine.proofs.LoadLaws.{load-keeps}
+use Rattle.machine.proofs.Demand3.{demand3, reached-program}
+use Rattle.engine.specs.Promise.{BySteps, no-steps, then-step, Promised, not-loaded, demand-3}
+
+-- from the loading of these bytes onto s₀, steps of these vertices, in this order, came to s
+pub data Came (bytes : List ℕ) (s₀ : Lent) (named : List ℕ) (s : Lent) : Type 0 where
+  came : (answers : List Said) (q : Reached bytes s₀ answers s) → BySteps bytes s₀ named answers s q → Came bytes s₀ named s
+
+loaded-came : {bytes : List ℕ} {s₀ u : Lent} {loading : Said} → Loaded bytes s₀ loading u → accepted loading ≡ true → Came bytes s₀ [] u
+loaded-came {bytes} {s₀} l h =
+    let g : accepted (load bytes s₀ .answer) ≡ true = sym (ap accepted (l .says)) ∙ h in
+    subst (λ (x : Lent). Came bytes s₀ [] x) (sym (l .leaves)) (came [] (begun g) (no-steps g))
+
+step-came :
+    {bytes : List ℕ} {s₀ s s' : Lent} {named : List ℕ} {v : ℕ} {answer : Said} → Came bytes s₀ named s → Stepped bytes s v answer s'
+    → Came bytes s₀ (named ++ (v ∷ [])) s'
+step-came {bytes} {s₀} {named = named} {v} (came answers q b) l =
+    subst (λ (x : Lent). Came bytes s₀ (named ++ (v ∷ [])) x) (sym (l .leaves)) (came _ (stepped q v) (then-step b v))
+
+-- steps of the first i of these vertices came from u to s, whatever was loaded to leave u
+pub data Onward (bytes : List ℕ) (u : Lent) (named : List ℕ) (i : ℕ) (s : Lent) : Type 0 where
+  onward : ((s₀ : Lent) → Came bytes s₀ [] u → Came bytes s₀ (take i named) s) → Onward bytes u named i s
+
+pub onward-none : (bytes : List ℕ) (u : Lent) (named : List ℕ) → Onward bytes u named 0 u
+onward-none bytes u named = onward (λ s₀ h. h)
+
+pub onward-more :
+    {bytes : List ℕ} {u s s' : Lent} {named : List ℕ} {i : ℕ} {answer : Said} → Onward bytes u named i s → i < length named
+    → Stepped bytes s (getD named i 0) answer s' → Onward bytes u named (i + 1) s'
+onward-more {bytes} {s' = s'} {named} {i} (onward f) lt l =
+    onward (λ s₀ h. rw (add-one i) (subst (λ (x : List ℕ). Came bytes s₀ x s') (sym (take-suc named i 0 lt)) (step-came (f s₀ h) l)))
+
+-- all of them
+onward-all :
+    {bytes : List ℕ} {s₀ u s : Lent} {named : List ℕ} {i : ℕ} → Onward bytes u named i s → length named ≤ i → Came bytes s₀ [] u
+    → Came bytes s₀ named s
+onward-all {bytes} {s₀} {s = s} {named} {i} (onward f) le h =
+    subst (λ (x : List ℕ). Came bytes s₀ x s) (take-all i named le) (f s₀ h)
+
+promised :
+    {bytes : List ℕ} {s₀ s : Lent} {named : List ℕ} {loading : Said} → loading ≡ load bytes s₀ .answer → accepted loading ≡ true
+    → Came bytes s₀ named s → Promised bytes s₀ named loading (s .steps) s
+promised {bytes} says h (came answers q b) =
+    let (t, r) = reached-program bytes q in
+    let d = demand3 bytes t r q in
+    demand-3 says h t r answers q b (d .tally-tells) d
+
+-- the loading is accepted: demand 3 of the whole list
+pub keeps-promise :
+    {bytes : List ℕ} {s₀ u s : Lent} {named : List ℕ} {loading : Said} {i : ℕ} {b : Bool} → Loaded bytes s₀ loading u
+    → b ≡ not (accepted loading) → b ≡ false → Onward bytes u named i s → length named ≤ i
+    → Promised bytes s₀ named loading (s .steps) s
+keeps-promise l told h o le =
+    let yes = not-false _ (sym told ∙ h) in
+    promised (l .says) yes (onward-all o le (loaded-came l yes))
+
+-- it is refused
+pub refused-promise :
+    {bytes : List ℕ} {s₀ u : Lent} {loading : Said} {b : Bool} (named : List ℕ) → Loaded bytes s₀ loading u → b ≡ not (accepted loading)
+    → b ≡ true → Promised bytes s₀ named loading 0 u
+refused-promise {bytes} {s₀} named l told h =
+    let no = not-true _ (sym told ∙ h) in
+    not-loaded (l .says) no refl (l .leaves ∙ load-keeps bytes s₀ (sym (ap accepted (l .says)) ∙ no))

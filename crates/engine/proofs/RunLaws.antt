@@ -1,0 +1,229 @@
+-- A run turn by turn, as the code takes it: the vertices are looked at one after the other until a step of one is accepted, and the run goes
+-- on behind this step.
+--
+--     passed-by, due-here                      a vertex that may not step, and what is due of another
+--     turned-down, taken-up, none-left         its step is refused, or accepted; all vertices are looked at
+--     finished-end                             all of them are finished
+--     used-found, used-none, used-refused      how a run ends whose budget is used, by what the look finds
+--     unsound-run, late-run, run-starts        a run at its start
+--     run-turn, run-rests, run-used, ran       a turn, and the ends of a run
+use Prim.Native.Nat.{ℕ, suc, _+_, _-_, _*_, _<_, _≤_}
+use mathlib.Core.Path.{_≡_, refl, sym, _∙_, ap, subst}
+use mathlib.Core.Bool.{Bool, true, false, not}
+use mathlib.Core.List.{List}
+use mathlib.Core.Option.{Option, none, some}
+use native.Mathlib.Omega.{arith}
+use native.Mathlib.Numerals.{add-one}
+use lib.Dec.{eqb}
+use lib.ListN.{length, getD}
+use borrow.Author.Tests.{lt-ltb, le-ltb, not-true, not-false}
+use Rattle.graph.specs.Tests.{every}
+use Rattle.graph.specs.declared.Tally.{Tally}
+use Rattle.graph.specs.declared.Refusal.{Refusal}
+use Rattle.graph.specs.Tables.{Lent, lent, FINISHED, vertexWords, status}
+use Rattle.graph.specs.Sound.{sound}
+use Rattle.graph.proofs.TestLaws.{both-true, both-false-left, both-false-right, at-end}
+use Rattle.graph.proofs.SoundChecks.{sound-rows}
+use Rattle.machine.specs.Answers.{Said, accepted, unsound-tables}
+use Rattle.machine.specs.Stepping.{stepLimit, steppable, step}
+use Rattle.machine.specs.Running.{canStep, lowest, chosen, choose, no-choice, choice-refused, Ending, spent, refused, allFinished, RunOutcome, ended, runOn, run}
+use Rattle.machine.specs.Demand2.{Due, due}
+use Rattle.machine.specs.Traces.{Stepped, Ran}
+use Rattle.machine.proofs.LookLaws.{step-sound, lowest-none, lowest-is, run-turned, run-goes, rests, used-up, goes-on}
+use Rattle.machine.proofs.GhostLaws.{clash}
+use Rattle.machine.proofs.StepDemand2.{step-keeps}
+use Rattle.engine.specs.declared.Done.{Done}
+use Rattle.engine.specs.declared.Attempt.{Attempt}
+use Rattle.engine.specs.declared.Attempt.the-variants as of-attempt
+use Rattle.engine.specs.declared.Lowest.{Lowest}
+use Rattle.engine.specs.declared.Lowest.the-variants as of-lowest
+use Rattle.engine.specs.Answers.{said, choiceOf}
+use Rattle.engine.specs.Private.{DueThere, Blocked, Attempted, atRest, endsWith, whenUsed}
+use Rattle.engine.proofs.CandidateLaws.{mayStep, barred, candidate-due}
+use Rattle.engine.proofs.LowestLaws.{NoneBelow, none-more}
+
+-- all vertices were looked at, and are finished
+pub finished-end :
+    (t : List ℕ) (made v : ℕ) → v ≤ made → made ≤ v → every (λ k. eqb (status t k) FINISHED) v ≡ true
+    → true ≡ every (λ k. eqb (status t k) FINISHED) made
+finished-end t made v p q h = sym (at-end (λ n. every (λ k. eqb (status t k) FINISHED) n ≡ true) p q h)
+
+-- equal tables with one tally
+same-lent : {v v₀ e e₀ : List ℕ} (t : Tally) → v ≡ v₀ → e ≡ e₀ → lent v e t ≡ lent v₀ e₀ t
+same-lent t p q = cc
+
+-- a vertex that may not step is passed by
+pub passed-by :
+    (bytes v₀ e₀ v marks : List ℕ) (t : Tally) (k : ℕ) {r : Bool} → sound (lent v₀ e₀ t) ≡ true → v ≡ v₀ → k < t .made
+    → Blocked e₀ (t .held) marks → r ≡ mayStep (status v k) (getD marks k 0) → not r ≡ true → NoneBelow bytes (lent v₀ e₀ t) k
+    → NoneBelow bytes (lent v₀ e₀ t) (k + 1)
+passed-by bytes v₀ e₀ v marks t k {r} known same made blocked may not-may lower =
+    none-more bytes (lent v₀ e₀ t) k lower
+    (barred bytes v₀ e₀ marks t k known made blocked (subst (λ (x : List ℕ). r ≡ mayStep (status x k) (getD marks k 0)) same may)
+    (not-true _ not-may))
+
+-- of another this is due
+pub due-here :
+    (bytes v₀ e₀ v e marks : List ℕ) (t : Tally) (k : ℕ) {r : Bool} {d : Due} → sound (lent v₀ e₀ t) ≡ true → v ≡ v₀ → e ≡ e₀
+    → t .steps < stepLimit → k < t .made → r ≡ mayStep (status v k) (getD marks k 0) → not r ≡ false → DueThere bytes v (t .made) k d
+    → d ≡ due bytes (lent v e t) k
+due-here bytes v₀ e₀ v e marks t k known p q early made may not-may there =
+    candidate-due bytes v e marks t k (ap sound (same-lent t p q) ∙ known) early made may (not-false _ not-may) there
+
+-- a step that is refused leaves the tables, and its vertex cannot step
+pub turned-down :
+    (bytes v₀ e₀ v e v' e' : List ℕ) (t t' : Tally) (k : ℕ) {r : Bool} (answer : Said) → v ≡ v₀ → e ≡ e₀
+    → Stepped bytes (lent v e t) k answer (lent v' e' t') → r ≡ not (accepted answer) → not r ≡ false → NoneBelow bytes (lent v₀ e₀ t) k
+    → (v' ≡ v₀) × (e' ≡ e₀) × NoneBelow bytes (lent v₀ e₀ t) (k + 1)
+turned-down bytes v₀ e₀ v e v' e' t t' k answer p q stepped refuses is-refused lower =
+    let same : lent v e t ≡ lent v₀ e₀ t = same-lent t p q in
+    let not-accepted : accepted answer ≡ false = not-true _ (sym refuses ∙ not-false _ is-refused) in
+    let cannot : canStep bytes (lent v e t) k ≡ false = sym (ap accepted (stepped .says)) ∙ not-accepted in
+    let kept : lent v' e' t' ≡ lent v e t = stepped .leaves ∙ step-keeps bytes (lent v e t) k cannot in (
+      ap (λ (s : Lent). s .vertices) kept ∙ p,
+      ap (λ (s : Lent). s .edges) kept ∙ q,
+      none-more bytes (lent v₀ e₀ t) k lower (subst (λ (s : Lent). canStep bytes s k ≡ false) same cannot),
+    )
+
+-- a step that is accepted is the lowest vertex's
+pub taken-up :
+    (bytes v₀ e₀ v e v' e' : List ℕ) (t t' : Tally) (k : ℕ) {r : Bool} (answer : Said) → v ≡ v₀ → e ≡ e₀ → k < t .made
+    → Stepped bytes (lent v e t) k answer (lent v' e' t') → r ≡ not (accepted answer) → not r ≡ true → NoneBelow bytes (lent v₀ e₀ t) k
+    → (u : ℕ) × (lowest bytes (lent v₀ e₀ t) ≡ some u) × Stepped bytes (lent v₀ e₀ t) u answer (lent v' e' t')
+taken-up bytes v₀ e₀ v e v' e' t t' k answer p q made stepped refuses not-refused lower =
+    let same : lent v e t ≡ lent v₀ e₀ t = same-lent t p q in
+    let is-accepted : accepted answer ≡ true = not-false _ (sym refuses ∙ not-true _ not-refused) in
+    let here : Stepped bytes (lent v₀ e₀ t) k answer (lent v' e' t') = subst (λ (s : Lent). Stepped bytes s k answer (lent v' e' t')) same stepped in
+    (k, lowest-is bytes (lent v₀ e₀ t) k made (sym (ap accepted (here .says)) ∙ is-accepted) lower, here)
+
+-- no vertex can step once all are looked at
+pub none-left :
+    (bytes v₀ e₀ : List ℕ) (t : Tally) (k : ℕ) → k ≤ t .made → t .made ≤ k → NoneBelow bytes (lent v₀ e₀ t) k
+    → lowest bytes (lent v₀ e₀ t) ≡ none
+none-left bytes v₀ e₀ t k p q h = lowest-none bytes (lent v₀ e₀ t) (λ u lt. h u (omega arith))
+
+-- a run whose budget is used, by what the look finds: a vertex,
+pub used-found :
+    (o : Option ℕ) (all : Bool) {r : Lowest} (v : ℕ) → choiceOf r ≡ chosen o → r ≡ of-lowest.Vertex v → spent ≡ endsWith o all
+unfolding chosen endsWith
+used-found (some u) all v told is = refl
+used-found none all v told is = let e : choose v ≡ no-choice = sym (ap choiceOf is) ∙ told in clash cc
+
+-- none,
+pub used-none :
+    (o : Option ℕ) (s : Lent) {r : Lowest} {e : Ending} → choiceOf r ≡ chosen o → r ≡ of-lowest.NoVertex
+    → e ≡ atRest (every (λ v. eqb (status (s .vertices) v) FINISHED) (s .made)) → e ≡ endsWith o (allFinished s)
+unfolding chosen endsWith allFinished
+used-none (some u) s told is rests = let e : no-choice ≡ choose u = sym (ap choiceOf is) ∙ told in clash cc
+used-none none s told is rests = rests
+
+-- and it is not refused
+pub used-refused :
+    {A : Type 0} (o : Option ℕ) {r : Lowest} (x : Refusal) → choiceOf r ≡ chosen o → r ≡ of-lowest.Refused x → A
+unfolding chosen
+used-refused (some u) x told is =
+    let e : choice-refused (x .number) (x .place) ≡ choose u = sym (ap choiceOf is) ∙ told in clash cc
+used-refused none x told is =
+    let e : choice-refused (x .number) (x .place) ≡ no-choice = sym (ap choiceOf is) ∙ told in clash cc
+
+-- a run on unsound tables is refused,
+pub unsound-run :
+    (bytes : List ℕ) (s : Lent) (budget : ℕ) → sound s ≡ false → run bytes s budget ≡ ended (refused unsound-tables 0) none 0 s
+unfolding steppable
+unsound-run bytes s budget h = run-turned bytes s budget (both-false-left _ h)
+
+-- and so is one on tables whose steps are used up
+pub late-run :
+    (bytes : List ℕ) (s : Lent) (budget : ℕ) → stepLimit ≤ s .steps → run bytes s budget ≡ ended (refused unsound-tables 0) none 0 s
+unfolding steppable
+late-run bytes s budget h = run-turned bytes s budget (both-false-right _ (le-ltb (s .steps) stepLimit h))
+
+-- none of the budget is used
+left-all : (budget : ℕ) → budget ≡ budget - 0
+left-all budget = omega arith
+
+-- a run at its start
+pub run-starts :
+    (bytes : List ℕ) (s : Lent) (budget : ℕ) → sound s ≡ true → s .steps < stepLimit
+    → run bytes s budget ≡ runOn bytes (budget - 0) s none 0
+unfolding steppable
+run-starts bytes s budget h q =
+    run-goes bytes s budget (both-true h (lt-ltb (s .steps) stepLimit q)) ∙ ap (λ (n : ℕ). runOn bytes n s none 0) (left-all budget)
+
+-- a run goes on behind a step
+on-step :
+    (bytes : List ℕ) (s : Lent) (n m : ℕ) (last : Option Said) (taken v : ℕ) {answer : Said} {s' : Lent} → n ≡ suc m → lowest bytes s ≡ some v
+    → answer ≡ step bytes s v .answer → s' ≡ step bytes s v .after
+    → runOn bytes n s last taken ≡ runOn bytes m s' (some answer) (taken + 1)
+on-step bytes s n m last taken v e low says leaves = rw (e, says, leaves, add-one taken) (goes-on bytes m s last taken v low)
+
+-- all of it is used
+left-none : (budget taken : ℕ) → budget ≤ taken → budget - taken ≡ 0
+left-none budget taken le = omega arith
+
+-- and the run ends
+on-used :
+    (bytes : List ℕ) (s : Lent) (last : Option Said) (taken : ℕ) (o : Option ℕ) → lowest bytes s ≡ o
+    → runOn bytes 0 s last taken ≡ ended (endsWith o (allFinished s)) last taken s
+unfolding endsWith
+on-used bytes s last taken none low = rests bytes 0 s last taken low
+on-used bytes s last taken (some v) low = used-up bytes s last taken v low
+
+-- a turn that takes a step
+pub run-turn :
+    (bytes : List ℕ) (s : Lent) (budget taken : ℕ) (last : Option Said) {o : RunOutcome} {a : Attempt} {d : Done} (vs es : List ℕ)
+    → taken < budget → sound s ≡ true → o ≡ runOn bytes (budget - taken) s last taken → Attempted bytes s a vs es → a ≡ of-attempt.Taken d
+    → (sound (lent vs es (d .tally)) ≡ true)
+    × (o ≡ runOn bytes (budget - (taken + 1)) (lent vs es (d .tally)) (some (said (d .answer))) (taken + 1))
+run-turn bytes s budget taken last {o} {a} {d} vs es lt known so attempted is =
+    let (v, low, stepped) = subst (λ (x : Attempt). Attempted bytes s x vs es) is attempted in (
+      ap sound (stepped .leaves) ∙ step-sound bytes s v known,
+      so ∙ on-step bytes s (budget - taken) (budget - (taken + 1)) last taken v (omega arith) low (stepped .says) (stepped .leaves),
+    )
+
+-- the statuses can be read where a turn takes no step
+pub rest-rows :
+    (bytes v₀ e₀ : List ℕ) (t : Tally) {a : Attempt} (vs es : List ℕ) → sound (lent v₀ e₀ t) ≡ true → Attempted bytes (lent v₀ e₀ t) a vs es
+    → a ≡ of-attempt.NoStep → vertexWords * t .made ≤ length vs
+rest-rows bytes v₀ e₀ t vs es known attempted is =
+    let (low, p, q) = subst (λ (x : Attempt). Attempted bytes (lent v₀ e₀ t) x vs es) is attempted in
+    sound-rows (lent vs es t) (ap sound (same-lent t p q) ∙ known) .0
+
+-- all vertices are finished, or not
+rest-is :
+    (s : Lent) {e : Ending} → e ≡ atRest (every (λ k. eqb (status (s .vertices) k) FINISHED) (s .made)) → atRest (allFinished s) ≡ e
+unfolding allFinished
+rest-is s h = sym h
+
+-- a turn that takes none
+pub run-rests :
+    (bytes v₀ e₀ : List ℕ) (t : Tally) (left taken : ℕ) (last : Option Said) {o : RunOutcome} {a : Attempt} {e : Ending} (vs es : List ℕ)
+    → o ≡ runOn bytes left (lent v₀ e₀ t) last taken → Attempted bytes (lent v₀ e₀ t) a vs es → a ≡ of-attempt.NoStep
+    → e ≡ atRest (every (λ k. eqb (status vs k) FINISHED) (t .made)) → o ≡ ended e last taken (lent vs es t)
+run-rests bytes v₀ e₀ t left taken last {o} {a} {e} vs es so attempted is rest =
+    let (low, p, q) = subst (λ (x : Attempt). Attempted bytes (lent v₀ e₀ t) x vs es) is attempted in
+    let same : lent v₀ e₀ t ≡ lent vs es t = sym (same-lent t p q) in
+    so ∙ ap (λ (s : Lent). runOn bytes left s last taken) same
+    ∙ rests bytes left (lent vs es t) last taken (subst (λ (s : Lent). lowest bytes s ≡ none) same low)
+    ∙ ap (λ (x : Ending). ended x last taken (lent vs es t)) (rest-is (lent vs es t) rest)
+
+-- a run whose budget is used
+pub run-used :
+    (bytes : List ℕ) (s : Lent) (budget taken : ℕ) (last : Option Said) {o : RunOutcome} {e : Ending} → budget ≤ taken
+    → o ≡ runOn bytes (budget - taken) s last taken → e ≡ whenUsed bytes s → o ≡ ended e last taken s
+run-used bytes s budget taken last le so is =
+    so ∙ ap (λ (n : ℕ). runOn bytes n s last taken) (left-none budget taken le) ∙ on-used bytes s last taken (lowest bytes s) refl
+    ∙ ap (λ (x : Ending). ended x last taken s) (sym is)
+
+-- so this is what a run answers and leaves
+pub ran :
+    (bytes : List ℕ) (s : Lent) (budget : ℕ) {e e' : Ending} {l l' : Option Said} {n n' : ℕ} (vs es : List ℕ) {t t' : Tally}
+    → run bytes s budget ≡ ended e' l' n' (lent vs es t') → e ≡ e' → l ≡ l' → n ≡ n' → t ≡ t'
+    → Ran bytes s budget e l n (lent vs es t)
+ran bytes s budget vs es h p q r u =
+    record {
+      ends = p ∙ sym (ap (λ (o : RunOutcome). o .ending) h);
+      last-is = q ∙ sym (ap (λ (o : RunOutcome). o .last) h);
+      takes = r ∙ sym (ap (λ (o : RunOutcome). o .taken) h);
+      leaves = ap (λ (x : Tally). lent vs es x) u ∙ sym (ap (λ (o : RunOutcome). o .after) h);
+    }

@@ -1,0 +1,160 @@
+// Looking for the lowest vertex whose step would be accepted. Nothing is stored here.
+use crate::Due;
+use crate::Lowest;
+use crate::next::STEP_LIMIT;
+use crate::next::marked_due;
+use graph::Command;
+use graph::Refusal;
+use graph::Tally;
+use graph::refusals::ACCEPTED;
+use graph::refusals::UNSOUND_TABLES;
+use graph::refusals::new_edge_refusal;
+use graph::refusals::new_td_refusal;
+use graph::refusals::release_refusal;
+use graph::refusals::start_refusal;
+use graph::refusals::stop_refusal;
+use graph::refusals::transfer_refusal;
+use graph::rows::EDGE_WORDS;
+use graph::rows::EXECUTING;
+use graph::rows::RELEASED;
+use graph::rows::STATUS;
+use graph::rows::TARGET;
+use graph::rows::USABLE_LIMIT;
+use graph::rows::VERTEX_WORDS;
+use graph::sound::is_sound;
+use program::format::PROGRAM_BYTES;
+use program::starts::mark_starts;
+ghost use mathlib.Core.Path.{_≡_};
+ghost use mathlib.Core.Bool.{true};
+ghost use lib.Dec.{eqb};
+ghost use lib.ListN.{length, replicate};
+ghost use Rattle.graph.specs.Tests.{both, either};
+ghost use Rattle.graph.specs.Tables.{lent, RELEASED, EXECUTING, usableLimit};
+ghost use Rattle.graph.specs.Sound.{sound};
+ghost use Rattle.graph.specs.Search.{Rows};
+ghost use Rattle.graph.specs.Commands.{command};
+ghost use Rattle.graph.specs.Answers as of-graph;
+ghost use Rattle.program.specs.Limits.{programBytes};
+ghost use Rattle.program.specs.Located.{Marked};
+ghost use Rattle.machine.specs.Answers.{unsound-tables};
+ghost use Rattle.machine.specs.Running.{lowest, chosen, choice, choice-refused};
+ghost use Rattle.engine.specs.Answers.{dueOf, choiceOf};
+ghost use Rattle.engine.specs.Private.{Blocked, takes};
+
+// The lowest vertex whose step would be accepted.
+pub fn lowest_vertex(program: &[u8], vertices: &[u32], edges: &[u32], tally: Tally) -> Lowest
+    ensures { λ r. ⌜ choiceOf r ≡ choice (now (program .entry)) (lent (now (vertices .entry)) (now (edges .entry)) tally) ⌝ }
+{
+    if !is_sound(vertices, edges, tally) {
+        return refused();
+    }
+    if STEP_LIMIT <= tally.steps {
+        return refused();
+    }
+    let mut marks = [0u8; PROGRAM_BYTES];
+    mark_starts(program, &mut marks);
+    lowest_marked(program, &marks, vertices, edges, tally)
+}
+
+fn refused() -> Lowest
+    ensures { λ r. ⌜ choiceOf r ≡ choice-refused unsound-tables 0 ⌝ }
+{
+    Lowest::Refused(Refusal {
+        number: UNSOUND_TABLES,
+        place: 0,
+    })
+}
+
+// The same on sound tables, in a program with these marks where its items and end bytes start.
+pub(crate) fn lowest_marked(
+    program: &[u8],
+    marks: &[u8],
+    vertices: &[u32],
+    edges: &[u32],
+    tally: Tally,
+) -> Lowest
+    requires { ⌜ Marked (now program) (now marks) × (length (now marks) ≡ programBytes) × (sound (lent (now vertices) (now edges) tally) ≡ true) ⌝ }
+    ensures { λ r. ⌜ choiceOf r ≡ chosen (lowest (now (program .entry)) (lent (now (vertices .entry)) (now (edges .entry)) tally)) ⌝ }
+{
+    if STEP_LIMIT <= tally.steps {
+        return Lowest::NoVertex;
+    }
+    let mut blocked = [0u8; USABLE_LIMIT];
+    mark_blocked(edges, tally.held as usize, &mut blocked);
+    for v in 0..tally.made {
+        let vertex = v as usize;
+        if !may_step(vertices[VERTEX_WORDS * vertex + STATUS], blocked[vertex]) {
+            continue;
+        }
+        let next = marked_due(program, marks, vertices, tally.made, v);
+        if would_take(vertices, edges, tally, next) {
+            return Lowest::Vertex(v);
+        }
+    }
+    Lowest::NoVertex
+}
+
+// Marks with 1 the vertices that an edge leads into.
+pub(crate) fn mark_blocked(edges: &[u32], held: usize, blocked: &mut [u8])
+    requires { ⌜ Rows (now edges) held × (now blocked ≡ replicate usableLimit 0) ⌝ }
+    ensures { λ _. ⌜ Blocked (now (edges .entry)) held (now (blocked .exit)) ⌝ }
+{
+    for i in 0..held {
+        let target = edges[EDGE_WORDS * i + TARGET] as usize;
+        blocked[target] = 1;
+    }
+}
+
+// A vertex with this status may step: it executes, or it is released and no edge leads into it.
+pub(crate) fn may_step(status: u32, blocked: u8) -> bool
+    ensures { λ r. ⌜ r ≡ either (eqb status EXECUTING) (both (eqb status RELEASED) (eqb blocked 0)) ⌝ }
+{
+    if status == EXECUTING {
+        return true;
+    }
+    if status != RELEASED {
+        return false;
+    }
+    blocked == 0
+}
+
+// What is due would be accepted.
+fn would_take(vertices: &[u32], edges: &[u32], tally: Tally, next: Due) -> bool
+    ensures { λ r. ⌜ r ≡ takes (lent (now (vertices .entry)) (now (edges .entry)) tally) (dueOf next) ⌝ }
+{
+    match next {
+        Due::Refused(number) => false,
+        Due::Job {
+            number,
+            offset,
+            own,
+        } => true,
+        Due::Command { command, own } => refusal(vertices, edges, tally, command) == ACCEPTED,
+    }
+}
+
+// The refusal of a single command, or `ACCEPTED`.
+fn refusal(vertices: &[u32], edges: &[u32], tally: Tally, given: Command) -> u32
+    ensures { λ r. ⌜ eqb r 0 ≡ of-graph.accepted (command given (lent (now (vertices .entry)) (now (edges .entry)) tally) .answer) ⌝ }
+{
+    match given {
+        Command::NewTd {
+            caller,
+            place,
+            scope,
+        } => new_td_refusal(vertices, edges, tally, caller),
+        Command::NewEdge {
+            caller,
+            source,
+            target,
+        } => new_edge_refusal(vertices, edges, tally, caller, source, target),
+        Command::Release { caller, vertex } => {
+            release_refusal(vertices, edges, tally, caller, vertex)
+        }
+        Command::Transfer { caller, vertex } => {
+            transfer_refusal(vertices, edges, tally, caller, vertex)
+        }
+        Command::Start { vertex } => start_refusal(vertices, edges, tally, vertex),
+        Command::Stop { caller } => stop_refusal(vertices, edges, tally, caller),
+    }
+}

@@ -1,0 +1,239 @@
+// Drawn programs, each stepped in several orders until it has taken all its steps. The order of its jobs is written down.
+use crate::show;
+use crate::turns::ran;
+use engine::Answer;
+use engine::Lowest;
+use engine::load::load_by_value;
+use engine::look::lowest_vertex;
+use engine::steps::step_by_value;
+use graph::Tally;
+use program::ProgramRead;
+use program::reading::read;
+use program::reading::steps;
+ghost use Prim.Native.Nat.{_+_, _≤_};
+ghost use lib.ListN.{length};
+
+pub(crate) fn all() {
+    for seed in 0..30u64 {
+        one(seed * 7919 + 11);
+    }
+}
+
+fn one(seed: u64) {
+    let mut program = [0u8; 120];
+    let n = draw(&mut program, seed);
+    in_each_order(&program[..n], seed);
+}
+
+fn in_each_order(program: &[u8], seed: u64) {
+    show::bytes(program);
+    let needed = steps_needed(program);
+    for order in 0..5u32 {
+        in_order(program, seed, order, needed);
+    }
+}
+
+fn steps_needed(program: &[u8]) -> u64 {
+    let reading = read(program);
+    match reading {
+        ProgramRead::Refused(refusal) => 0,
+        ProgramRead::Program(items) => steps(items),
+    }
+}
+
+fn random(drawn: u64) -> u64 {
+    (drawn % 2147483648 * 1103515245 + 12345) % 2147483648
+}
+
+// Draws a program of at most as many bytes as are lent, and answers how many it has. `open` bodies are not closed yet, and each needs a
+// byte for its end.
+fn draw(program: &mut [u8], seed: u64) -> usize
+    ensures { λ r. ⌜ r ≤ length (now (program .exit)) ⌝ }
+{
+    if program.len() == 0 {
+        return 0;
+    }
+    let mut drawn = seed;
+    let mut open: usize = 1;
+    let mut at: usize = 0;
+    while 0 < open {
+        drawn = random(drawn);
+        let kind = kind(drawn / 4096, open, program.len() - at - open);
+        if kind == 0 {
+            program[at] = 0;
+            at += 1;
+            open -= 1;
+        } else if kind == 1 {
+            at = job(program, at, drawn / 65536);
+        } else if kind == 4 {
+            program[at] = 4;
+            at += 1;
+            open += 2;
+        } else {
+            program[at] = kind;
+            at += 1;
+            open += 1;
+        }
+    }
+    at
+}
+
+// The kind of the next item, or 0 for an end.
+fn kind(drawn: u64, open: usize, room: usize) -> u8 {
+    if room < 4 {
+        return 0;
+    }
+    let n = drawn % 10;
+    if n < 3 {
+        return closing(open, room);
+    }
+    if n < 6 {
+        return 1;
+    }
+    if 12 < open {
+        return 1;
+    }
+    if n < 8 {
+        return 2;
+    }
+    if n == 8 { 3 } else { 4 }
+}
+
+// The main body goes on while there is much room.
+fn closing(open: usize, room: usize) -> u8 {
+    if 1 < open {
+        return 0;
+    }
+    if room < 40 { 0 } else { 3 }
+}
+
+// A job with a number of one byte or two.
+fn job(program: &mut [u8], at: usize, drawn: u64) -> usize
+    requires { ⌜ at + 3 ≤ length (now program) ⌝ }
+{
+    program[at] = 1;
+    if drawn % 3 == 0 {
+        program[at + 1] = (128 + drawn % 100) as u8;
+        program[at + 2] = (1 + drawn % 7) as u8;
+        return at + 3;
+    }
+    program[at + 1] = (drawn % 128) as u8;
+    at + 2
+}
+
+fn in_order(program: &[u8], seed: u64, order: u32, needed: u64) {
+    let mut vertices = [0u32; 2100];
+    let mut edges = [0u32; 600];
+    let none = Tally {
+        made: 0,
+        held: 0,
+        steps: 0,
+    };
+    let loaded = load_by_value(program, &mut vertices, &mut edges, none);
+    let begun = loaded.tally;
+    show::number(b"order ", order);
+    if order == 4 {
+        runs(program, &mut vertices, &mut edges, begun, needed);
+    } else {
+        turns(
+            program,
+            &mut vertices,
+            &mut edges,
+            begun,
+            order,
+            seed,
+            needed,
+        );
+    }
+}
+
+// Steps of vertices named in an order, until all steps are taken.
+fn turns(
+    program: &[u8],
+    vertices: &mut [u32],
+    edges: &mut [u32],
+    begun: Tally,
+    order: u32,
+    seed: u64,
+    needed: u64,
+) {
+    let mut now = begun;
+    let mut drawn = seed;
+    let mut refused: u32 = 0;
+    show::text(b" jobs");
+    for turn in 0..30000u32 {
+        if (now.steps as u64) == needed {
+            break;
+        }
+        drawn = random(drawn);
+        let vertex = named(program, vertices, edges, now, order, turn, drawn / 4096);
+        let done = step_by_value(program, vertices, edges, now, vertex);
+        let answer = done.answer;
+        now = done.tally;
+        refused = (refused % 65536) + written(answer);
+    }
+    show::number(b" refused ", refused);
+    show::left(now, vertices, edges);
+}
+
+// The vertex of a turn: the lowest that can step; or of all that are made and the two next numbers each in turn, from below or from
+// above, or any.
+fn named(
+    program: &[u8],
+    vertices: &[u32],
+    edges: &[u32],
+    tally: Tally,
+    order: u32,
+    turn: u32,
+    drawn: u64,
+) -> u32 {
+    let made = tally.made % 4096;
+    if order == 0 {
+        return lowest(lowest_vertex(program, vertices, edges, tally));
+    }
+    if order == 1 {
+        return turn % (made + 2);
+    }
+    if order == 2 {
+        return made + 1 - turn % (made + 2);
+    }
+    (drawn % ((made as u64) + 2)) as u32
+}
+
+fn lowest(found: Lowest) -> u32 {
+    match found {
+        Lowest::Vertex(v) => v,
+        Lowest::NoVertex => 4294967295,
+        Lowest::Refused(refusal) => 4294967294,
+    }
+}
+
+// Writes a job's offset; answers 1 for a refusal.
+fn written(answer: Answer) -> u32 {
+    match answer {
+        Answer::Loaded => 0,
+        Answer::Start => 0,
+        Answer::New(v) => 0,
+        Answer::Edge(a, b) => 0,
+        Answer::Release(v) => 0,
+        Answer::Transfer(v) => 0,
+        Answer::Job { number, offset } => {
+            show::number(b" ", offset);
+            0
+        }
+        Answer::Stop => 0,
+        Answer::Refused(r) => 1,
+    }
+}
+
+// Runs with budgets from 0 to 16.
+fn runs(program: &[u8], vertices: &mut [u32], edges: &mut [u32], begun: Tally, needed: u64) {
+    let mut now = begun;
+    show::text(b" runs\n");
+    for turn in 0..300u32 {
+        now = ran(program, vertices, edges, now, turn * 5 % 17);
+        if (now.steps as u64) == needed {
+            break;
+        }
+    }
+}

@@ -1,0 +1,6 @@
+-- What a reader must believe of the crate `listing`:
+--     Text       the lister's lines, as bytes
+-- Nobody has to believe this one, which the contracts of private functions cite:
+--     Private    a text put behind what stands on a line
+pub mod Text
+pub mod Private
