@@ -162,10 +162,11 @@ fn when_used(program: &[u8], marks: &[u8], vertices: &[u32], edges: &[u32], tall
     ensures { λ r. ⌜ endingOf r ≡ whenUsed (now (program .entry)) (lent (now (vertices .entry)) (now (edges .entry)) tally) ⌝ }
 {
     let found = lowest_marked(program, marks, vertices, edges, tally);
+    let rest = at_rest(vertices, tally.made as usize);
     match found {
         Lowest::Vertex(v) => Ending::Spent,
-        Lowest::NoVertex => at_rest(vertices, tally.made as usize),
-        Lowest::Refused(refusal) => at_rest(vertices, tally.made as usize),
+        Lowest::NoVertex => rest,
+        Lowest::Refused(refusal) => rest,
     }
 }
 
