@@ -5,7 +5,7 @@ use engine::load::load_by_value;
 use engine::steps::step_by_value;
 use graph::Tally;
 use graph::rows::PLACE;
-ghost use Prim.Native.Nat.{_*_, _+_, _≤_};
+ghost use Prim.Native.Nat.{_*_, _≤_};
 ghost use lib.ListN.{length};
 
 pub(crate) fn all() {
@@ -28,10 +28,12 @@ fn asyncs(count: usize, apart: usize)
 }
 
 fn place(program: &mut [u8], count: usize, apart: usize)
-    requires { ⌜ apart * count + 1 ≤ length (now program) ⌝ }
+    requires { ⌜ (apart ≤ 2) × (2 * count ≤ length (now program)) ⌝ }
 {
+    let mut at = 0;
     for i in 0..count {
-        program[apart * i] = 2;
+        program[at] = 2;
+        at += apart;
     }
 }
 

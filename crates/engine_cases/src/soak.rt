@@ -10,7 +10,7 @@ use graph::Tally;
 use program::ProgramRead;
 use program::reading::read;
 use program::reading::steps;
-ghost use Prim.Native.Nat.{_+_, _≤_};
+ghost use Prim.Native.Nat.{_+_, _-_, _*_, _<_, _≤_};
 ghost use lib.ListN.{length};
 
 pub(crate) fn all() {
@@ -63,23 +63,25 @@ fn draw(program: &mut [u8], seed: u64) -> usize
             program[at] = 0;
             at += 1;
             open -= 1;
-        } else if kind == 1 {
+        } else if kind < 2 {
             at = job(program, at, drawn / 65536);
-        } else if kind == 4 {
-            program[at] = 4;
-            at += 1;
-            open += 2;
-        } else {
+        } else if kind < 4 {
             program[at] = kind;
             at += 1;
             open += 1;
+        } else {
+            program[at] = 4;
+            at += 1;
+            open += 2;
         }
     }
     at
 }
 
-// The kind of the next item, or 0 for an end.
-fn kind(drawn: u64, open: usize, room: usize) -> u8 {
+// The kind of the next item, or 0 for an end, and 0 where there is room for less than 4 bytes.
+fn kind(drawn: u64, open: usize, room: usize) -> u8
+    ensures { λ r. ⌜ 4 ≤ room + 4 * (1 - r) ⌝ }
+{
     if room < 4 {
         return 0;
     }
@@ -110,6 +112,7 @@ fn closing(open: usize, room: usize) -> u8 {
 // A job with a number of one byte or two.
 fn job(program: &mut [u8], at: usize, drawn: u64) -> usize
     requires { ⌜ at + 3 ≤ length (now program) ⌝ }
+    ensures { λ r. ⌜ (at < r) × (r ≤ at + 3) ⌝ }
 {
     program[at] = 1;
     if drawn % 3 == 0 {
@@ -170,7 +173,7 @@ fn turns(
         let done = step_by_value(program, vertices, edges, now, vertex);
         let answer = done.answer;
         now = done.tally;
-        refused = (refused % 65536) + written(answer);
+        refused = refused % 65536 + written(answer);
     }
     show::number(b" refused ", refused);
     show::left(now, vertices, edges);
@@ -187,17 +190,24 @@ fn named(
     turn: u32,
     drawn: u64,
 ) -> u32 {
-    let made = tally.made % 4096;
+    let numbers = tally.made % 4096 + 2;
     if order == 0 {
         return lowest(lowest_vertex(program, vertices, edges, tally));
     }
     if order == 1 {
-        return turn % (made + 2);
+        return below(turn as u64, numbers);
     }
     if order == 2 {
-        return made + 1 - turn % (made + 2);
+        return numbers - 1 - below(turn as u64, numbers);
     }
-    (drawn % ((made as u64) + 2)) as u32
+    below(drawn, numbers)
+}
+
+fn below(drawn: u64, numbers: u32) -> u32
+    requires { ⌜ 0 < numbers ⌝ }
+    ensures { λ r. ⌜ r < numbers ⌝ }
+{
+    (drawn % (numbers as u64)) as u32
 }
 
 fn lowest(found: Lowest) -> u32 {
@@ -209,7 +219,9 @@ fn lowest(found: Lowest) -> u32 {
 }
 
 // Writes a job's offset; answers 1 for a refusal.
-fn written(answer: Answer) -> u32 {
+fn written(answer: Answer) -> u32
+    ensures { λ r. ⌜ r ≤ 1 ⌝ }
+{
     match answer {
         Answer::Loaded => 0,
         Answer::Start => 0,

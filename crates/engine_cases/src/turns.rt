@@ -22,6 +22,11 @@ pub(crate) fn run(program: &[u8], vertices: &mut [u32], edges: &mut [u32]) {
     show::answer(answer);
     show::left(tally, vertices, edges);
     lowest(lowest_vertex(program, vertices, edges, tally));
+    loaded(program, vertices, edges, tally);
+}
+
+// A short run, the turns, and a run.
+fn loaded(program: &[u8], vertices: &mut [u32], edges: &mut [u32], tally: Tally) {
     let begun = ran(program, vertices, edges, tally, 3);
     let mut counts = [0u32; 40];
     let now = all(program, vertices, edges, begun, &mut counts);

@@ -1,0 +1,36 @@
+-- The turns stay below their end; the tables keep their lengths.
+use Prim.Native.Nat.{_-_, _≤_}
+use Rattle.engine_cases.proofs.soak.turns.Statement.{statement}
+use Rattle.engine_cases.proofs.soak.turns.Tie as tie
+use borrow.Author.Needs.{needs}
+use lib.ListN.{length}
+use mathlib.Core.Path.{_≡_}
+use native.Mathlib.Omega.{arith}
+
+abbrev Inv-loop : tie.InvT-loop
+Inv-loop program vertices₀ edges₀ order seed needed now₀ drawn₀ refused₀ turn₀ t16 vertices edges now drawn refused turn = (turn ≤ 30000) × ((length vertices ≡ length vertices₀) × (length edges ≡ length edges₀))
+
+abbrev μ-loop : tie.MeasureT-loop
+μ-loop program vertices₀ edges₀ order seed needed now₀ drawn₀ refused₀ turn₀ t16 vertices edges now drawn refused turn = 30000 - turn
+
+pub turns-spec : {M : Type 1} → statement M
+turns-spec = tie.close (tie.spec Inv-loop
+    μ-loop
+    (λ c. search needs)
+    (λ c κs. search needs)
+    (λ c. omega arith)
+    (λ c. search needs)
+    (λ c κs. search needs)
+    (λ c κs. search needs)
+    (λ c κs. search needs)
+    (λ c κs. search needs)
+    (λ c. omega arith)
+    (λ c. omega arith)
+    (λ c. omega arith)
+    (λ c. omega arith)
+    (λ c. search needs)
+    (λ c κs. search needs)
+    (λ c κs. search needs)
+    (λ c. omega arith)
+    (λ c. omega arith)
+    (λ c. search needs))
