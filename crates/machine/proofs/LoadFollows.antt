@@ -49,28 +49,28 @@ module _ (l : List ℕ) (k x : ℕ) where
       (i : ℕ) → (i ≡ vertexWords * k + statusWord → ⊥) → (i ≡ vertexWords * k + placeWord → ⊥)
       → (i ≡ vertexWords * k + scopeWord → ⊥) → getD (placed l k x) i 0 ≡ getD l i 0
   placed-out i ns np nc =
-      getD-set-other (setVertexWord (setStatus l k RELEASED) k placeWord x) (vertexWords * k + scopeWord) i 1 0 nc
+      getD-set-other (setVertexWord (setStatus l k RELEASED) k placeWord x) (vertexWords * k + scopeWord) i _ 0 nc
       ∙ getD-set-other (setStatus l k RELEASED) (vertexWords * k + placeWord) i x 0 np
       ∙ getD-set-other l (vertexWords * k + statusWord) i RELEASED 0 ns
 
   -- these three
   placed-status : k < vertexRows l → vertexWord (placed l k x) k statusWord ≡ RELEASED
   placed-status lt =
-      getD-set-other (setVertexWord (setStatus l k RELEASED) k placeWord x) (vertexWords * k + scopeWord) (vertexWords * k + statusWord) 1 0
+      getD-set-other (setVertexWord (setStatus l k RELEASED) k placeWord x) (vertexWords * k + scopeWord) (vertexWords * k + statusWord) _ 0
       (omega arith)
       ∙ getD-set-other (setStatus l k RELEASED) (vertexWords * k + placeWord) (vertexWords * k + statusWord) x 0 (omega arith)
       ∙ getD-set-same l (vertexWords * k + statusWord) RELEASED 0 (vertex-in l k statusWord lt (omega arith))
 
   placed-place : k < vertexRows l → vertexWord (placed l k x) k placeWord ≡ x
   placed-place lt =
-      getD-set-other (setVertexWord (setStatus l k RELEASED) k placeWord x) (vertexWords * k + scopeWord) (vertexWords * k + placeWord) 1 0
+      getD-set-other (setVertexWord (setStatus l k RELEASED) k placeWord x) (vertexWords * k + scopeWord) (vertexWords * k + placeWord) _ 0
       (omega arith)
       ∙ getD-set-same (setStatus l k RELEASED) (vertexWords * k + placeWord) x 0
       (simp length-set (vertex-in l k placeWord lt (omega arith)))
 
   placed-scope : k < vertexRows l → vertexWord (placed l k x) k scopeWord ≡ 1
   placed-scope lt =
-      getD-set-same (setVertexWord (setStatus l k RELEASED) k placeWord x) (vertexWords * k + scopeWord) 1 0
+      getD-set-same (setVertexWord (setStatus l k RELEASED) k placeWord x) (vertexWords * k + scopeWord) _ 0
       (simp length-set (vertex-in l k scopeWord lt (omega arith)))
 
   -- its whole row
