@@ -42,17 +42,17 @@ clear-length l from zero = refl
 clear-length l from (suc n) = length-set (clear l from n) (from + n) 0 ∙ clear-length l from n
 
 -- what reading told
-unread-is : (r : Reading) {n p : ℕ} → of-program.Said.refused n p ≡ told r → r ≡ refusal n p
+pub unread-is : (r : Reading) {n p : ℕ} → of-program.Said.refused n p ≡ told r → r ≡ refusal n p
 unfolding told
 unread-is (program b) h = absurd (let z : _≡_ {A = ℕ} 0 1 = cc in omega arith)
 unread-is (refusal n p) h = cc
 
-record Read (bytes : List ℕ) (c : Counts) : Type 0 where
-  tree : Body
-  is-read : reading bytes ≡ program tree
-  counted : c ≡ counts tree
+pub record Read (bytes : List ℕ) (c : Counts) : Type 0 where
+  pub tree : Body
+  pub is-read : reading bytes ≡ program tree
+  pub counted : c ≡ counts tree
 
-read-is : (bytes : List ℕ) (r : Reading) {c : Counts} → reading bytes ≡ r → loads c ≡ told r → Read bytes c
+pub read-is : (bytes : List ℕ) (r : Reading) {c : Counts} → reading bytes ≡ r → loads c ≡ told r → Read bytes c
 unfolding told
 read-is bytes (program b) e h = record { tree = b; is-read = e; counted = cc }
 read-is bytes (refusal n p) e h = absurd (let z : _≡_ {A = ℕ} 0 1 = cc in omega arith)

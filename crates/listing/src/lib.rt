@@ -1,114 +1,100 @@
-// The lister's lines as text: a heading, one line for each step, and a refusal. Each is written to the start of a lent line and is proved
-// to be what specs/Text.antt gives.
+// The lister, over lent tables: `first_line` loads a program and `next_line` steps its lowest vertex, and each hands out the line that a
+// program has to write then. specs/Lines.antt tells which lines these are.
+mod text;
+
+use crate::text::heading;
+use crate::text::refusal_line;
+use crate::text::step_line;
 use engine::Answer;
+use engine::Lowest;
+use engine::load::load_by_value;
+use engine::look::lowest_vertex;
+use engine::steps::step_by_value;
 use graph::Refusal;
-use io::decimal;
-use program::ItemCounts;
-use program::reading::steps;
-use program::reading::vertices;
-ghost use Prim.Native.Nat.{_+_, _≤_};
-ghost use mathlib.Core.Path.{_≡_};
-ghost use mathlib.Core.List.{_++_};
-ghost use lib.ListN.{length, take};
+use graph::Tally;
+use program::ProgramRead;
+use program::reading::read;
+ghost use lib.ListN.{take};
 ghost use Rattle.io.specs.Counts.{Counts};
-ghost use Rattle.program.specs.Encodings.{vertexFormula, stepFormula};
-ghost use Rattle.program.specs.Answers.{itemCounts};
-ghost use Rattle.engine.specs.Answers.{said};
-ghost use Rattle.listing.specs.Text.{numeral, answerText, headingText, stepText, refusalText};
-ghost use Rattle.listing.specs.Private.{Put, pairText, pairRoom, answerRoom};
+ghost use Rattle.graph.specs.Tables.{lent};
+ghost use Rattle.listing.specs.Lines.{lengthOf, unused, FirstLine, NextLine};
 
 // Room for the longest line.
 pub const LINE_BYTES: usize = 64;
 
-// The heading of a program with these items.
-pub fn heading(items: ItemCounts, line: &mut [u8; LINE_BYTES]) -> usize
-    ensures { λ r. ⌜ Counts r (now (line .exit)) ⌝ }
-    ensures { λ r. ⌜ take r (now (line .exit)) ≡ headingText (vertexFormula (itemCounts items)) (items .jobs) (stepFormula (itemCounts items)) ⌝ }
-{
-    let jobs = items.jobs as u64;
-    let mut at = put_named(line, 0, b"vertices ", vertices(items));
-    at = put_named(line, at, b" jobs ", jobs);
-    at = put_named(line, at, b" steps ", steps(items));
-    put_text(line, at, b"\n")
+// The length of a line at the start of what was lent for it, and the tally with which the next one is asked for. `Last` ends the listing,
+// with a line or with none.
+pub enum Line {
+    Text { length: usize, tally: Tally },
+    Last { length: usize },
 }
 
-// The line of a step of this vertex that answers this.
-pub fn step_line(vertex: u32, answer: Answer, line: &mut [u8; LINE_BYTES]) -> usize
-    ensures { λ r. ⌜ Counts r (now (line .exit)) ⌝ }
-    ensures { λ r. ⌜ take r (now (line .exit)) ≡ stepText vertex (said answer) ⌝ }
+// Loads a program. The line is the heading, or the refusal.
+pub fn first_line(
+    program: &[u8],
+    vertices: &mut [u32],
+    edges: &mut [u32],
+    line: &mut [u8; LINE_BYTES],
+) -> Line
+    ensures { λ r. ⌜ Counts (lengthOf r) (now (line .exit)) ⌝ }
+    ensures { λ r. ⌜ FirstLine (now (program .entry)) (unused (now (vertices .entry)) (now (edges .entry))) r (take (lengthOf r) (now (line .exit))) (now (vertices .exit)) (now (edges .exit)) ⌝ }
 {
-    let mut at = put_number(line, 0, vertex as u64);
-    at = put_text(line, at, b" ");
-    at = put_answer(line, at, answer);
-    put_text(line, at, b"\n")
-}
-
-// The line of a refused program.
-pub fn refusal_line(refusal: Refusal, line: &mut [u8; LINE_BYTES]) -> usize
-    ensures { λ r. ⌜ Counts r (now (line .exit)) ⌝ }
-    ensures { λ r. ⌜ take r (now (line .exit)) ≡ refusalText (refusal .number) (refusal .place) ⌝ }
-{
-    let at = put_pair(line, 0, b"refused ", refusal.number, refusal.place);
-    put_text(line, at, b"\n")
-}
-
-// Puts what a step answered behind the line's first `at` bytes, and answers where it ends, as all of these do.
-fn put_answer(line: &mut [u8], at: usize, answer: Answer) -> usize
-    requires { ⌜ at + answerRoom ≤ length (now line) ⌝ }
-    ensures { λ r. ⌜ r ≤ at + answerRoom ⌝ }
-    ensures { λ r. ⌜ Put (now (line .entry)) at (answerText (said answer)) (now (line .exit)) r ⌝ }
-{
-    match answer {
-        Answer::Loaded => put_text(line, at, b"loaded"),
-        Answer::Start => put_text(line, at, b"start"),
-        Answer::New(v) => put_named(line, at, b"new ", v as u64),
-        Answer::Edge(a, b) => put_pair(line, at, b"edge ", a, b),
-        Answer::Release(v) => put_named(line, at, b"release ", v as u64),
-        Answer::Transfer(v) => put_named(line, at, b"transfer ", v as u64),
-        Answer::Job { number, offset: _ } => put_named(line, at, b"job ", number as u64),
-        Answer::Stop => put_text(line, at, b"stop"),
-        Answer::Refused(refusal) => put_pair(line, at, b"refused ", refusal.number, refusal.place),
+    let reading = read(program);
+    match reading {
+        ProgramRead::Refused(refusal) => Line::Last {
+            length: refusal_line(
+                Refusal {
+                    number: refusal.number,
+                    place: refusal.place,
+                },
+                line,
+            ),
+        },
+        ProgramRead::Program(items) => {
+            let nothing = Tally {
+                made: 0,
+                held: 0,
+                steps: 0,
+            };
+            let loaded = load_by_value(program, vertices, edges, nothing);
+            let answer = loaded.answer;
+            let tally = loaded.tally;
+            if let Answer::Refused(refusal) = answer {
+                return Line::Last {
+                    length: refusal_line(refusal, line),
+                };
+            }
+            Line::Text {
+                length: heading(items, line),
+                tally,
+            }
+        }
     }
 }
 
-// A word and two numbers.
-fn put_pair(line: &mut [u8], at: usize, word: &[u8], a: u32, b: u32) -> usize
-    requires { ⌜ at + (length (now word) + pairRoom) ≤ length (now line) ⌝ }
-    ensures { λ r. ⌜ r ≤ at + (length (now (word .entry)) + pairRoom) ⌝ }
-    ensures { λ r. ⌜ Put (now (line .entry)) at (pairText (now (word .entry)) a b) (now (line .exit)) r ⌝ }
+// Steps the lowest vertex that can step. The line is that step's; there is none where no vertex can step.
+pub fn next_line(
+    program: &[u8],
+    vertices: &mut [u32],
+    edges: &mut [u32],
+    tally: Tally,
+    line: &mut [u8; LINE_BYTES],
+) -> Line
+    ensures { λ r. ⌜ Counts (lengthOf r) (now (line .exit)) ⌝ }
+    ensures { λ r. ⌜ NextLine (now (program .entry)) (lent (now (vertices .entry)) (now (edges .entry)) tally) r (take (lengthOf r) (now (line .exit))) (now (vertices .exit)) (now (edges .exit)) ⌝ }
 {
-    let between = put_named(line, at, word, a as u64);
-    put_named(line, between, b" ", b as u64)
-}
-
-// A word and a number.
-fn put_named(line: &mut [u8], at: usize, word: &[u8], n: u64) -> usize
-    requires { ⌜ at + length (now word ++ numeral n) ≤ length (now line) ⌝ }
-    ensures { λ r. ⌜ Put (now (line .entry)) at (now (word .entry) ++ numeral n) (now (line .exit)) r ⌝ }
-{
-    let behind = put_text(line, at, word);
-    put_number(line, behind, n)
-}
-
-// A number.
-fn put_number(line: &mut [u8], at: usize, n: u64) -> usize
-    requires { ⌜ at + length (numeral n) ≤ length (now line) ⌝ }
-    ensures { λ r. ⌜ Put (now (line .entry)) at (numeral n) (now (line .exit)) r ⌝ }
-{
-    let mut digits = [0u8; 20];
-    let k = decimal(n, &mut digits);
-    put_text(line, at, &digits[..k])
-}
-
-// A text.
-fn put_text(line: &mut [u8], at: usize, text: &[u8]) -> usize
-    requires { ⌜ at + length (now text) ≤ length (now line) ⌝ }
-    ensures { λ r. ⌜ Put (now (line .entry)) at (now (text .entry)) (now (line .exit)) r ⌝ }
-{
-    let mut i = 0;
-    while i < text.len() {
-        line[at + i] = text[i];
-        i += 1;
+    let lowest = lowest_vertex(program, vertices, edges, tally);
+    match lowest {
+        Lowest::Vertex(vertex) => {
+            let done = step_by_value(program, vertices, edges, tally, vertex);
+            let answer = done.answer;
+            let tally = done.tally;
+            Line::Text {
+                length: step_line(vertex, answer, line),
+                tally,
+            }
+        }
+        Lowest::NoVertex => Line::Last { length: 0 },
+        Lowest::Refused(refusal) => Line::Last { length: 0 },
     }
-    at + i
 }

@@ -4,8 +4,8 @@ use native.Mathlib.Omega.{arith}
 use lib.ListN.{length-append}
 use Rattle.listing.specs.Text.{numeral}
 use Rattle.listing.proofs.PutLaws.{then}
-use Rattle.listing.proofs.put_named.Statement.{statement}
-use Rattle.listing.proofs.put_named.Tie as tie
+use Rattle.listing.proofs.text.put_named.Statement.{statement}
+use Rattle.listing.proofs.text.put_named.Tie as tie
 
 put-text-requires : tie.Need-put-text-requires
 put-text-requires c κs =

@@ -9,8 +9,8 @@ use Rattle.engine.specs.Answers.{said}
 use Rattle.listing.specs.Text.{answerText}
 use Rattle.listing.specs.Private.{Put, answerRoom}
 use Rattle.listing.proofs.NumeralLaws.{numeral-short}
-use Rattle.listing.proofs.put_answer.Statement.{statement}
-use Rattle.listing.proofs.put_answer.Tie as tie
+use Rattle.listing.proofs.text.put_answer.Statement.{statement}
+use Rattle.listing.proofs.text.put_answer.Tie as tie
 
 -- What a case puts is the answer's text.
 answered : {a b : Answer} {l : List ℕ} {at : ℕ} {m : List ℕ} {r : ℕ} → a ≡ b → r ≤ at + answerRoom → Put l at (answerText (said b)) m r

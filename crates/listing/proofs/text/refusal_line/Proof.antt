@@ -2,8 +2,8 @@
 use borrow.Author.Needs.{needs}
 use Rattle.listing.specs.Text.{refusalText}
 use Rattle.listing.proofs.PutLaws.{then, line-is}
-use Rattle.listing.proofs.refusal_line.Statement.{statement}
-use Rattle.listing.proofs.refusal_line.Tie as tie
+use Rattle.listing.proofs.text.refusal_line.Statement.{statement}
+use Rattle.listing.proofs.text.refusal_line.Tie as tie
 
 returns : tie.Need-returns
 unfolding refusalText

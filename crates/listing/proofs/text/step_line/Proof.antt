@@ -6,8 +6,8 @@ use lib.ListN.{length}
 use Rattle.listing.specs.Text.{numeral, stepText}
 use Rattle.listing.proofs.NumeralLaws.{numeral-short}
 use Rattle.listing.proofs.PutLaws.{then, line-is}
-use Rattle.listing.proofs.step_line.Statement.{statement}
-use Rattle.listing.proofs.step_line.Tie as tie
+use Rattle.listing.proofs.text.step_line.Statement.{statement}
+use Rattle.listing.proofs.text.step_line.Tie as tie
 
 room : (c : tie.Start) → length (numeral (c .args .vertex)) ≤ 10
 room c = numeral-short (c .args .vertex) (omega arith)

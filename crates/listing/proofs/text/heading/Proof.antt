@@ -6,8 +6,8 @@ use lib.ListN.{length}
 use Rattle.listing.specs.Text.{codes, numeral, headingText}
 use Rattle.listing.proofs.NumeralLaws.{numeral-short, numeral-longer}
 use Rattle.listing.proofs.PutLaws.{then, then-named, line-is}
-use Rattle.listing.proofs.heading.Statement.{statement}
-use Rattle.listing.proofs.heading.Tie as tie
+use Rattle.listing.proofs.text.heading.Statement.{statement}
+use Rattle.listing.proofs.text.heading.Tie as tie
 
 -- where each number ends
 room-1 : (c : tie.After-vertices) → length (numeral (c .vertices .result)) ≤ 12

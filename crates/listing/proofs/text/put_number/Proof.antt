@@ -1,8 +1,8 @@
 -- The digits that `decimal` writes are the numeral.
 use borrow.Author.Needs.{needs}
 use Rattle.listing.proofs.NumeralLaws.{spelled}
-use Rattle.listing.proofs.put_number.Statement.{statement}
-use Rattle.listing.proofs.put_number.Tie as tie
+use Rattle.listing.proofs.text.put_number.Statement.{statement}
+use Rattle.listing.proofs.text.put_number.Tie as tie
 
 put-text-requires : tie.Need-put-text-requires
 put-text-requires c κs =

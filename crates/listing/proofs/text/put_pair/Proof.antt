@@ -6,8 +6,8 @@ use lib.ListN.{length, length-append}
 use Rattle.listing.specs.Text.{codes, numeral}
 use Rattle.listing.proofs.NumeralLaws.{numeral-short}
 use Rattle.listing.proofs.PutLaws.{then-named}
-use Rattle.listing.proofs.put_pair.Statement.{statement}
-use Rattle.listing.proofs.put_pair.Tie as tie
+use Rattle.listing.proofs.text.put_pair.Statement.{statement}
+use Rattle.listing.proofs.text.put_pair.Tie as tie
 
 put-named-requires : tie.Need-put-named-requires
 put-named-requires c κs =

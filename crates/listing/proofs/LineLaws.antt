@@ -1,0 +1,121 @@
+-- Which line a call gives, by the returns of the code: a refusal, a heading, a step's line, or none.
+use Prim.Native.Nat.{ℕ}
+use mathlib.Core.Path.{_≡_, refl, sym, ap, _∙_}
+use mathlib.Core.Bool.{Bool, true, false, cond}
+use mathlib.Core.List.{List, [], _∷_}
+use mathlib.Core.Option.{Option, none, some}
+use denote.Enum.Declared.{tagOf}
+use types.Run.{OneOf, miss}
+use Rattle.graph.specs.declared.Refusal.{Refusal}
+use Rattle.graph.specs.declared.Tally.{Tally}
+use Rattle.graph.specs.Tables.{Lent, lent}
+use Rattle.program.specs.Trees.{Counts, counts}
+use Rattle.program.specs.Encodings.{vertexFormula, stepFormula}
+use Rattle.program.specs.Reader.{reading}
+use Rattle.program.specs.Answers.{loads, told}
+use Rattle.program.specs.Answers as of-program
+use Rattle.machine.specs.Answers.{Said, accepted, unsound-tables, unless}
+use Rattle.machine.specs.Stepping.{steppable, step}
+use Rattle.machine.specs.Running.{lowest, chosen, choice, choose, no-choice, choice-refused}
+use Rattle.machine.specs.Demand2.{unread}
+use Rattle.machine.specs.Traces.{Loaded, Stepped}
+use Rattle.machine.proofs.GhostLaws.{clash}
+use Rattle.machine.proofs.LoadLaws.{load-refused, load-keeps}
+use Rattle.machine.proofs.LookLaws.{lowest-none}
+use Rattle.engine.specs.declared.Answer.{Answer}
+use Rattle.engine.specs.declared.Answer.the-variants as of-answer
+use Rattle.engine.specs.declared.Lowest.{Lowest}
+use Rattle.engine.specs.declared.Lowest.the-variants as of-lowest
+use Rattle.engine.specs.Answers.{said, choiceOf}
+use Rattle.engine.proofs.Answer as answer
+use Rattle.engine.proofs.LoadedLaws.{unread-is, read-is}
+use Rattle.listing.specs.declared.Line.the-variants as of-line
+use Rattle.listing.specs.Text.{headingText, stepText, refusalText}
+use Rattle.listing.specs.Lines.{FirstLine, NextLine}
+
+-- THE FIRST LINE
+-- the program is not read
+pub unread-line :
+    (bytes : List ℕ) (s : Lent) (n : ℕ) {number place : ℕ} {text : List ℕ} → of-program.Said.refused number place ≡ told (reading bytes)
+    → text ≡ refusalText number place → FirstLine bytes s (of-line.Last n) text (s .vertices) (s .edges)
+unread-line bytes s n {number = number} {place = place} is r =
+    ((number, place, load-refused bytes s number place .1 (unread (unread-is (reading bytes) is)), r), (refl, refl))
+
+-- it is, and loading it is refused
+pub refused-line :
+    (bytes : List ℕ) (s : Lent) (n : ℕ) {a : Said} {number place : ℕ} {text v e : List ℕ} (tally : Tally)
+    → Loaded bytes s a (lent v e tally) → a ≡ Said.refused number place → text ≡ refusalText number place
+    → FirstLine bytes s (of-line.Last n) text v e
+refused-line bytes s n {number = number} {place = place} tally h is r =
+    let says = sym (h .says) ∙ is in
+    let kept = h .leaves ∙ load-keeps bytes s (ap accepted says) in
+    ((number, place, says, r), (ap (λ (x : Lent). x .vertices) kept, ap (λ (x : Lent). x .edges) kept))
+
+-- it is loaded
+pub heading-line :
+    (bytes : List ℕ) (s : Lent) (n : ℕ) {a : Said} {text v e : List ℕ} (tally : Tally) (c : Counts)
+    → loads c ≡ told (reading bytes) → Loaded bytes s a (lent v e tally) → accepted a ≡ true
+    → text ≡ headingText (vertexFormula c) (c .w) (stepFormula c) → FirstLine bytes s (of-line.Text n tally) text v e
+heading-line bytes s n tally c is h taken r =
+    let found = read-is bytes (reading bytes) refl is in
+    let same = ap (λ (x : Counts). headingText (vertexFormula x) (x .w) (stepFormula x)) (found .counted) in
+    (ap accepted (sym (h .says)) ∙ taken, h .leaves, (found .tree, found .is-read, r ∙ same))
+
+-- an answer that is no refusal, told by its case
+pub taken-case : (a : Answer) → OneOf (0 ∷ 1 ∷ 2 ∷ 3 ∷ 4 ∷ 5 ∷ 6 ∷ 7 ∷ []) (tagOf answer.the-type a) → accepted (said a) ≡ true
+taken-case of-answer.Loaded h = refl
+taken-case of-answer.Start h = refl
+taken-case (of-answer.New v) h = refl
+taken-case (of-answer.Edge a b) h = refl
+taken-case (of-answer.Release v) h = refl
+taken-case (of-answer.Transfer v) h = refl
+taken-case (of-answer.Job n o) h = refl
+taken-case of-answer.Stop h = refl
+taken-case (of-answer.Refused r) h = absurd (miss (0 ∷ 1 ∷ 2 ∷ 3 ∷ 4 ∷ 5 ∷ 6 ∷ 7 ∷ []) 8 tt h)
+
+-- THE NEXT LINE
+-- what the look finds
+finds : (b : Bool) (o : Option ℕ) {v : ℕ} → choose v ≡ cond b (chosen o) (choice-refused unsound-tables 0) → o ≡ some v
+unfolding chosen
+finds true (some u) h = cc
+finds true none h = clash cc
+finds false o h = clash cc
+
+pub stepped-line :
+    (bytes : List ℕ) (s : Lent) (n : ℕ) {v : ℕ} {a : Said} {text vs es : List ℕ} (tally : Tally) (x : Lowest)
+    → choiceOf x ≡ choice bytes s → x ≡ of-lowest.Vertex v → Stepped bytes s v a (lent vs es tally) → text ≡ stepText v a
+    → NextLine bytes s (of-line.Text n tally) text vs es
+unfolding choice
+stepped-line bytes s n {v = v} tally x found is h r =
+    (v, finds (steppable s) (lowest bytes s) (ap choiceOf (sym is) ∙ found), h .leaves, r ∙ ap (stepText v) (h .says))
+
+-- none can step
+finds-none : (b : Bool) (o : Option ℕ) → no-choice ≡ cond b (chosen o) (choice-refused unsound-tables 0) → o ≡ none
+unfolding chosen
+finds-none true (some u) h = clash cc
+finds-none true none h = refl
+finds-none false o h = clash cc
+
+pub no-line :
+    (bytes : List ℕ) (s : Lent) (x : Lowest) → choiceOf x ≡ choice bytes s → x ≡ of-lowest.NoVertex
+    → NextLine bytes s (of-line.Last 0) [] (s .vertices) (s .edges)
+unfolding choice
+no-line bytes s x found is = (finds-none (steppable s) (lowest bytes s) (ap choiceOf (sym is) ∙ found), refl, (refl, refl))
+
+-- nor where the tables take no step
+unsteppable : (b : Bool) (o : Option ℕ) {n p : ℕ} → choice-refused n p ≡ cond b (chosen o) (choice-refused unsound-tables 0) → b ≡ false
+unfolding chosen
+unsteppable true (some u) h = clash cc
+unsteppable true none h = clash cc
+unsteppable false o h = refl
+
+unsteppable-none : (bytes : List ℕ) (s : Lent) → steppable s ≡ false → lowest bytes s ≡ none
+unfolding step unless
+unsteppable-none bytes s h = lowest-none bytes s (λ u lt. rw h refl)
+
+pub unsteppable-line :
+    (bytes : List ℕ) (s : Lent) (x : Lowest) {r : Refusal} → choiceOf x ≡ choice bytes s → x ≡ of-lowest.Refused r
+    → NextLine bytes s (of-line.Last 0) [] (s .vertices) (s .edges)
+unfolding choice
+unsteppable-line bytes s x found is =
+    (unsteppable-none bytes s (unsteppable (steppable s) (lowest bytes s) (ap choiceOf (sym is) ∙ found)), refl, (refl, refl))

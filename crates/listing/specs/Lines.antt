@@ -1,0 +1,48 @@
+-- The lister's lines, one call after the other. "The lister .. runs the lowest vertex first and prints a heading, then per step the stepping
+-- vertex, the word, its vertices or job number." "A refused program prints `refused`, number and place on one line."
+use Prim.Native.Nat.{ℕ}
+use mathlib.Core.Path.{_≡_}
+use mathlib.Core.Bool.{true}
+use mathlib.Core.List.{List, []}
+use mathlib.Core.Option.{none, some}
+use Rattle.graph.specs.Tables.{Lent, lent}
+use Rattle.program.specs.Trees.{Body, counts}
+use Rattle.program.specs.Encodings.{vertexFormula, stepFormula}
+use Rattle.program.specs.Reader.{program, reading}
+use Rattle.machine.specs.Answers.{Said, accepted}
+use Rattle.machine.specs.Loading.{load}
+use Rattle.machine.specs.Stepping.{step}
+use Rattle.machine.specs.Running.{lowest}
+use Rattle.listing.specs.declared.Line.{Line}
+use Rattle.listing.specs.declared.Line.the-variants as of-line
+use Rattle.listing.specs.Text.{headingText, stepText, refusalText}
+
+-- how long a line is
+abbrev pub lengthOf : Line → ℕ
+lengthOf (of-line.Text n tally) = n
+lengthOf (of-line.Last n) = n
+
+-- tables on which nothing was done yet
+abbrev pub unused : List ℕ → List ℕ → Lent
+unused vertices edges = record { vertices = vertices; edges = edges; made = 0; held = 0; steps = 0 }
+
+-- the tables are as they were
+abbrev pub Kept : Lent → List ℕ → List ℕ → Type 0
+Kept s vertices edges = (vertices ≡ s .vertices) × (edges ≡ s .edges)
+
+-- Loading these bytes onto s: the text of the line is the heading where that is accepted, and the refusal where it is refused.
+abbrev pub FirstLine : List ℕ → Lent → Line → List ℕ → List ℕ → List ℕ → Type 0
+FirstLine bytes s (of-line.Text n tally) text vertices edges =
+    (accepted (load bytes s .answer) ≡ true) × (lent vertices edges tally ≡ load bytes s .after)
+    × ((t : Body) × (reading bytes ≡ program t)
+    × (text ≡ headingText (vertexFormula (counts t)) (counts t .w) (stepFormula (counts t))))
+FirstLine bytes s (of-line.Last n) text vertices edges =
+    ((number : ℕ) × (place : ℕ) × (load bytes s .answer ≡ Said.refused number place) × (text ≡ refusalText number place))
+    × Kept s vertices edges
+
+-- A step of the lowest vertex that can step; the listing ends, without a line, where none can.
+abbrev pub NextLine : List ℕ → Lent → Line → List ℕ → List ℕ → List ℕ → Type 0
+NextLine bytes s (of-line.Text n tally) text vertices edges =
+    (v : ℕ) × (lowest bytes s ≡ some v) × (lent vertices edges tally ≡ step bytes s v .after)
+    × (text ≡ stepText v (step bytes s v .answer))
+NextLine bytes s (of-line.Last n) text vertices edges = (lowest bytes s ≡ none) × (text ≡ []) × Kept s vertices edges

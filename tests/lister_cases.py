@@ -1,0 +1,133 @@
+#!/usr/bin/env python3
+"""The lines that the program `lister_cases` must write, from a model of document 01 that shares no code with the lister.
+
+    tests/lister_cases.py > crates/lister_cases/stdout
+
+A vertex is a generator of its steps: it does a command to the graph and yields the command's text. Numbers have one byte here."""
+
+PROGRAMS = ["05", "", "00", "03 00", "02 00 00", "04 02 01 01 00 00 02 01 02 00 01 03 00 02 01 04 00 01 05 00"]
+JOB, ASYNC, FINISH, FORK = 1, 2, 3, 4
+
+
+class Refused(Exception):
+    pass
+
+
+def body(data, at):
+    """The items of the body that starts there, each its kind and contents, and where the body ends."""
+    items = []
+    while True:
+        if at == len(data):
+            raise Refused(5, at)
+        kind, at = data[at], at + 1
+        if kind == 0:
+            return items, at
+        if kind > FORK:
+            raise Refused(3, at - 1)
+        contents = []
+        for _ in range(2 if kind == FORK else 1):
+            part, at = (data[at], at + 1) if kind == JOB else body(data, at)
+            contents.append(part)
+        items.append((kind, *contents))
+
+
+def parse(data):
+    if not 0 < len(data) <= 4096:
+        raise Refused(1, 0)
+    items, end = body(data, 0)
+    if end < len(data):
+        raise Refused(6, end)
+    return items
+
+
+def count(items):
+    """Vertices, jobs and steps that items come to."""
+    total = [0, 0, 0]
+    for kind, *contents in items:
+        own = {JOB: (0, 1, 1), ASYNC: (1, 0, 5), FINISH: (2, 0, 10), FORK: (3, 0, 15)}[kind]
+        inner = [count(part) for part in contents if kind != JOB]
+        total = [sum(numbers) for numbers in zip(total, own, *inner)]
+    return total
+
+
+def listing(data):
+    try:
+        main = parse(data)
+    except Refused as refusal:
+        yield "refused {} {}".format(*refusal.args)
+        return
+    vertices, jobs, steps = count(main)
+    yield f"vertices {vertices + 2} jobs {jobs} steps {steps + 4}"
+
+    lives, status, edges = [], [], [(0, 1)]
+
+    def new(items, scope):
+        lives.append(life(len(lives), items, scope))
+        status.append("new")
+        return f"new {len(lives) - 1}"
+
+    def edge(a, b):
+        edges.append((a, b))
+        return f"edge {a} {b}"
+
+    def release(v):
+        status[v] = "released"
+        return f"release {v}"
+
+    def transfer(v, to):
+        edges[:] = [(to if a == v else a, b) for a, b in edges]
+        return f"transfer {to}"
+
+    def life(v, items, scope):
+        status[v] = "executing"
+        yield "start"
+        for i, (kind, *contents) in enumerate(items):
+            # no other vertex steps before this one stops, since its commands make no lower one able to
+            a, b, c = range(len(lives), len(lives) + 3)
+            if kind == JOB:
+                yield f"job {contents[0]}"
+            elif kind == ASYNC:
+                yield new(contents[0], scope)
+                yield edge(a, scope)
+                yield release(a)
+            elif kind == FINISH:
+                yield new(items[i + 1 :], scope)
+                yield new(contents[0], a)
+                yield edge(b, a)
+                yield transfer(v, a)
+                yield release(a)
+                yield release(b)
+                break
+            else:
+                yield new(contents[0], scope)
+                yield new(contents[1], scope)
+                yield new(items[i + 1 :], scope)
+                yield edge(a, c)
+                yield edge(b, c)
+                yield transfer(v, c)
+                yield release(c)
+                yield release(a)
+                yield release(b)
+                break
+        status[v] = "finished"
+        edges[:] = [e for e in edges if e[0] != v]
+        yield "stop"
+
+    def can_step(v):
+        return status[v] == "executing" or status[v] == "released" and all(b != v for _, b in edges)
+
+    new(main, 1)
+    new([], 1)
+    release(0)
+    release(1)
+    while able := list(filter(can_step, range(len(lives)))):
+        yield f"{able[0]} {next(lives[able[0]])}"
+        steps -= 1
+    assert steps == -4
+
+
+for program in PROGRAMS:
+    print(f"program {program}".strip())
+    print(*listing(bytes.fromhex(program)), sep="\n")
+print("program of 4097 bytes")
+print(*listing(bytes(4097)), sep="\n")
