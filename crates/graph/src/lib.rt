@@ -12,6 +12,7 @@ pub mod rows;
 pub mod sound;
 
 // The tally: how much of the tables is in use. Single commands leave `steps` alone.
+#[repr(C)]
 pub struct Tally {
     pub made: u32,
     pub held: u32,

@@ -1,0 +1,13 @@
+-- The reply has the numbers of what the loading said.
+use borrow.Author.Needs.{needs}
+use Rattle.kit.proofs.ReplyLaws.{replied-as}
+use Rattle.kit.proofs.cores.load_to_numbers.Statement.{statement}
+use Rattle.kit.proofs.cores.load_to_numbers.Tie as tie
+
+pub load-to-numbers-spec : {M : Type 1} → statement M
+load-to-numbers-spec = tie.close (tie.spec
+    (λ c κs. search needs)
+    (λ c κs. search needs)
+    (λ c. search needs)
+    (λ c. search needs)
+    (λ c. replied-as (c .before .before .before .before .before .load-by-value .result) (c .replied .result) _ _ (c .before .before .before .before .before .load-by-value .ensures .says) (c .before .before .before .before .before .load-by-value .ensures .leaves) (c .replied .ensures)))

@@ -1,0 +1,207 @@
+// The calls with the tally by value and an answer of plain numbers.
+use crate::Asked;
+use crate::Reply;
+use crate::ReplyDone;
+use crate::RunReply;
+use crate::RunReplyDone;
+use crate::replies::REFUSED;
+use crate::replies::of_answer;
+use crate::replies::of_command;
+use crate::replies::of_ending;
+use crate::replies::of_last;
+use crate::replies::of_lowest;
+use engine::Done;
+use engine::load::load_by_value;
+use engine::look::lowest_vertex;
+use engine::runs::run_by_value;
+use engine::steps::step_by_value;
+use graph::Command;
+use graph::Tally;
+use graph::commands::command_by_value;
+use graph::commands::open_by_value;
+ghost use mathlib.Core.Path.{_≡_};
+ghost use Rattle.graph.specs.Tables.{lent};
+ghost use Rattle.graph.specs.Answers as of-graph;
+ghost use Rattle.graph.specs.Commands.{opening};
+ghost use Rattle.machine.specs.Loading.{load};
+ghost use Rattle.machine.specs.Stepping.{step};
+ghost use Rattle.machine.specs.Running.{run};
+ghost use Rattle.machine.specs.Demand2.{saidAs};
+ghost use Rattle.engine.specs.Answers.{said};
+ghost use Rattle.kit.specs.Numbers.{Commanded, Replied, RunReplied, LowestReplied, byNumbers, replyNumbers, saidNumbers, commandOf, askedOf};
+
+// The numbers of the commands.
+pub const NEW_TD: u32 = 1;
+
+pub const NEW_EDGE: u32 = 2;
+
+pub const RELEASE: u32 = 3;
+
+pub const TRANSFER: u32 = 4;
+
+pub const START: u32 = 5;
+
+pub const STOP: u32 = 6;
+
+// The refusal of a number that no command has.
+pub const NO_SUCH_COMMAND: u32 = 99;
+
+pub(crate) fn open_to_numbers(vertices: &mut [u32], edges: &mut [u32], tally: Tally) -> ReplyDone
+    ensures { λ r. ⌜ Commanded (opening (lent (now (vertices .entry)) (now (edges .entry)) tally)) (r .answer) (lent (now (vertices .exit)) (now (edges .exit)) (r .tally)) ⌝ }
+{
+    let done = open_by_value(vertices, edges, tally);
+    commanded(done)
+}
+
+fn commanded(done: graph::Done) -> ReplyDone
+    ensures { λ r. ⌜ (replyNumbers (r .answer) ≡ saidNumbers (saidAs (of-graph.said (done .answer)))) × (r .tally ≡ done .tally) ⌝ }
+{
+    let answer = done.answer;
+    let after = done.tally;
+    ReplyDone {
+        answer: of_command(answer),
+        tally: after,
+    }
+}
+
+pub(crate) fn command_by_numbers(
+    vertices: &mut [u32],
+    edges: &mut [u32],
+    tally: Tally,
+    command: u32,
+    caller: u32,
+    first: u32,
+    second: u32,
+) -> ReplyDone
+    ensures { λ r. ⌜ Commanded (byNumbers command caller first second (lent (now (vertices .entry)) (now (edges .entry)) tally)) (r .answer) (lent (now (vertices .exit)) (now (edges .exit)) (r .tally)) ⌝ }
+{
+    let asked = asked(command, caller, first, second);
+    match asked {
+        Asked::Unknown => ReplyDone {
+            answer: Reply {
+                said: REFUSED,
+                first: NO_SUCH_COMMAND,
+                second: 0,
+            },
+            tally,
+        },
+        Asked::Known(given) => {
+            let done = command_by_value(vertices, edges, tally, given);
+            commanded(done)
+        }
+    }
+}
+
+// The command that these numbers ask for. Start's vertex and stop's are the caller; what a command does not name is not looked at.
+fn asked(command: u32, caller: u32, first: u32, second: u32) -> Asked
+    ensures { λ r. ⌜ askedOf r ≡ commandOf command caller first second ⌝ }
+{
+    if command == NEW_TD {
+        return Asked::Known(Command::NewTd {
+            caller,
+            place: first,
+            scope: second,
+        });
+    }
+    if command == NEW_EDGE {
+        return Asked::Known(Command::NewEdge {
+            caller,
+            source: first,
+            target: second,
+        });
+    }
+    if command == RELEASE {
+        return Asked::Known(Command::Release {
+            caller,
+            vertex: first,
+        });
+    }
+    if command == TRANSFER {
+        return Asked::Known(Command::Transfer {
+            caller,
+            vertex: first,
+        });
+    }
+    if command == START {
+        return Asked::Known(Command::Start { vertex: caller });
+    }
+    if command == STOP {
+        return Asked::Known(Command::Stop { caller });
+    }
+    Asked::Unknown
+}
+
+pub(crate) fn load_to_numbers(
+    program: &[u8],
+    vertices: &mut [u32],
+    edges: &mut [u32],
+    tally: Tally,
+) -> ReplyDone
+    ensures { λ r. ⌜ Replied (load (now (program .entry)) (lent (now (vertices .entry)) (now (edges .entry)) tally)) (r .answer) (lent (now (vertices .exit)) (now (edges .exit)) (r .tally)) ⌝ }
+{
+    let done = load_by_value(program, vertices, edges, tally);
+    replied(done)
+}
+
+pub(crate) fn step_to_numbers(
+    program: &[u8],
+    vertices: &mut [u32],
+    edges: &mut [u32],
+    tally: Tally,
+    vertex: u32,
+) -> ReplyDone
+    ensures { λ r. ⌜ Replied (step (now (program .entry)) (lent (now (vertices .entry)) (now (edges .entry)) tally) vertex) (r .answer) (lent (now (vertices .exit)) (now (edges .exit)) (r .tally)) ⌝ }
+{
+    let done = step_by_value(program, vertices, edges, tally, vertex);
+    replied(done)
+}
+
+fn replied(done: Done) -> ReplyDone
+    ensures { λ r. ⌜ (replyNumbers (r .answer) ≡ saidNumbers (said (done .answer))) × (r .tally ≡ done .tally) ⌝ }
+{
+    let answer = done.answer;
+    let after = done.tally;
+    ReplyDone {
+        answer: of_answer(answer),
+        tally: after,
+    }
+}
+
+pub(crate) fn run_to_numbers(
+    program: &[u8],
+    vertices: &mut [u32],
+    edges: &mut [u32],
+    tally: Tally,
+    budget: u32,
+) -> RunReplyDone
+    ensures { λ r. ⌜ RunReplied (run (now (program .entry)) (lent (now (vertices .entry)) (now (edges .entry)) tally) budget) (r .answer) (lent (now (vertices .exit)) (now (edges .exit)) (r .tally)) ⌝ }
+{
+    let done = run_by_value(program, vertices, edges, tally, budget);
+    let answer = done.answer;
+    let after = done.tally;
+    let ending = answer.ending;
+    let last = answer.last;
+    RunReplyDone {
+        answer: RunReply {
+            ending: of_ending(ending),
+            last: of_last(last),
+            taken: answer.taken,
+        },
+        tally: after,
+    }
+}
+
+pub(crate) fn lowest_to_numbers(
+    program: &[u8],
+    vertices: &mut [u32],
+    edges: &mut [u32],
+    tally: Tally,
+) -> ReplyDone
+    ensures { λ r. ⌜ LowestReplied (now (program .entry)) (lent (now (vertices .entry)) (now (edges .entry)) tally) (r .answer) (lent (now (vertices .exit)) (now (edges .exit)) (r .tally)) ⌝ }
+{
+    let lowest = lowest_vertex(program, vertices, edges, tally);
+    ReplyDone {
+        answer: of_lowest(lowest),
+        tally,
+    }
+}

@@ -1,0 +1,183 @@
+/* The task-graph engine: which job of a program may start now.
+ *
+ * A program is bytes: numbered jobs with async, finish and fork. The engine turns it into vertices and edges of a task graph and
+ * moves it one step at a time, in whatever order the host picks. It keeps nothing: everything that it knows stands in the tables and
+ * the tally that the host lends.
+ *
+ * Each call ends in an accepted step or in a numbered refusal that changed nothing, whatever was handed in. That each answer, table and
+ * tally is the one that the engine's definitions give is proved; what this file declares, and that the compiler keeps it, is trusted.
+ *
+ * The host's part of the bargain:
+ *   - lend the same bytes, tables and tally each time, with their true lengths, and let nothing else write to them during a call;
+ *   - make one call at a time for the same tables (one lock around the engine is enough);
+ *   - after a step says KESHTIWOL_JOB, run that job and do not step its vertex again before the job has ended.
+ * Pointers must not be null, nor overlap, also where a length is 0. */
+#ifndef KESHTIWOL_H
+#define KESHTIWOL_H
+
+#include <stddef.h>
+#include <stdint.h>
+
+#ifdef __cplusplus
+extern "C" {
+#endif
+
+/* THE TABLES, of 32-bit words. Only full rows among the first 1,024 of each are used; other words are never touched.
+ * A vertex row: status, place (byte offset in the program), scope (a vertex), phase (commands of the item at hand already done), and
+ * the three vertices that this item made, 0 where none. An edge row: source, target. */
+enum {
+    KESHTIWOL_VERTEX_WORDS = 7,
+    KESHTIWOL_STATUS = 0,
+    KESHTIWOL_PLACE = 1,
+    KESHTIWOL_SCOPE = 2,
+    KESHTIWOL_PHASE = 3,
+    KESHTIWOL_MADE = 4,
+
+    KESHTIWOL_EDGE_WORDS = 2,
+    KESHTIWOL_SOURCE = 0,
+    KESHTIWOL_TARGET = 1,
+
+    /* A vertex's status. */
+    KESHTIWOL_VERTEX_NEW = 1,
+    KESHTIWOL_VERTEX_RELEASED = 2,
+    KESHTIWOL_VERTEX_EXECUTING = 3,
+    KESHTIWOL_VERTEX_FINISHED = 4
+};
+
+/* HOW MUCH TO LEND. A program with a asyncs, f finishes and k forks needs 2 + a + 2f + 3k vertex rows and 1 + a + f + 2k edge rows; with w
+ * jobs it takes 4 + w + 5a + 10f + 15k steps. These are enough for every program: */
+enum {
+    KESHTIWOL_PROGRAM_BYTES = 4096,
+    KESHTIWOL_ROWS = 1024,
+    KESHTIWOL_VERTEX_TABLE = 7168, /* words for 1,024 vertex rows */
+    KESHTIWOL_EDGE_TABLE = 2048,   /* words for 1,024 edge rows */
+    KESHTIWOL_STEP_LIMIT = 8192    /* steps are refused, with 12, where so many were taken */
+};
+
+/* The tally: vertices made, edges held, steps taken. Loading and opening set it. */
+struct keshtiwol_tally {
+    uint32_t made;
+    uint32_t held;
+    uint32_t steps;
+};
+
+/* What was said, and its values. */
+struct keshtiwol_reply {
+    uint32_t said;
+    uint32_t first;
+    uint32_t second;
+};
+
+/* How a run ended, its last accepted step (or KESHTIWOL_NONE), and how many steps it took. */
+struct keshtiwol_run_reply {
+    struct keshtiwol_reply ending;
+    struct keshtiwol_reply last;
+    uint32_t taken;
+};
+
+/* What is said. */
+enum {
+    KESHTIWOL_REFUSED = 0,  /* first: the refusal's number; second: its place, an offset in the program, or 0 */
+    KESHTIWOL_READY = 1,    /* the program is loaded, or the bare machine open */
+    KESHTIWOL_START = 2,    /* the vertex executes now */
+    KESHTIWOL_NEW = 3,      /* first: the vertex made */
+    KESHTIWOL_EDGE = 4,     /* first: source; second: target */
+    KESHTIWOL_RELEASE = 5,  /* first: the vertex released */
+    KESHTIWOL_TRANSFER = 6, /* first: the vertex that has the edges now */
+    KESHTIWOL_JOB = 7,      /* first: the job's number; second: its offset, which tells jobs apart. The host runs it now. */
+    KESHTIWOL_STOP = 8,     /* the vertex is finished */
+    KESHTIWOL_NONE = 9,     /* no step was taken, or no vertex can step */
+    KESHTIWOL_VERTEX = 10,  /* first: the vertex */
+    KESHTIWOL_DONE = 11,    /* all vertices made are finished */
+    KESHTIWOL_STUCK = 12,   /* no step would be accepted */
+    KESHTIWOL_SPENT = 13    /* the budget is used */
+};
+
+/* The numbers of refusals, by who causes them. */
+enum {
+    /* the program's writer */
+    KESHTIWOL_LENGTH_OUTSIDE = 1,    /* length 0 or over 4,096 */
+    KESHTIWOL_NUMBER_MALFORMED = 2,  /* a number longer than three bytes or not in its shortest form; place: its first byte */
+    KESHTIWOL_BYTE_UNKNOWN = 3,      /* an item's first byte above 4; place: that byte */
+    KESHTIWOL_LEVEL_TOO_DEEP = 4,    /* a body at level 33; place: its opener */
+    KESHTIWOL_BYTES_RUN_OUT = 5,     /* place: the length */
+    KESHTIWOL_BYTES_AFTER_END = 6,   /* place: the first byte after the end */
+    KESHTIWOL_JOB_TOO_LARGE = 7,     /* a job above 65,535; place: its number's first byte */
+    KESHTIWOL_TOO_MANY_VERTICES = 8, /* more than 1,024 */
+    /* the lender */
+    KESHTIWOL_TOO_FEW_VERTEX_ROWS = 10,
+    KESHTIWOL_TOO_FEW_EDGE_ROWS = 11,
+    KESHTIWOL_UNSOUND_TABLES = 12,  /* tally over the rows, too many steps, an unknown status, or an edge's end that is no vertex */
+    KESHTIWOL_NOTHING_STARTS = 13,  /* at an executing vertex's place no item can be read, or its phase is past the item */
+    /* the host, choosing */
+    KESHTIWOL_NO_SUCH_VERTEX = 20,
+    KESHTIWOL_EDGE_LEADS_IN = 21,   /* released, but something must finish first */
+    KESHTIWOL_IS_NEW = 22,
+    KESHTIWOL_IS_FINISHED = 23,
+    KESHTIWOL_IS_EXECUTING = 39,    /* start of an executing vertex */
+    /* the caller of single commands */
+    KESHTIWOL_CALLER_NOT_EXECUTING = 30,
+    KESHTIWOL_NO_VERTEX_ROW = 31,
+    KESHTIWOL_NO_EDGE_ROW = 32,
+    KESHTIWOL_TARGET_NOT_WAITING = 33, /* the edge's target executes or is finished */
+    KESHTIWOL_EDGE_HELD = 34,
+    KESHTIWOL_CLOSES_CYCLE = 35,
+    KESHTIWOL_RELEASE_NOT_NEW = 36,
+    KESHTIWOL_TRANSFER_NOT_NEW = 37,
+    KESHTIWOL_TRANSFER_HAS_EDGE_OUT = 38,
+    KESHTIWOL_NO_SUCH_COMMAND = 99     /* keshtiwol_command: a number that no command has */
+};
+
+/* Loads a program: clears the usable rows and the tally, and sets the first two vertices and the edge between them.
+ * Says KESHTIWOL_READY, or refuses: 1; 2 to 7, the first by place; 8; 10; 11. */
+struct keshtiwol_reply keshtiwol_load(const uint8_t *program, size_t program_bytes,
+                                      uint32_t *vertices, size_t vertex_words,
+                                      uint32_t *edges, size_t edge_words,
+                                      struct keshtiwol_tally *tally);
+
+/* One step of a vertex: starts a released one; an executing one does the next command of the item at its place.
+ * Says one of KESHTIWOL_START to KESHTIWOL_STOP, or refuses: 12, 20, 22, 23, 21 or 13. */
+struct keshtiwol_reply keshtiwol_step(const uint8_t *program, size_t program_bytes,
+                                      uint32_t *vertices, size_t vertex_words,
+                                      uint32_t *edges, size_t edge_words,
+                                      struct keshtiwol_tally *tally, uint32_t vertex);
+
+/* Steps the lowest vertex that can step, until all are finished, none can step or the budget is used. Jobs count as run where they are
+ * named, so this serves hosts that only want the order. Its ending is KESHTIWOL_DONE, KESHTIWOL_STUCK, KESHTIWOL_SPENT, or the refusal 12. */
+struct keshtiwol_run_reply keshtiwol_run(const uint8_t *program, size_t program_bytes,
+                                         uint32_t *vertices, size_t vertex_words,
+                                         uint32_t *edges, size_t edge_words,
+                                         struct keshtiwol_tally *tally, uint32_t budget);
+
+/* The lowest vertex that can step. Changes nothing. Says KESHTIWOL_VERTEX or KESHTIWOL_NONE, or refuses: 12. */
+struct keshtiwol_reply keshtiwol_lowest(const uint8_t *program, size_t program_bytes,
+                                        uint32_t *vertices, size_t vertex_words,
+                                        uint32_t *edges, size_t edge_words,
+                                        struct keshtiwol_tally *tally);
+
+/* Opens the bare machine: clears the usable rows and the tally, and makes vertex 0, released. Refuses without a vertex row: 10. */
+struct keshtiwol_reply keshtiwol_open(uint32_t *vertices, size_t vertex_words,
+                                      uint32_t *edges, size_t edge_words,
+                                      struct keshtiwol_tally *tally);
+
+/* The commands. What a command does not name is not looked at. */
+enum {
+    KESHTIWOL_DO_NEW = 1,      /* caller; first: place; second: scope. Makes the next vertex. */
+    KESHTIWOL_DO_EDGE = 2,     /* caller; first: source; second: target */
+    KESHTIWOL_DO_RELEASE = 3,  /* caller; first: the vertex */
+    KESHTIWOL_DO_TRANSFER = 4, /* caller; first: the vertex that gets the caller's edges out */
+    KESHTIWOL_DO_START = 5,    /* caller: the vertex started */
+    KESHTIWOL_DO_STOP = 6      /* caller */
+};
+
+/* A single command of the dag-calculus, by one of the numbers above. It leaves the tally's steps alone. */
+struct keshtiwol_reply keshtiwol_command(uint32_t *vertices, size_t vertex_words,
+                                         uint32_t *edges, size_t edge_words,
+                                         struct keshtiwol_tally *tally,
+                                         uint32_t command, uint32_t caller, uint32_t first, uint32_t second);
+
+#ifdef __cplusplus
+}
+#endif
+
+#endif
