@@ -9,7 +9,7 @@ use types.Run.{OneOf, miss}
 use Rattle.graph.specs.declared.Refusal.{Refusal}
 use Rattle.graph.specs.declared.Tally.{Tally}
 use Rattle.graph.specs.Tables.{Lent, lent}
-use Rattle.program.specs.Trees.{Counts, counts}
+use Rattle.program.specs.Trees.{Counts}
 use Rattle.program.specs.Encodings.{vertexFormula, stepFormula}
 use Rattle.program.specs.Reader.{reading}
 use Rattle.program.specs.Answers.{loads, told}
