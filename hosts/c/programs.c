@@ -1,0 +1,269 @@
+#include "programs.h"
+
+#include <stdio.h>
+#include <stdlib.h>
+#include <string.h>
+
+#include "dice.h"
+#include "tree.h"
+
+/* WRITING BYTES */
+
+static void put(struct program *program, uint8_t byte)
+{
+    if (program->length == sizeof program->bytes) {
+        abort();
+    }
+    program->bytes[program->length++] = byte;
+}
+
+static void put_job(struct program *program, uint32_t number)
+{
+    put(program, JOB);
+    while (number >= 0x80) {
+        put(program, (uint8_t)(number | 0x80));
+        number >>= 7;
+    }
+    put(program, (uint8_t)number);
+}
+
+static void end(struct program *program)
+{
+    put(program, END);
+}
+
+static void put_all(struct program *program, const uint8_t *bytes, size_t length)
+{
+    for (size_t i = 0; i < length; i++) {
+        put(program, bytes[i]);
+    }
+}
+
+/* THOSE BUILT IN */
+
+#define BYTES(...) put_all(program, (const uint8_t[]){__VA_ARGS__}, sizeof(const uint8_t[]){__VA_ARGS__})
+
+static void deep_asyncs(struct program *program)
+{
+    for (int i = 0; i < 31; i++) {
+        put(program, ASYNC);
+    }
+    for (int i = 0; i < 32; i++) {
+        end(program);
+    }
+}
+
+static void most_asyncs(struct program *program)
+{
+    for (int i = 0; i < 1022; i++) {
+        put(program, ASYNC);
+        end(program);
+    }
+    end(program);
+}
+
+/* Three bands: retune, then filter and decode eight blocks side by side, then log, which the next band does not wait for. The last job
+ * writes the logbook when all of this is over. */
+static void receiver(struct program *program)
+{
+    enum { RETUNE = 100, FILTER = 200, DECODE = 300, LOG = 400, LOGBOOK = 500, BANDS = 3, BLOCKS = 8 };
+    put(program, FINISH);
+    for (uint32_t band = 0; band < BANDS; band++) {
+        put_job(program, RETUNE + band);
+        put(program, FINISH);
+        for (uint32_t block = 0; block < BLOCKS; block++) {
+            put(program, ASYNC);
+            put_job(program, FILTER + BLOCKS * band + block);
+            put_job(program, DECODE + BLOCKS * band + block);
+            end(program);
+        }
+        end(program);
+        put(program, ASYNC);
+        put_job(program, LOG + band);
+        end(program);
+    }
+    end(program);
+    put_job(program, LOGBOOK);
+    end(program);
+}
+
+/* A job, two forked halves of the same kind, a job. */
+static void halves(struct program *program, int depth, uint32_t *number)
+{
+    put_job(program, (*number)++);
+    if (depth > 0) {
+        put(program, FORK);
+        halves(program, depth - 1, number);
+        halves(program, depth - 1, number);
+        put_job(program, (*number)++);
+    }
+    end(program);
+}
+
+static void nested_forks(struct program *program)
+{
+    uint32_t number = 1;
+    halves(program, 5, &number);
+}
+
+static void wide_asyncs(struct program *program)
+{
+    put(program, FINISH);
+    for (uint32_t i = 0; i < 200; i++) {
+        put(program, ASYNC);
+        put_job(program, i);
+        end(program);
+    }
+    end(program);
+    put_job(program, 200);
+    end(program);
+}
+
+/* Jobs before each of 30 finishes, one in the other, and at the end of each an async and a job. */
+static void deep_finishes(struct program *program)
+{
+    for (uint32_t i = 0; i < 30; i++) {
+        put_job(program, i);
+        put(program, FINISH);
+    }
+    for (uint32_t i = 0; i < 30; i++) {
+        put(program, ASYNC);
+        put_job(program, 100 + i);
+        end(program);
+        put_job(program, 200 + i);
+        end(program);
+    }
+    end(program);
+}
+
+/* Forks whose halves leave asyncs behind: what comes after such a fork does not wait for them, what comes after the finish does. */
+static void left_behind(struct program *program)
+{
+    uint32_t number = 1;
+    for (int i = 0; i < 6; i++) {
+        put(program, FINISH);
+        for (int j = 0; j < 3; j++) {
+            put(program, FORK);
+            for (int half = 0; half < 2; half++) {
+                put(program, ASYNC);
+                put_job(program, number++);
+                put_job(program, number++);
+                end(program);
+                put_job(program, number++);
+                end(program);
+            }
+            put_job(program, number++);
+        }
+        end(program);
+        put_job(program, number++);
+    }
+    end(program);
+}
+
+static void long_line(struct program *program)
+{
+    for (uint32_t i = 0; i < 150; i++) {
+        put_job(program, 1000 + i);
+    }
+    end(program);
+}
+
+void program_built_in(struct program *program, int which)
+{
+    static const char *const names[BUILT_IN] = {
+        "nothing", "one job", "async beside a job", "fork, then a job", "largest job number", "finish around an async",
+        "31 asyncs, one in the other", "1,022 asyncs", "receiver", "nested forks", "wide asyncs", "deep finishes", "asyncs left behind",
+        "150 jobs in a line",
+    };
+    memset(program, 0, sizeof *program);
+    snprintf(program->name, sizeof program->name, "%s", names[which]);
+    switch (which) {
+    case 0: BYTES(0); break;
+    case 1: BYTES(1, 0, 0); break;
+    case 2: BYTES(2, 1, 1, 0, 1, 2, 0); break;
+    case 3: BYTES(4, 1, 1, 0, 1, 2, 0, 1, 3, 0); break;
+    case 4: BYTES(1, 0xFF, 0xFF, 3, 0); break;
+    case 5: BYTES(3, 2, 1, 5, 0, 0, 1, 6, 0); break;
+    case 6: deep_asyncs(program); break;
+    case 7: most_asyncs(program); break;
+    case 8: receiver(program); break;
+    case 9: nested_forks(program); break;
+    case 10: wide_asyncs(program); break;
+    case 11: deep_finishes(program); break;
+    case 12: left_behind(program); break;
+    case 13: long_line(program); break;
+    }
+}
+
+/* THOSE DRAWN */
+
+/* What is left to spend, and how likely each kind of item is, in hundredths; the rest are jobs. */
+struct plan {
+    uint64_t dice;
+    uint32_t vertices, jobs;
+    uint32_t async, finish, fork;
+    uint32_t items; /* of a body, at most */
+    int levels;
+};
+
+static void draw_job(struct program *program, struct plan *plan)
+{
+    static const uint32_t sizes[3] = {0x80, 0x4000, 0x10000}; /* numbers of one, two and three bytes */
+    if (plan->jobs > 0) {
+        plan->jobs--;
+        put_job(program, draw(&plan->dice, sizes[draw(&plan->dice, 3)]));
+    }
+}
+
+/* Opens an item with bodies if there are vertices for it. */
+static bool open_item(struct program *program, struct plan *plan, uint8_t kind, uint32_t vertices)
+{
+    if (plan->vertices < vertices) {
+        return false;
+    }
+    plan->vertices -= vertices;
+    put(program, kind);
+    return true;
+}
+
+static void draw_body(struct program *program, struct plan *plan, int level, uint32_t least)
+{
+    uint32_t items = least + draw(&plan->dice, plan->items + 1);
+    for (uint32_t i = 0; i < items; i++) {
+        uint32_t pick = draw(&plan->dice, 100);
+        int inner = level + 1;
+        if (inner > plan->levels) {
+            draw_job(program, plan);
+        } else if (pick < plan->async) {
+            if (open_item(program, plan, ASYNC, 1)) {
+                draw_body(program, plan, inner, 0);
+            }
+        } else if (pick < plan->async + plan->finish) {
+            if (open_item(program, plan, FINISH, 2)) {
+                draw_body(program, plan, inner, 0);
+            }
+        } else if (pick < plan->async + plan->finish + plan->fork) {
+            if (open_item(program, plan, FORK, 3)) {
+                draw_body(program, plan, inner, 0);
+                draw_body(program, plan, inner, 0);
+            }
+        } else {
+            draw_job(program, plan);
+        }
+    }
+    end(program);
+}
+
+void program_drawn(struct program *program, uint64_t seed)
+{
+    struct plan plan = {.dice = seed, .vertices = 298, .jobs = 200};
+    plan.async = 5 + draw(&plan.dice, 30);
+    plan.finish = 5 + draw(&plan.dice, 20);
+    plan.fork = 5 + draw(&plan.dice, 20);
+    plan.items = 3 + draw(&plan.dice, 6);
+    plan.levels = 3 + (int)draw(&plan.dice, LEVELS - 2);
+
+    memset(program, 0, sizeof *program);
+    snprintf(program->name, sizeof program->name, "drawn %llu", (unsigned long long)seed);
+    draw_body(program, &plan, 1, 12);
+}

@@ -1,0 +1,185 @@
+#include "tree.h"
+
+#include <stdlib.h>
+
+struct reader {
+    const uint8_t *bytes;
+    size_t length;
+    size_t at;
+};
+
+static bool next_byte(struct reader *reader, uint8_t *byte)
+{
+    if (reader->at == reader->length) {
+        return false;
+    }
+    *byte = reader->bytes[reader->at++];
+    return true;
+}
+
+/* Groups of seven bits, lowest first; the top bit says that more follow. */
+static bool read_number(struct reader *reader, uint32_t *number)
+{
+    uint8_t byte;
+    *number = 0;
+    for (int shift = 0; shift < 35; shift += 7) {
+        if (!next_byte(reader, &byte)) {
+            return false;
+        }
+        *number |= (uint32_t)(byte & 0x7F) << shift;
+        if (byte < 0x80) {
+            return true;
+        }
+    }
+    return false;
+}
+
+/* Reads items up to the end byte. */
+static bool read_body(struct tree *tree, struct reader *reader, int above, uint8_t branch, int level)
+{
+    if (level > LEVELS) {
+        return false;
+    }
+    for (;;) {
+        uint32_t offset = (uint32_t)reader->at;
+        uint8_t kind;
+        if (!next_byte(reader, &kind)) {
+            return false;
+        }
+        if (kind == END) {
+            return true;
+        }
+        if (tree->item_count == MOST_ITEMS) {
+            return false;
+        }
+        int item = tree->item_count++;
+        uint32_t number = 0;
+        bool whole;
+        switch (kind) {
+        case JOB:
+            whole = read_number(reader, &number);
+            tree->job_at[offset] = (int)tree->job_count;
+            tree->jobs[tree->job_count++] = item;
+            break;
+        case ASYNC:
+            whole = read_body(tree, reader, item, 0, level + 1);
+            tree->asyncs++;
+            break;
+        case FINISH:
+            whole = read_body(tree, reader, item, 0, level + 1);
+            tree->finishes++;
+            break;
+        case FORK:
+            whole = read_body(tree, reader, item, 0, level + 1) && read_body(tree, reader, item, 1, level + 1);
+            tree->forks++;
+            break;
+        default:
+            return false;
+        }
+        if (!whole) {
+            return false;
+        }
+        tree->items[item] = (struct item){kind, branch, above, offset, number};
+    }
+}
+
+/* The items from the main body down to this one, which is the last; answers how many. */
+static int way_down(const struct tree *tree, int item, int way[LEVELS])
+{
+    int length = 0;
+    for (int i = item; i >= 0; i = tree->items[i].above) {
+        length++;
+    }
+    int left = length;
+    for (int i = item; i >= 0; i = tree->items[i].above) {
+        way[--left] = i;
+    }
+    return length;
+}
+
+/* "Take the innermost body with both jobs in different items, p in the earlier. p is ahead of q if each async on the way from that
+ * earlier item (itself counted) down to p has a finish above it on that way. No other pairs are ordered." */
+static bool is_ahead(const struct tree *tree, int p, int q)
+{
+    int to_p[LEVELS], to_q[LEVELS];
+    int length = way_down(tree, tree->jobs[p], to_p);
+    way_down(tree, tree->jobs[q], to_q);
+
+    int i = 0;
+    while (to_p[i] == to_q[i]) { /* different jobs part before either way ends, since a job holds no items */
+        i++;
+    }
+    const struct item *of_p = &tree->items[to_p[i]];
+    const struct item *of_q = &tree->items[to_q[i]];
+    if (of_p->branch != of_q->branch || of_p->offset > of_q->offset) {
+        return false;
+    }
+    bool finish_above = false;
+    for (; i < length; i++) {
+        uint8_t kind = tree->items[to_p[i]].kind;
+        if (kind == ASYNC && !finish_above) {
+            return false;
+        }
+        finish_above = finish_above || kind == FINISH;
+    }
+    return true;
+}
+
+struct tree *tree_read(const uint8_t *bytes, size_t length)
+{
+    struct reader reader = {bytes, length, 0};
+    struct tree *tree = calloc(1, sizeof *tree);
+    if (tree == NULL) {
+        abort();
+    }
+    for (size_t i = 0; i < KESHTIWOL_PROGRAM_BYTES; i++) {
+        tree->job_at[i] = -1;
+    }
+    if (length > KESHTIWOL_PROGRAM_BYTES || !read_body(tree, &reader, -1, 0, 1) || reader.at != length) {
+        free(tree);
+        return NULL;
+    }
+
+    int jobs = (int)tree->job_count;
+    tree->ahead = malloc(((size_t)jobs * (size_t)jobs / 2 + 1) * sizeof *tree->ahead);
+    if (tree->ahead == NULL) {
+        abort();
+    }
+    size_t pairs = 0;
+    for (int q = 0; q < jobs; q++) {
+        tree->from[q] = pairs;
+        for (int p = 0; p < q; p++) { /* nothing later in the text is ahead */
+            if (is_ahead(tree, p, q)) {
+                tree->ahead[pairs++] = (uint16_t)p;
+            }
+        }
+    }
+    tree->from[jobs] = pairs;
+    return tree;
+}
+
+void tree_drop(struct tree *tree)
+{
+    free(tree->ahead);
+    free(tree);
+}
+
+const struct item *tree_job(const struct tree *tree, int job)
+{
+    return &tree->items[tree->jobs[job]];
+}
+
+uint32_t tree_vertices(const struct tree *tree)
+{
+    return 2 + tree->asyncs + 2 * tree->finishes + 3 * tree->forks;
+}
+
+uint32_t tree_edges(const struct tree *tree)
+{
+    return 1 + tree->asyncs + tree->finishes + 2 * tree->forks;
+}
+
+uint32_t tree_steps(const struct tree *tree)
+{
+    return 4 + tree->job_count + 5 * tree->asyncs + 10 * tree->finishes + 15 * tree->forks;
+}
