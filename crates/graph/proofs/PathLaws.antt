@@ -3,7 +3,7 @@
 -- closes a cycle.
 use Prim.Native.Nat.{ℕ, zero, suc, _<_}
 use mathlib.Core.Path.{_≡_, refl, sym, subst}
-use mathlib.Core.Bool.{Bool, true}
+use mathlib.Core.Bool.{Bool, true, false}
 use mathlib.Core.Logic.{_⊎_, inl, inr, ⊎-elim, _↔_}
 use mathlib.Core.List.{List}
 use native.Mathlib.Omega.{arith}
@@ -12,7 +12,7 @@ use borrow.Author.Tests.{eq-eqb, eqb-true}
 use Rattle.graph.specs.Tests.{either, any}
 use Rattle.graph.specs.Tables.{source, target}
 use Rattle.graph.specs.Paths.{Leads, one, more, holds, reaches}
-use Rattle.graph.proofs.TestLaws.{true-false, both-true, both-left, both-right, either-left, either-right, either-cases, any-found, any-at, same}
+use Rattle.graph.proofs.TestLaws.{true-false, not-so, both-true, both-left, both-right, either-left, either-right, either-cases, any-found, any-at, same}
 
 pub join : {E : ℕ → ℕ → Bool} {a b c : ℕ} → Leads E a b → Leads E b c → Leads E a c
 join (one e) q = more e q
@@ -114,3 +114,22 @@ reaches-decides e n a b = (reaches-path e n a b, path-reaches e n a b)
 -- a test that decides paths too is the same test
 pub reaches-is : (e : List ℕ) (n a b : ℕ) (found : Bool) → (found ≡ true → Leads (holds e n) a b) → (Leads (holds e n) a b → found ≡ true) → found ≡ reaches e n a b
 reaches-is e n a b found f g = same found (reaches e n a b) (λ h. path-reaches e n a b (f h)) (λ h. g (reaches-path e n a b h))
+
+-- a path begins with a held edge out of its first vertex
+pub first-row : (e : List ℕ) (n a b : ℕ) → Leads (holds e n) a b → (i : ℕ) × (i < n) × (source e i ≡ a)
+first-row e n a b (one h) = let (i, lt, q, r) = held-row e n _ _ h in (i, lt, q)
+first-row e n a b (more h p) = let (i, lt, q, r) = held-row e n _ _ h in (i, lt, q)
+
+-- and ends with one into its last
+pub last-row : (e : List ℕ) (n a b : ℕ) → Leads (holds e n) a b → (i : ℕ) × (i < n) × (target e i ≡ b)
+last-row e n a b (one h) = let (i, lt, q, r) = held-row e n _ _ h in (i, lt, r)
+last-row e n a b (more {b = x} h p) = last-row e n x b p
+
+-- so there is none where no held edge leads out of the one vertex, or into the other
+pub no-edge-out : (e : List ℕ) (n a b : ℕ) → any (λ i. eqb (source e i) a) n ≡ false → reaches e n a b ≡ false
+no-edge-out e n a b none =
+    not-so _ (λ h. let (i, lt, q) = first-row e n a b (reaches-path e n a b h) in true-false (any-at _ n i lt (eq-eqb _ _ q)) none)
+
+pub no-edge-in : (e : List ℕ) (n a b : ℕ) → any (λ i. eqb (target e i) b) n ≡ false → reaches e n a b ≡ false
+no-edge-in e n a b none =
+    not-so _ (λ h. let (i, lt, q) = last-row e n a b (reaches-path e n a b h) in true-false (any-at _ n i lt (eq-eqb _ _ q)) none)

@@ -1,6 +1,8 @@
-// Whether a path of held edges leads from one vertex to another: a breadth-first search backwards from the vertex to be reached.
-// Linear in the vertices and the held edges: the edge rows into each vertex are chained in one pass, and each vertex is looked at
-// once, or twice where it is the one to be reached. It takes four words of stack for each usable row, 16 KiB.
+// Whether a path of held edges leads from one vertex to another. There is none where no edge leads out of the one or into the other;
+// else a breadth-first search backwards from the vertex to be reached decides. That is linear in the vertices and the held edges: the
+// edge rows into each vertex are chained in one pass, and each vertex is looked at once, or twice where it is the one to be reached.
+// It takes four words of stack for each usable row, 16 KiB.
+use crate::edges::leads;
 use crate::rows::EDGE_WORDS;
 use crate::rows::SOURCE;
 use crate::rows::TARGET;
@@ -87,8 +89,8 @@ fn search_back(
     }
 }
 
-// A path of one or more of the first `held` edges leads from `from` to `to`.
-pub(crate) fn reaches(edges: &[u32], held: usize, from: u32, to: u32) -> bool
+// The same by the search alone: lends it its four arrays, of which `next` is cut to the held rows.
+fn search(edges: &[u32], held: usize, from: u32, to: u32) -> bool
     requires { ⌜ Searchable (now edges) held from to ⌝ }
     ensures { λ r. ⌜ r ≡ reaches (now (edges .entry)) held from to ⌝ }
 {
@@ -106,4 +108,18 @@ pub(crate) fn reaches(edges: &[u32], held: usize, from: u32, to: u32) -> bool
         &mut marked,
         &mut queue,
     )
+}
+
+// A path of one or more of the first `held` edges leads from `from` to `to`.
+pub(crate) fn reaches(edges: &[u32], held: usize, from: u32, to: u32) -> bool
+    requires { ⌜ Searchable (now edges) held from to ⌝ }
+    ensures { λ r. ⌜ r ≡ reaches (now (edges .entry)) held from to ⌝ }
+{
+    if !leads(edges, held, SOURCE, from) {
+        return false;
+    }
+    if !leads(edges, held, TARGET, to) {
+        return false;
+    }
+    search(edges, held, from, to)
 }
