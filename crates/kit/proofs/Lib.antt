@@ -1,7 +1,5 @@
 -- What the proofs of functions cite:
 --     ReplyLaws    which numbers an answer and a command come to
---     Passing      an export over its core, one law for each list of parameters
 --     Results      what the cores return, for the law of thin entries (crate graph, proofs/Thin)
 pub mod ReplyLaws
-pub mod Passing
 pub mod Results

@@ -1,9 +1,9 @@
--- The law of thin entries, as a typed proof cites it. An entry lends the tables on for good and keeps the tally's borrow: it reads the tally, calls the core of the same name with the tally by value, stores the tally that comes back, and answers. It is over any core that has no `requires`, any relation Φ that the core ensures between its record and the two tables at exit, any further parameters before the tables and behind the tally, and any types of results.
+-- The law of thin entries, which `Passing.antt` cites at each list of parameters. An entry lends the tables on for good and keeps the tally's borrow: it reads the tally, calls the core of the same name with the tally by value, stores the tally that comes back, and answers. It is over any core that has no `requires`, any relation Φ that the core ensures between its record and the two tables at exit, any further parameters before the tables and behind the tally, and any types of results.
 --     entered-with     what the entry begins with: the tokens of the core's lifetimes and the tally's, and what the parameters own.        called-with      what the core asks for
 --     ensured-of       what the core ensures: for some last lists v and e of the tables, that they are the last, and Φ r v e
 --     ends-with r v e      what the entry has when the core has returned r: its tokens, the tables' last lists, the tally's borrow at r's tally, and the answer
 --     entry-walk       from a core that is called with `called-with` and ensures `ensured-of`, and from how `ends-with` gives what is to be shown at exit, where Φ r v e holds: the entry's code does what is asked
--- At parameters that are written out, `entered-with` is the entry's `onEntry`, `called-with` and `ensured-of` are what the core's triple says, and `ends-with` is `onExit`, with each table given up (`gave-slice`), the tally kept (`stay-ref`) and each further parameter dropped (`stay-dropped`). antt sees that by computing, so an entry's proof says none of it.
+-- At parameters that are written out, `entered-with` is the entry's `onEntry`, `called-with` and `ensured-of` are what the core's triple says, and `ends-with` is `onExit`, with each table given up (`gave-slice`), the tally kept (`stay-ref`) and each further parameter dropped (`stay-dropped`). antt sees that by computing, so `Passing.antt` says none of it.
 -- Assumes `Given`.
 use mathlib.Core.Path.{_≡_, refl}
 use Prim.Native.Nat.{ℕ}

@@ -1,8 +1,8 @@
--- `keshtiwol_command` meets its contract, by the law of thin entries over `command_by_numbers`, with the tables and four numbers (proofs/Passing.antt). What the law is told: the types of the results, and the relation that both contracts ensure.
+-- `keshtiwol_command` meets its contract, by the law of thin entries over `command_by_numbers`, with the tables and four numbers (crate graph, proofs/Thin/Passing.antt). What the law is told: the types of the results, and the relation that both contracts ensure.
 -- Assumes nothing.
+use Rattle.graph.proofs.Thin.Passing.{numbers-meets}
 use Rattle.kit.specs.Numbers.{Commanded, byNumbers}
 use Rattle.kit.proofs.Results.{results}
-use Rattle.kit.proofs.Passing.{numbers-meets}
 use Rattle.kit.proofs.cores.command_by_numbers.Symbol as core-def
 use Rattle.kit.proofs.cores.command_by_numbers.Symbol.{name as #core}
 use Rattle.kit.proofs.cores.command_by_numbers.Met as core-thm

@@ -1,9 +1,9 @@
--- `keshtiwol_load` meets its contract, by the law of thin entries over `load_to_numbers`, with a program and the tables (proofs/Passing.antt). What the law is told: the types of the results, and the relation that both contracts ensure.
+-- `keshtiwol_load` meets its contract, by the law of thin entries over `load_to_numbers`, with a program and the tables (crate graph, proofs/Thin/Passing.antt). What the law is told: the types of the results, and the relation that both contracts ensure.
 -- Assumes nothing.
+use Rattle.graph.proofs.Thin.Passing.{program-meets}
 use Rattle.machine.specs.Loading.{load}
 use Rattle.kit.specs.Numbers.{Replied}
 use Rattle.kit.proofs.Results.{results}
-use Rattle.kit.proofs.Passing.{program-meets}
 use Rattle.kit.proofs.cores.load_to_numbers.Symbol as core-def
 use Rattle.kit.proofs.cores.load_to_numbers.Symbol.{name as #core}
 use Rattle.kit.proofs.cores.load_to_numbers.Met as core-thm

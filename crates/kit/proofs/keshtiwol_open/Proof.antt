@@ -1,9 +1,9 @@
--- `keshtiwol_open` meets its contract, by the law of thin entries over `open_to_numbers`, with the tables (proofs/Passing.antt). What the law is told: the types of the results, and the relation that both contracts ensure.
+-- `keshtiwol_open` meets its contract, by the law of thin entries over `open_to_numbers`, with the tables (crate graph, proofs/Thin/Passing.antt). What the law is told: the types of the results, and the relation that both contracts ensure.
 -- Assumes nothing.
 use Rattle.graph.specs.Commands.{opening}
+use Rattle.graph.proofs.Thin.Passing.{tables-meets}
 use Rattle.kit.specs.Numbers.{Commanded}
 use Rattle.kit.proofs.Results.{results}
-use Rattle.kit.proofs.Passing.{tables-meets}
 use Rattle.kit.proofs.cores.open_to_numbers.Symbol as core-def
 use Rattle.kit.proofs.cores.open_to_numbers.Symbol.{name as #core}
 use Rattle.kit.proofs.cores.open_to_numbers.Met as core-thm

@@ -1,9 +1,9 @@
--- `keshtiwol_step` meets its contract, by the law of thin entries over `step_to_numbers`, with a program, the tables and a number, the vertex (proofs/Passing.antt). What the law is told: the types of the results, and the relation that both contracts ensure.
+-- `keshtiwol_step` meets its contract, by the law of thin entries over `step_to_numbers`, with a program, the tables and a number, the vertex (crate graph, proofs/Thin/Passing.antt). What the law is told: the types of the results, and the relation that both contracts ensure.
 -- Assumes nothing.
+use Rattle.graph.proofs.Thin.Passing.{program-number-meets}
 use Rattle.machine.specs.Stepping.{step}
 use Rattle.kit.specs.Numbers.{Replied}
 use Rattle.kit.proofs.Results.{results}
-use Rattle.kit.proofs.Passing.{program-number-meets}
 use Rattle.kit.proofs.cores.step_to_numbers.Symbol as core-def
 use Rattle.kit.proofs.cores.step_to_numbers.Symbol.{name as #core}
 use Rattle.kit.proofs.cores.step_to_numbers.Met as core-thm
