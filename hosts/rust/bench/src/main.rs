@@ -1,0 +1,206 @@
+//! Times the engine and, beside it, the implementation written from its paper: `cargo run --release -p bench` prints tables.
+
+mod side;
+
+use std::hint::black_box;
+use std::time::{Duration, Instant};
+
+use side::{Do, Engine, Paper, Side};
+
+const ROUNDS: usize = 11;
+const ROUND: Duration = Duration::from_millis(20);
+
+/// Nanoseconds of one unit of work: warms up, then takes the median of several rounds, the two sides in turn.
+fn medians(units: f64, mut engine: impl FnMut(), mut paper: impl FnMut()) -> [f64; 2] {
+    let (engine_times, paper_times) = (times_in_a_round(&mut engine), times_in_a_round(&mut paper));
+    let mut rounds = [Vec::new(), Vec::new()];
+    for _ in 0..ROUNDS {
+        rounds[0].push(timed(engine_times, &mut engine));
+        rounds[1].push(timed(paper_times, &mut paper));
+    }
+    rounds.map(|mut rounds| {
+        rounds.sort_by(f64::total_cmp);
+        rounds[ROUNDS / 2] / units
+    })
+}
+
+/// How often the work is done in a round. Finding this out warms up.
+fn times_in_a_round(work: &mut impl FnMut()) -> u32 {
+    let begun = Instant::now();
+    let mut times = 0;
+    while begun.elapsed() < ROUND {
+        work();
+        times += 1;
+    }
+    times
+}
+
+fn timed(times: u32, work: &mut impl FnMut()) -> f64 {
+    let begun = Instant::now();
+    for _ in 0..times {
+        work();
+    }
+    begun.elapsed().as_nanos() as f64 / f64::from(times)
+}
+
+/// A program's steps, and nanoseconds per step by `step` and inside `run`, engine and paper each.
+struct Timed {
+    steps: usize,
+    step: [f64; 2],
+    run: [f64; 2],
+}
+
+fn program(program: &[u8]) -> Timed {
+    let (mut engine, mut paper) = (Engine::new(), Paper::new());
+    let order = lowest_first(&mut engine, program);
+    assert_eq!(order, lowest_first(&mut paper, program));
+    let steps = order.len();
+    let step = medians(steps as f64, || load_and_step(&mut engine, program, &order), || load_and_step(&mut paper, program, &order));
+    let run = medians(steps as f64, || load_and_run(&mut engine, program, steps), || load_and_run(&mut paper, program, steps));
+    Timed { steps, step, run }
+}
+
+/// The vertices that a run steps, in order.
+fn lowest_first(side: &mut impl Side, program: &[u8]) -> Vec<u32> {
+    side.load(program);
+    let mut order = Vec::new();
+    while let Some(vertex) = side.lowest(program) {
+        side.step(program, vertex);
+        order.push(vertex);
+    }
+    order
+}
+
+fn load_and_step(side: &mut impl Side, program: &[u8], order: &[u32]) {
+    side.load(program);
+    for &vertex in order {
+        side.step(program, vertex);
+    }
+}
+
+fn load_and_run(side: &mut impl Side, program: &[u8], steps: usize) {
+    side.load(program);
+    assert_eq!(side.run(program) as usize, steps);
+}
+
+/// 1,024 vertices with vertex 0 executing.
+fn bare(side: &mut impl Side) {
+    side.open();
+    side.command(Do::Start(0)).unwrap();
+    for _ in 1..1024 {
+        side.command(Do::New).unwrap();
+    }
+}
+
+/// A chain of 1,023 edges from vertex 0 on, its edges made front to back or back to front. The edge asked for would lead from its last
+/// vertex to its second (the first executes), so the search follows 1,022 edges.
+fn closing_edge(backwards: bool) -> [f64; 2] {
+    fn side<S: Side>(backwards: bool) -> impl FnMut() {
+        let mut side = S::new();
+        bare(&mut side);
+        for n in 0..1023 {
+            let source = if backwards { 1022 - n } else { n };
+            side.command(Do::Edge(source, source + 1)).unwrap();
+        }
+        move || assert_eq!(side.command(Do::Edge(1023, 1)), Err(35))
+    }
+    medians(1.0, side::<Engine>(backwards), side::<Paper>(backwards))
+}
+
+/// A stop among so many edges, every second its own. Putting the edges back is timed alone and subtracted.
+fn stop(held: u32) -> [f64; 2] {
+    fn side<S: Side>(held: u32) -> (S, Vec<u32>) {
+        let mut side = S::new();
+        bare(&mut side);
+        for n in 0..held {
+            side.command(Do::Edge(n % 2, 2 + n / 2)).unwrap();
+        }
+        let edges = side.edges().to_vec();
+        (side, edges)
+    }
+    fn stopping<S: Side>(held: u32, stops: bool) -> impl FnMut() {
+        let (mut side, edges) = side::<S>(held);
+        move || {
+            side.unstop(&edges, held);
+            black_box(&mut side);
+            if stops {
+                side.command(Do::Stop(0)).unwrap();
+            }
+        }
+    }
+    let both = medians(1.0, stopping::<Engine>(held, true), stopping::<Paper>(held, true));
+    let copies = medians(1.0, stopping::<Engine>(held, false), stopping::<Paper>(held, false));
+    [both[0] - copies[0], both[1] - copies[1]]
+}
+
+/// Copies of an item, then the end.
+fn repeated(item: &[u8], times: usize) -> Vec<u8> {
+    [item.repeat(times), vec![0]].concat()
+}
+
+fn thousands(number: usize) -> String {
+    if number < 1000 {
+        number.to_string()
+    } else {
+        format!("{},{:03}", number / 1000, number % 1000)
+    }
+}
+
+fn row(cells: [String; 9]) {
+    let [name, bytes, steps, rest @ ..] = cells;
+    print!("| {name:<16} | {bytes:>5} | {steps:>5} |");
+    for cell in rest {
+        print!(" {cell:>12} |");
+    }
+    println!();
+}
+
+fn nanoseconds([engine, paper]: [f64; 2]) -> [String; 3] {
+    [format!("{engine:.0}"), format!("{paper:.0}"), format!("{:.2}", engine / paper)]
+}
+
+fn main() {
+    let repeats: [(&str, &[u8], usize); 4] =
+        [("asyncs", &[2, 0], 1022), ("forks", &[4, 0, 0], 340), ("finishes", &[3, 0], 511), ("jobs", &[1, 5], 2047)];
+    let mut programs = Vec::new();
+    for (name, item, times) in repeats {
+        for times in [times / 2, times] {
+            programs.push((format!("{} {name}", thousands(times)), repeated(item, times)));
+        }
+    }
+    programs.push(("nesting 31 deep".into(), [[2].repeat(31), [0].repeat(32)].concat()));
+    programs.push(("mixed".into(), compare::programs::mixed()));
+
+    println!("Nanoseconds per step, load counted in; the median of {ROUNDS} rounds. Ratio: engine / paper.\n");
+    row(["program", "bytes", "steps", "step: engine", "paper", "ratio", "run: engine", "paper", "ratio"].map(String::from));
+    println!("|:{0:-<17}|{0:->6}:|{0:->6}:|{1}", "", format!("{:->13}:|", "").repeat(6));
+    let mut timed = Vec::new();
+    for (name, bytes) in &programs {
+        let times = program(bytes);
+        let ([a, b, c], [d, e, f]) = (nanoseconds(times.step), nanoseconds(times.run));
+        row([name.clone(), thousands(bytes.len()), thousands(times.steps), a, b, c, d, e, f]);
+        timed.push(times);
+    }
+
+    println!("\nGrowth of the engine's nanoseconds per step when the program is twice as long.\n");
+    println!("| {:<10} | {:>12} | {:>12} |", "program", "step", "run");
+    println!("|:{0:-<11}|{0:->13}:|{0:->13}:|", "");
+    for ((name, ..), times) in repeats.iter().zip(timed.chunks(2)) {
+        let growth = |by: fn(&Timed) -> f64| format!("x {:.2}", by(&times[1]) / by(&times[0]));
+        println!("| {name:<10} | {:>12} | {:>12} |", growth(|times| times.step[0]), growth(|times| times.run[0]));
+    }
+
+    println!("\nNanoseconds per single command on 1,024 vertices.\n");
+    println!("| {:<56} | {:>8} | {:>8} | {:>8} |", "command", "engine", "paper", "ratio");
+    println!("|:{0:-<57}|{0:->9}:|{0:->9}:|{0:->9}:|", "");
+    let commands = [
+        ("newEdge that would close a chain of 1,023, front to back", closing_edge(false)),
+        ("newEdge that would close a chain of 1,023, back to front", closing_edge(true)),
+        ("stop among 512 edges, 256 its own", stop(512)),
+        ("stop among 1,024 edges, 512 its own", stop(1024)),
+    ];
+    for (name, times) in commands {
+        let [engine, paper, ratio] = nanoseconds(times);
+        println!("| {name:<56} | {engine:>8} | {paper:>8} | {ratio:>8} |");
+    }
+}

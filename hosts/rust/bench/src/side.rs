@@ -1,0 +1,103 @@
+//! The two sides of the benchmark behind the same few calls, each with tables of 1,024 rows of its own.
+
+use std::hint::black_box;
+
+use keshtiwol::{EDGE_TABLE, STEP_LIMIT, VERTEX_TABLE};
+
+/// A bare machine's command, as far as the benchmark needs them.
+#[derive(Clone, Copy)]
+pub enum Do {
+    Start(u32),
+    New,
+    Edge(u32, u32),
+    Stop(u32),
+}
+
+pub trait Side {
+    fn new() -> Self;
+    fn load(&mut self, program: &[u8]);
+    fn step(&mut self, program: &[u8], vertex: u32);
+    /// Runs to the end and tells the steps taken.
+    fn run(&mut self, program: &[u8]) -> u32;
+    /// The lowest vertex that can step.
+    fn lowest(&mut self, program: &[u8]) -> Option<u32>;
+    fn open(&mut self);
+    /// A command by vertex 0, or its refusal's number.
+    fn command(&mut self, what: Do) -> Result<(), u32>;
+    fn edges(&self) -> &[u32];
+    /// Undoes a stop of vertex 0: its status, the edges and their number.
+    fn unstop(&mut self, edges: &[u32], held: u32);
+}
+
+/// Both crates have the same shapes, so one text serves for both.
+macro_rules! side {
+    ($name:ident, $made_by:ident, $lowest:expr) => {
+        pub struct $name {
+            vertices: Vec<u32>,
+            edges: Vec<u32>,
+            tally: $made_by::Tally,
+        }
+
+        impl Side for $name {
+            fn new() -> Self {
+                $name { vertices: vec![0; VERTEX_TABLE], edges: vec![0; EDGE_TABLE], tally: Default::default() }
+            }
+
+            fn load(&mut self, program: &[u8]) {
+                black_box($made_by::load(black_box(program), &mut self.vertices, &mut self.edges, &mut self.tally));
+            }
+
+            fn step(&mut self, program: &[u8], vertex: u32) {
+                let answer = $made_by::step(program, &mut self.vertices, &mut self.edges, &mut self.tally, black_box(vertex));
+                if let $made_by::Answer::Refused { number, .. } = black_box(answer) {
+                    panic!("a step of {vertex} was refused: {number}");
+                }
+            }
+
+            fn run(&mut self, program: &[u8]) -> u32 {
+                let run = $made_by::run(program, &mut self.vertices, &mut self.edges, &mut self.tally, black_box(STEP_LIMIT));
+                assert_eq!(run.ending, $made_by::Ending::Done);
+                run.taken
+            }
+
+            fn lowest(&mut self, program: &[u8]) -> Option<u32> {
+                match $lowest(program, &mut self.vertices, &mut self.edges, &mut self.tally) {
+                    $made_by::Lowest::Vertex(vertex) => Some(vertex),
+                    _ => None,
+                }
+            }
+
+            fn open(&mut self) {
+                $made_by::open(&mut self.vertices, &mut self.edges, &mut self.tally);
+            }
+
+            fn command(&mut self, what: Do) -> Result<(), u32> {
+                let command = match black_box(what) {
+                    Do::Start(vertex) => $made_by::Command::Start { vertex },
+                    Do::New => $made_by::Command::NewTd { caller: 0, place: 0, scope: 0 },
+                    Do::Edge(source, target) => $made_by::Command::NewEdge { caller: 0, source, target },
+                    Do::Stop(caller) => $made_by::Command::Stop { caller },
+                };
+                match black_box($made_by::command(&mut self.vertices, &mut self.edges, &mut self.tally, command)) {
+                    $made_by::Answer::Refused { number, .. } => Err(number),
+                    _ => Ok(()),
+                }
+            }
+
+            fn edges(&self) -> &[u32] {
+                &self.edges
+            }
+
+            fn unstop(&mut self, edges: &[u32], held: u32) {
+                self.vertices[0] = keshtiwol::VERTEX_EXECUTING;
+                self.edges.copy_from_slice(black_box(edges));
+                self.tally.held = held;
+            }
+        }
+    };
+}
+
+side!(Engine, keshtiwol, keshtiwol::lowest);
+side!(Paper, paper, |program, vertices: &mut [u32], edges: &mut [u32], tally: &mut paper::Tally| paper::lowest(
+    program, vertices, edges, tally
+));

@@ -1,0 +1,138 @@
+//! What was called and what was said, so that it shows what a comparison covered.
+
+use std::collections::BTreeMap;
+use std::fmt;
+
+use keshtiwol::{Answer, Command, Ending, Lowest};
+
+use crate::pair::{Call, Said};
+use crate::programs;
+
+const CALLS: [&str; 11] = ["open", "load", "step", "run", "lowest", "newTd", "newEdge", "release", "transfer", "start", "stop"];
+pub const WORDS: [&str; 14] =
+    ["refused", "ready", "start", "new", "edge", "release", "transfer", "job", "stop", "none", "vertex", "done", "stuck", "spent"];
+
+/// The numbers that a refusal can have through the safe functions.
+pub const REFUSALS: [u32; 26] = [1, 2, 3, 4, 5, 6, 7, 8, 10, 11, 12, 13, 20, 21, 22, 23, 30, 31, 32, 33, 34, 35, 36, 37, 38, 39];
+
+#[derive(Clone, Default)]
+pub struct Counts {
+    /// By call, word and refusal number (0 where not refused).
+    seen: BTreeMap<(usize, usize, u32), u64>,
+    /// Steps that runs took.
+    taken: u64,
+    /// The largest program that loaded: bytes, vertices that it makes, levels, each for itself.
+    largest: [usize; 3],
+}
+
+impl Counts {
+    pub fn add(&mut self, call: Call, said: Said) {
+        let call = match call {
+            Call::Open => 0,
+            Call::Load => 1,
+            Call::Step(_) => 2,
+            Call::Run(_) => 3,
+            Call::Lowest => 4,
+            Call::Command(Command::NewTd { .. }) => 5,
+            Call::Command(Command::NewEdge { .. }) => 6,
+            Call::Command(Command::Release { .. }) => 7,
+            Call::Command(Command::Transfer { .. }) => 8,
+            Call::Command(Command::Start { .. }) => 9,
+            Call::Command(Command::Stop { .. }) => 10,
+        };
+        let (word, refusal) = match said {
+            Said::Answer(answer) => match answer {
+                Answer::Refused { number, .. } => (0, number),
+                Answer::Ready => (1, 0),
+                Answer::Start => (2, 0),
+                Answer::New(_) => (3, 0),
+                Answer::Edge(..) => (4, 0),
+                Answer::Release(_) => (5, 0),
+                Answer::Transfer(_) => (6, 0),
+                Answer::Job { .. } => (7, 0),
+                Answer::Stop => (8, 0),
+            },
+            Said::Lowest(lowest) => match lowest {
+                Lowest::NoVertex => (9, 0),
+                Lowest::Vertex(_) => (10, 0),
+                Lowest::Refused { number, .. } => (0, number),
+            },
+            Said::Run(run) => {
+                self.taken += u64::from(run.taken);
+                match run.ending {
+                    Ending::Done => (11, 0),
+                    Ending::Stuck => (12, 0),
+                    Ending::Spent => (13, 0),
+                    Ending::Refused { number, .. } => (0, number),
+                }
+            }
+        };
+        *self.seen.entry((call, word, refusal)).or_default() += 1;
+    }
+
+    /// Notes a program that loaded.
+    pub fn loaded(&mut self, program: &[u8]) {
+        let (vertices, _, levels) = programs::needs(program);
+        self.enlarge([program.len(), vertices as usize, levels]);
+    }
+
+    fn enlarge(&mut self, by: [usize; 3]) {
+        for (largest, number) in self.largest.iter_mut().zip(by) {
+            *largest = number.max(*largest);
+        }
+    }
+
+    pub fn merge(&mut self, other: Counts) {
+        for (key, count) in other.seen {
+            *self.seen.entry(key).or_default() += count;
+        }
+        self.taken += other.taken;
+        self.enlarge(other.largest);
+    }
+
+    pub fn calls(&self) -> u64 {
+        self.seen.values().sum()
+    }
+
+    /// How often a refusal was seen, from whatever call.
+    pub fn refusals(&self, number: u32) -> u64 {
+        self.seen.iter().filter(|((_, word, refusal), _)| (*word, *refusal) == (0, number)).map(|(_, count)| count).sum()
+    }
+
+    /// How often this word was said.
+    pub fn said(&self, word: &str) -> u64 {
+        self.seen.iter().filter(|(key, _)| WORDS[key.1] == word).map(|(_, count)| count).sum()
+    }
+
+    /// The most bytes, vertices and levels of programs that loaded.
+    pub fn largest(&self) -> [usize; 3] {
+        self.largest
+    }
+}
+
+impl fmt::Display for Counts {
+    fn fmt(&self, f: &mut fmt::Formatter) -> fmt::Result {
+        for (index, call) in CALLS.iter().enumerate() {
+            let seen = || self.seen.range((index, 0, 0)..(index + 1, 0, 0));
+            let sum: u64 = seen().map(|(_, count)| count).sum();
+            write!(f, "{call:>8} {sum:>9}:")?;
+            for (&(_, word, _), count) in seen().filter(|(key, _)| key.1 != 0) {
+                write!(f, " {} {count}", WORDS[word])?;
+            }
+            if seen().any(|(key, _)| key.1 == 0) {
+                write!(f, "; refused")?;
+            }
+            for (&(_, _, number), count) in seen().filter(|(key, _)| key.1 == 0) {
+                write!(f, " {number}: {count}")?;
+            }
+            writeln!(f)?;
+        }
+        let [bytes, vertices, levels] = self.largest;
+        writeln!(f, "runs took {} steps; programs had up to {bytes} bytes, {vertices} vertices, {levels} levels", self.taken)?;
+        write!(f, "refusals")?;
+        for number in REFUSALS {
+            write!(f, " {number}: {}", self.refusals(number))?;
+        }
+        writeln!(f)
+    }
+}

@@ -1,0 +1,228 @@
+//! Two machines side by side, the engine's and the paper's: each call is made to both, and all that came of it compared.
+
+use std::fmt::Write;
+
+use keshtiwol::{Answer, Command, Ending, Lowest, Run, Tally, EDGE_WORDS, VERTEX_WORDS};
+
+use crate::counts::Counts;
+
+#[derive(Clone, Copy, Debug, PartialEq)]
+pub enum Call {
+    Open,
+    Load,
+    Step(u32),
+    Run(u32),
+    Lowest,
+    Command(Command),
+}
+
+#[derive(Clone, Copy, Debug, PartialEq)]
+pub enum Said {
+    Answer(Answer),
+    Run(Run),
+    Lowest(Lowest),
+}
+
+/// What differed, in full.
+#[derive(Debug)]
+pub struct Difference(pub String);
+
+/// The tables and the tally.
+#[derive(Clone, Debug, PartialEq)]
+pub struct State {
+    pub vertices: Vec<u32>,
+    pub edges: Vec<u32>,
+    pub tally: Tally,
+}
+
+/// Words around the engine's tables that no call may touch.
+const MARGIN: usize = 8;
+const MARK: u32 = 0xA5A5_5A5A;
+
+pub struct Pair {
+    /// Lent to both. Scenarios may change it between calls.
+    pub program: Vec<u8>,
+    /// The paper's side; the engine's was the same after each call so far.
+    state: State,
+    /// The engine's side, with margins.
+    vertices: Vec<u32>,
+    edges: Vec<u32>,
+    tally: Tally,
+    counts: Counts,
+    history: Vec<(Call, Said)>,
+}
+
+impl Pair {
+    pub fn new(program: Vec<u8>, state: State) -> Pair {
+        let mut pair = Pair {
+            program,
+            state: State { vertices: Vec::new(), edges: Vec::new(), tally: Tally::default() },
+            vertices: Vec::new(),
+            edges: Vec::new(),
+            tally: Tally::default(),
+            counts: Counts::default(),
+            history: Vec::new(),
+        };
+        pair.set(state);
+        pair
+    }
+
+    pub fn state(&self) -> &State {
+        &self.state
+    }
+
+    /// Puts both sides in a state.
+    pub fn set(&mut self, state: State) {
+        self.vertices = with_margins(&state.vertices);
+        self.edges = with_margins(&state.edges);
+        self.tally = state.tally;
+        self.state = state;
+    }
+
+    pub fn set_vertex_word(&mut self, at: usize, word: u32) {
+        self.state.vertices[at] = word;
+        self.vertices[MARGIN + at] = word;
+    }
+
+    pub fn set_edge_word(&mut self, at: usize, word: u32) {
+        self.state.edges[at] = word;
+        self.edges[MARGIN + at] = word;
+    }
+
+    pub fn set_tally(&mut self, tally: Tally) {
+        self.state.tally = tally;
+        self.tally = tally;
+    }
+
+    /// Makes a call on both sides.
+    pub fn call(&mut self, call: Call) -> Result<Said, Difference> {
+        let before = self.state.tally;
+        let paper = on_paper(call, &self.program, &mut self.state);
+        let (v, e) = (MARGIN..self.vertices.len() - MARGIN, MARGIN..self.edges.len() - MARGIN);
+        let engine = by_engine(call, &self.program, &mut self.vertices[v.clone()], &mut self.edges[e.clone()], &mut self.tally);
+        self.counts.add(call, engine);
+        if (call, engine) == (Call::Load, Said::Answer(Answer::Ready)) {
+            self.counts.loaded(&self.program);
+        }
+        let same = engine == paper
+            && self.tally == self.state.tally
+            && self.vertices[v] == self.state.vertices
+            && self.edges[e] == self.state.edges
+            && margins(&self.vertices).chain(margins(&self.edges)).all(|word| word == MARK);
+        if !same {
+            return Err(self.difference(call, engine, paper, before));
+        }
+        self.history.push((call, engine));
+        Ok(engine)
+    }
+
+    pub fn calls(&self) -> usize {
+        self.history.len()
+    }
+
+    pub fn into_counts(self) -> Counts {
+        self.counts
+    }
+
+    fn difference(&self, call: Call, engine: Said, paper: Said, before: Tally) -> Difference {
+        let mut text = String::new();
+        let (vertex_words, edge_words) = (self.state.vertices.len(), self.state.edges.len());
+        let _ = writeln!(text, "{call:?}, call {} of the scenario, with {vertex_words} and {edge_words} words", self.calls() + 1);
+        let _ = writeln!(text, "program of {} bytes: {:02X?}", self.program.len(), self.program);
+        let _ = writeln!(text, "before:  {before:?}");
+        let _ = writeln!(text, "engine:  {engine:?}, {:?}", self.tally);
+        let _ = writeln!(text, "paper:   {paper:?}, {:?}", self.state.tally);
+        differing(&mut text, "vertex", &self.vertices, &self.state.vertices, VERTEX_WORDS);
+        differing(&mut text, "edge", &self.edges, &self.state.edges, EDGE_WORDS);
+        for word in margins(&self.vertices).chain(margins(&self.edges)).filter(|&word| word != MARK) {
+            let _ = writeln!(text, "outside the engine's table: {word}");
+        }
+        let _ = writeln!(text, "calls before it, the last first:");
+        for (call, said) in self.history.iter().rev().take(12) {
+            let _ = writeln!(text, "    {call:?} said {said:?}");
+        }
+        Difference(text)
+    }
+}
+
+fn with_margins(table: &[u32]) -> Vec<u32> {
+    [&[MARK; MARGIN], table, &[MARK; MARGIN]].concat()
+}
+
+fn margins(table: &[u32]) -> impl Iterator<Item = u32> + '_ {
+    table[..MARGIN].iter().chain(&table[table.len() - MARGIN..]).copied()
+}
+
+fn differing(text: &mut String, table: &str, engine: &[u32], paper: &[u32], row_words: usize) {
+    let words = engine[MARGIN..].iter().zip(paper).enumerate();
+    for (at, (engine, paper)) in words.filter(|(_, (engine, paper))| engine != paper).take(20) {
+        let _ = writeln!(text, "{table} row {}, word {}: engine {engine}, paper {paper}", at / row_words, at % row_words);
+    }
+}
+
+fn by_engine(call: Call, program: &[u8], vertices: &mut [u32], edges: &mut [u32], tally: &mut Tally) -> Said {
+    match call {
+        Call::Open => Said::Answer(keshtiwol::open(vertices, edges, tally)),
+        Call::Load => Said::Answer(keshtiwol::load(program, vertices, edges, tally)),
+        Call::Step(vertex) => Said::Answer(keshtiwol::step(program, vertices, edges, tally, vertex)),
+        Call::Run(budget) => Said::Run(keshtiwol::run(program, vertices, edges, tally, budget)),
+        Call::Lowest => Said::Lowest(keshtiwol::lowest(program, vertices, edges, tally)),
+        Call::Command(command) => Said::Answer(keshtiwol::command(vertices, edges, tally, command)),
+    }
+}
+
+fn on_paper(call: Call, program: &[u8], state: &mut State) -> Said {
+    let State { vertices, edges, tally } = state;
+    let mut own = paper::Tally { made: tally.made, held: tally.held, steps: tally.steps };
+    let said = match call {
+        Call::Open => Said::Answer(answer(paper::open(vertices, edges, &mut own))),
+        Call::Load => Said::Answer(answer(paper::load(program, vertices, edges, &mut own))),
+        Call::Step(vertex) => Said::Answer(answer(paper::step(program, vertices, edges, &mut own, vertex))),
+        Call::Run(budget) => {
+            let paper::Run { ending, last, taken } = paper::run(program, vertices, edges, &mut own, budget);
+            Said::Run(Run { ending: ending_of(ending), last: last.map(answer), taken })
+        }
+        Call::Lowest => Said::Lowest(match paper::lowest(program, vertices, edges, &own) {
+            paper::Lowest::Vertex(vertex) => Lowest::Vertex(vertex),
+            paper::Lowest::NoVertex => Lowest::NoVertex,
+            paper::Lowest::Refused { number, place } => Lowest::Refused { number, place },
+        }),
+        Call::Command(command) => Said::Answer(answer(paper::command(vertices, edges, &mut own, command_of(command)))),
+    };
+    *tally = Tally { made: own.made, held: own.held, steps: own.steps };
+    said
+}
+
+fn answer(answer: paper::Answer) -> Answer {
+    match answer {
+        paper::Answer::Ready => Answer::Ready,
+        paper::Answer::Start => Answer::Start,
+        paper::Answer::New(vertex) => Answer::New(vertex),
+        paper::Answer::Edge(source, target) => Answer::Edge(source, target),
+        paper::Answer::Release(vertex) => Answer::Release(vertex),
+        paper::Answer::Transfer(vertex) => Answer::Transfer(vertex),
+        paper::Answer::Job { number, offset } => Answer::Job { number, offset },
+        paper::Answer::Stop => Answer::Stop,
+        paper::Answer::Refused { number, place } => Answer::Refused { number, place },
+    }
+}
+
+fn ending_of(ending: paper::Ending) -> Ending {
+    match ending {
+        paper::Ending::Done => Ending::Done,
+        paper::Ending::Stuck => Ending::Stuck,
+        paper::Ending::Spent => Ending::Spent,
+        paper::Ending::Refused { number, place } => Ending::Refused { number, place },
+    }
+}
+
+fn command_of(command: Command) -> paper::Command {
+    match command {
+        Command::NewTd { caller, place, scope } => paper::Command::NewTd { caller, place, scope },
+        Command::NewEdge { caller, source, target } => paper::Command::NewEdge { caller, source, target },
+        Command::Release { caller, vertex } => paper::Command::Release { caller, vertex },
+        Command::Transfer { caller, vertex } => paper::Command::Transfer { caller, vertex },
+        Command::Start { vertex } => paper::Command::Start { vertex },
+        Command::Stop { caller } => paper::Command::Stop { caller },
+    }
+}

@@ -1,0 +1,275 @@
+//! Programs of every shape, valid ones and damaged ones.
+
+use crate::draw::Draw;
+
+const JOB: u8 = 1;
+const ASYNC: u8 = 2;
+const FINISH: u8 = 3;
+const FORK: u8 = 4;
+
+/// What a program may grow to.
+#[derive(Clone, Copy, Debug)]
+pub struct Shape {
+    pub bytes: usize,
+    pub vertices: u32,
+    pub levels: u32,
+    /// How often jobs, asyncs, finishes and forks come.
+    pub weights: [u32; 4],
+    /// How often job numbers have one, two and three bytes.
+    pub numbers: [u32; 3],
+    /// An inner body ends after an item once in so many times.
+    pub ends: u32,
+    /// Whether the main body grows until nothing more fits, or ends as the others do.
+    pub full: bool,
+}
+
+/// A program within a shape. Within 4,096 bytes, 1,024 vertices and 32 levels it is valid.
+pub fn grow(draw: &mut Draw, shape: &Shape) -> Vec<u8> {
+    let mut growth = Growth { shape, bytes: Vec::new(), owed: 1, vertices: 2 };
+    growth.body(draw, 1);
+    growth.bytes
+}
+
+struct Growth<'a> {
+    shape: &'a Shape,
+    bytes: Vec<u8>,
+    /// End bytes still to come.
+    owed: usize,
+    vertices: u32,
+}
+
+impl Growth<'_> {
+    fn body(&mut self, draw: &mut Draw, level: u32) {
+        let goes_on = level == 1 && self.shape.full;
+        while goes_on || !draw.one_in(self.shape.ends) {
+            if !self.item(draw, level) {
+                break;
+            }
+        }
+        self.bytes.push(0);
+        self.owed -= 1;
+    }
+
+    /// Adds an item that fits, if there is one.
+    fn item(&mut self, draw: &mut Draw, level: u32) -> bool {
+        let room = self.shape.bytes.saturating_sub(self.bytes.len() + self.owed);
+        let vertices = self.shape.vertices.saturating_sub(self.vertices);
+        let inner = level < self.shape.levels;
+        let fits =
+            [room >= 2, inner && room >= 2 && vertices >= 1, inner && room >= 2 && vertices >= 2, inner && room >= 3 && vertices >= 3];
+        let mut weights = self.shape.weights;
+        for (weight, fits) in weights.iter_mut().zip(fits) {
+            *weight *= u32::from(fits);
+        }
+        if weights == [0; 4] {
+            return false;
+        }
+        match draw.weighted(&weights) {
+            0 => {
+                let longest = (room - 1).min(3);
+                let mut lengths = self.shape.numbers;
+                lengths[longest..].fill(0);
+                let length = if lengths == [0; 3] { 0 } else { draw.weighted(&lengths) };
+                let number = match length {
+                    0 => draw.below(128),
+                    1 => draw.between(128, 16_383),
+                    _ => draw.between(16_384, 65_535),
+                };
+                self.bytes.push(JOB);
+                self.bytes.extend(number_bytes(number));
+            }
+            1 => self.open(draw, level, ASYNC, 1, 1),
+            2 => self.open(draw, level, FINISH, 1, 2),
+            _ => self.open(draw, level, FORK, 2, 3),
+        }
+        true
+    }
+
+    fn open(&mut self, draw: &mut Draw, level: u32, opener: u8, bodies: usize, vertices: u32) {
+        self.bytes.push(opener);
+        self.owed += bodies;
+        self.vertices += vertices;
+        for _ in 0..bodies {
+            self.body(draw, level + 1);
+        }
+    }
+}
+
+/// A number in its shortest form.
+pub fn number_bytes(mut number: u32) -> Vec<u8> {
+    let mut bytes = Vec::new();
+    while number > 127 {
+        bytes.push(number as u8 | 0x80);
+        number >>= 7;
+    }
+    bytes.push(number as u8);
+    bytes
+}
+
+/// How large programs are drawn. Large ones cost a thousand times a small one's time.
+#[derive(Clone, Copy, Debug, PartialEq)]
+pub enum Size {
+    Small,
+    Middle,
+    Large,
+}
+
+/// A valid program.
+pub fn valid(draw: &mut Draw, size: Size) -> Vec<u8> {
+    let shape = match size {
+        Size::Small => shape(draw, 3, 48, 16),
+        Size::Middle => shape(draw, 30, 500, 120),
+        Size::Large => large(draw),
+    };
+    grow(draw, &shape)
+}
+
+fn shape(draw: &mut Draw, least_bytes: u32, most_bytes: u32, most_vertices: u32) -> Shape {
+    const WEIGHTS: [[u32; 4]; 7] = [[3, 2, 2, 2], [1, 1, 1, 1], [4, 1, 0, 0], [1, 0, 4, 0], [1, 0, 0, 4], [0, 2, 3, 0], [0, 1, 1, 2]];
+    Shape {
+        bytes: draw.between(least_bytes, most_bytes) as usize,
+        vertices: draw.between(2, most_vertices),
+        levels: draw.pick(&[2, 3, 5, 32, 32]),
+        weights: draw.pick(&WEIGHTS),
+        numbers: draw.pick(&[[1, 0, 0], [3, 1, 1], [1, 1, 1], [0, 0, 1]]),
+        ends: draw.pick(&[2, 3, 5]),
+        full: !draw.one_in(4),
+    }
+}
+
+/// At one limit or more.
+fn large(draw: &mut Draw) -> Shape {
+    let mut shape = Shape { full: true, ..shape(draw, 1000, 4096, 1024) };
+    match draw.below(4) {
+        0 => shape.vertices = 1024,
+        1 => shape.bytes = 4096,
+        2 => (shape.vertices, shape.bytes) = (1024, 4096),
+        _ => (shape.levels, shape.ends, shape.weights) = (32, 40, draw.pick(&[[1, 1, 1, 1], [0, 1, 0, 0], [1, 0, 5, 0], [1, 0, 0, 5]])),
+    }
+    shape
+}
+
+/// The vertex rows and edge rows that a valid program needs, and its levels.
+pub fn needs(program: &[u8]) -> (u32, u32, usize) {
+    let (mut vertices, mut edges, mut levels) = (2, 1, 0);
+    // For each open body, how many of its item's bodies come after it.
+    let mut open = vec![0];
+    let mut bytes = program.iter();
+    while let Some(byte) = bytes.next() {
+        levels = levels.max(open.len());
+        match *byte {
+            0 => match open.pop() {
+                Some(1) => open.push(0),
+                _ => continue,
+            },
+            JOB => while bytes.next().is_some_and(|byte| *byte > 127) {},
+            ASYNC => {
+                (vertices, edges) = (vertices + 1, edges + 1);
+                open.push(0);
+            }
+            FINISH => {
+                (vertices, edges) = (vertices + 2, edges + 1);
+                open.push(0);
+            }
+            _ => {
+                (vertices, edges) = (vertices + 3, edges + 2);
+                open.push(1);
+            }
+        }
+    }
+    (vertices, edges, levels)
+}
+
+/// The mixed program of the benchmark, the same each time: 4,000 bytes, 1,000 vertices, 32 levels.
+pub fn mixed() -> Vec<u8> {
+    let shape = Shape { bytes: 4000, vertices: 1000, levels: 32, weights: [8, 2, 1, 2], numbers: [1, 1, 1], ends: 3, full: true };
+    grow(&mut Draw::new(8), &shape)
+}
+
+/// A program that loading refuses, mostly: just over a limit, changed here and there, or anything.
+pub fn damaged(draw: &mut Draw, size: Size) -> Vec<u8> {
+    let mut program = match draw.below(8) {
+        0 => return just_over(draw),
+        1 => return scribble(draw),
+        _ => valid(draw, size),
+    };
+    for _ in 0..draw.pick(&[1, 1, 1, 2, 3, 8]) {
+        damage(draw, &mut program);
+    }
+    program
+}
+
+fn just_over(draw: &mut Draw) -> Vec<u8> {
+    let mut shape = large(draw);
+    match draw.below(3) {
+        0 => {
+            (shape.bytes, shape.numbers) = (4097 + draw.index(5), [1, 0, 0]);
+            shape.weights[0] += 1;
+        }
+        1 => {
+            (shape.vertices, shape.bytes, shape.weights) =
+                (draw.between(1025, 1030), 4096, draw.pick(&[[0, 1, 0, 0], [0, 0, 1, 0], [0, 1, 1, 2]]))
+        }
+        _ => (shape.levels, shape.ends, shape.weights) = (draw.between(33, 40), 40, [1, 2, 2, 2]),
+    }
+    grow(draw, &shape)
+}
+
+/// Bytes that begin something, mostly.
+fn scribble(draw: &mut Draw) -> Vec<u8> {
+    let length = draw.pick(&[0, 1, 2, 3, 5, 9, 20, 60]);
+    (0..length).map(|_| odd_byte(draw)).collect()
+}
+
+fn odd_byte(draw: &mut Draw) -> u8 {
+    match draw.below(3) {
+        0 => draw.pick(&[5, 6, 0x7F, 0x80, 0x81, 0x83, 0x84, 0xFE, 0xFF]),
+        1 => draw.bits() as u8,
+        _ => draw.below(5) as u8,
+    }
+}
+
+/// Flips, sets, puts in, takes out, cuts or appends bytes, or puts in a job with a number at the edge of what numbers are.
+fn damage(draw: &mut Draw, program: &mut Vec<u8>) {
+    const NUMBERS: [&[u8]; 9] = [
+        &[0x80, 0],
+        &[0x80, 0x80, 0],
+        &[0xFF, 0],
+        &[0x80, 0x80, 0x80, 0],
+        &[0xFF, 0xFF, 0xFF],
+        &[0x80, 0x80, 4],
+        &[0xFF, 0xFF, 0x7F],
+        &[0xFF, 0xFF, 3],
+        &[0x80, 0x80, 1],
+    ];
+    if program.is_empty() {
+        program.push(odd_byte(draw));
+        return;
+    }
+    let at = draw.index(program.len());
+    match draw.below(8) {
+        0 => program[at] ^= 1 << draw.below(8),
+        1 => program[at] = odd_byte(draw),
+        2 => program.insert(at, odd_byte(draw)),
+        3 => {
+            program.remove(at);
+        }
+        4 => program.truncate(at),
+        5 => {
+            for _ in 0..=draw.below(3) {
+                program.push(odd_byte(draw));
+            }
+        }
+        6 => {
+            let number = draw.pick(&NUMBERS);
+            program.splice(at..at, [&[JOB], number].concat());
+        }
+        _ => {
+            // Cut inside a number.
+            program.truncate(at);
+            program.push(JOB);
+            program.extend(draw.pick(&NUMBERS));
+            program.pop();
+        }
+    }
+}

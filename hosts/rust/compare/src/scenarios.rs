@@ -1,0 +1,426 @@
+//! The scenarios. All that one does follows from its seed.
+
+use keshtiwol::{
+    Answer, Command, Ending, Tally, EDGE_WORDS, MADE, PHASE, PLACE, ROWS, SCOPE, SOURCE, STATUS, TARGET, VERTEX_EXECUTING, VERTEX_RELEASED,
+    VERTEX_WORDS,
+};
+
+use crate::counts::Counts;
+use crate::draw::Draw;
+use crate::pair::{Call, Difference, Pair, Said, State};
+use crate::programs::{self, Size};
+
+type Outcome = Result<(), Difference>;
+type Kind = fn(&mut Scene) -> Outcome;
+
+/// Plays the scenario of a seed: what was called and said, or the first difference.
+pub fn play(seed: u64) -> Result<Counts, Difference> {
+    let mut draw = Draw::new(seed);
+    let kinds: [(&str, u32, Kind); 6] = [
+        ("a bare machine", 3, Scene::bare),
+        ("random tables", 3, Scene::random_tables),
+        ("a schedule", 4, Scene::schedule),
+        ("runs", 1, Scene::runs),
+        ("a damaged program", 3, Scene::damaged),
+        ("altered words", 4, Scene::altered),
+    ];
+    let (name, _, kind) = kinds[draw.weighted(&kinds.map(|kind| kind.1))];
+    let size = [Size::Small, Size::Middle, Size::Large][draw.weighted(&[80, 14, 6])];
+    let program = programs::valid(&mut draw, size);
+    let nothing = State { vertices: Vec::new(), edges: Vec::new(), tally: Tally::default() };
+    let beside = if size == Size::Small { draw.pick(&[1, 2, 4]) } else { draw.pick(&[4, 20]) };
+    let mut scene = Scene { draw, size, beside, pair: Pair::new(program, nothing) };
+    match kind(&mut scene) {
+        Ok(()) => Ok(scene.pair.into_counts()),
+        Err(Difference(text)) => Err(Difference(format!("{name}: {text}"))),
+    }
+}
+
+/// How the next vertex of a loaded program is picked.
+#[derive(Clone, Copy)]
+enum Order {
+    Lowest,
+    Highest,
+    Any,
+    /// The same again while it can step.
+    Same,
+}
+
+struct Scene {
+    draw: Draw,
+    size: Size,
+    /// After a call `lowest` is asked too, once in so many times.
+    beside: u32,
+    pair: Pair,
+}
+
+impl Scene {
+    /// Commands on an opened machine, some steps among them.
+    fn bare(&mut self) -> Outcome {
+        let rows = match self.size {
+            Size::Small => self.draw.between(1, 12),
+            Size::Middle => self.draw.between(12, 60),
+            Size::Large => 1024,
+        };
+        let edge_rows = self.draw.below(2 * rows + 1);
+        self.lend(rows, edge_rows, 8);
+        if self.call(Call::Open)? != Said::Answer(Answer::Ready) {
+            self.lend(rows, edge_rows, u32::MAX);
+            self.call(Call::Open)?;
+        }
+        if !self.draw.one_in(10) {
+            self.call(Call::Command(Command::Start { vertex: 0 }))?;
+        }
+        for _ in 0..self.draw.between(10, 20 + 8 * rows.min(60)) {
+            let call = match self.draw.below(16) {
+                0 => self.any_call(),
+                1 => Call::Step(self.able_or_name()),
+                _ if self.able().is_empty() && self.draw.one_in(4) => Call::Open,
+                _ => Call::Command(self.command()),
+            };
+            self.call(call)?;
+        }
+        Ok(())
+    }
+
+    /// Anything on tables that no calls led to, also with cycles.
+    fn random_tables(&mut self) -> Outcome {
+        let state = self.random_state();
+        self.pair.set(state);
+        if self.draw.one_in(5) {
+            self.alter();
+        }
+        for _ in 0..self.draw.between(5, 30) {
+            let call = self.any_call();
+            self.call(call)?;
+        }
+        Ok(())
+    }
+
+    /// A loaded program in any order, with refused names mixed in.
+    fn schedule(&mut self) -> Outcome {
+        self.load()?;
+        let order = self.draw.pick(&[Order::Lowest, Order::Highest, Order::Any, Order::Same]);
+        let refused_one_in = self.draw.pick(&[2, 5, 20]);
+        let most = if self.size == Size::Large { 400 } else { 2000 };
+        let mut same = 0;
+        while self.pair.calls() < most {
+            if self.size == Size::Large && self.draw.one_in(40) {
+                let budget = self.draw.below(1500);
+                self.call(Call::Run(budget))?;
+            }
+            let able = self.able();
+            if able.is_empty() {
+                break;
+            }
+            let vertex = match order {
+                Order::Lowest => able[0],
+                Order::Highest => able[able.len() - 1],
+                Order::Same if able.contains(&same) => same,
+                _ => self.draw.pick(&able),
+            };
+            if self.draw.one_in(refused_one_in) {
+                let name = self.name();
+                self.call(Call::Step(name))?;
+            }
+            same = vertex;
+            self.call(Call::Step(vertex))?;
+        }
+        for _ in 0..self.draw.below(4) {
+            let call = self.any_call();
+            self.call(call)?;
+        }
+        Ok(())
+    }
+
+    /// A loaded program by runs, a step between them now and then.
+    fn runs(&mut self) -> Outcome {
+        self.load()?;
+        for _ in 0..40 {
+            let budget = match self.draw.below(6) {
+                0 => 0,
+                1 => 1,
+                2 => self.draw.pick(&[8191, 8192, 8193, u32::MAX]),
+                3 => self.draw.below(6000),
+                _ => self.draw.below(40),
+            };
+            let said = self.call(Call::Run(budget))?;
+            if matches!(said, Said::Run(run) if run.ending != Ending::Spent) && self.draw.one_in(2) {
+                break;
+            }
+            let vertex = self.able_or_name();
+            self.call(Call::Step(vertex))?;
+        }
+        Ok(())
+    }
+
+    /// Programs that loading refuses, mostly; then lent to tables that a sound program led to.
+    fn damaged(&mut self) -> Outcome {
+        let sound = self.pair.program.clone();
+        self.lend_for_program(3);
+        for _ in 0..self.draw.between(1, 6) {
+            self.pair.program = programs::damaged(&mut self.draw, self.size);
+            if self.call(Call::Load)? == Said::Answer(Answer::Ready) {
+                let budget = self.draw.below(100);
+                self.call(Call::Run(budget))?;
+            }
+        }
+        self.pair.program = sound.clone();
+        self.load()?;
+        for _ in 0..self.draw.between(1, 6) {
+            self.pair.program = sound.clone();
+            let budget = self.draw.below(20);
+            self.call(Call::Run(budget))?;
+            self.pair.program = match self.draw.below(3) {
+                0 => sound[..self.draw.index(sound.len())].to_vec(),
+                1 => programs::valid(&mut self.draw, self.size),
+                _ => programs::damaged(&mut self.draw, self.size),
+            };
+            for _ in 0..self.draw.between(1, 5) {
+                let vertex = self.able_or_name();
+                self.call(Call::Step(vertex))?;
+            }
+            if self.draw.one_in(3) {
+                let budget = self.draw.below(20);
+                self.call(Call::Run(budget))?;
+            }
+        }
+        Ok(())
+    }
+
+    /// A loaded program, and on its way words and tallies that no step wrote.
+    fn altered(&mut self) -> Outcome {
+        self.load()?;
+        for _ in 0..self.draw.between(2, 12) {
+            let most = self.draw.pick(&[5, 30, 30, 300]);
+            let budget = self.draw.below(most);
+            self.call(Call::Run(budget))?;
+            let sound = self.pair.state().clone();
+            for _ in 0..self.draw.pick(&[1, 1, 2, 4]) {
+                self.alter();
+            }
+            for _ in 0..self.draw.between(1, 8) {
+                let call = if self.draw.one_in(2) { Call::Step(self.able_or_name()) } else { self.any_call() };
+                self.call(call)?;
+            }
+            if !self.draw.one_in(3) {
+                self.pair.set(sound);
+            }
+        }
+        Ok(())
+    }
+
+    fn call(&mut self, call: Call) -> Result<Said, Difference> {
+        let said = self.pair.call(call)?;
+        if self.draw.one_in(self.beside) {
+            self.pair.call(Call::Lowest)?;
+        }
+        Ok(said)
+    }
+
+    /// Lends tables and loads the program. Where they were too short, some calls are made on them as they are, then others are lent.
+    fn load(&mut self) -> Outcome {
+        self.lend_for_program(10);
+        if self.call(Call::Load)? != Said::Answer(Answer::Ready) {
+            for _ in 0..self.draw.below(6) {
+                let call = self.any_call();
+                self.call(call)?;
+            }
+            self.lend_for_program(u32::MAX);
+            self.call(Call::Load)?;
+        }
+        Ok(())
+    }
+
+    fn lend_for_program(&mut self, short_one_in: u32) {
+        let (rows, edge_rows, _) = programs::needs(&self.pair.program);
+        self.lend(rows, edge_rows, short_one_in);
+    }
+
+    /// Tables with any content, for so many rows or, now and then, for fewer.
+    fn lend(&mut self, rows: u32, edge_rows: u32, short_one_in: u32) {
+        let draw = &mut self.draw;
+        let vertex_words = words(draw, rows as usize, VERTEX_WORDS, short_one_in);
+        let edge_words = words(draw, edge_rows as usize, EDGE_WORDS, short_one_in);
+        let mut fill = |words| if draw.one_in(2) { vec![0; words] } else { (0..words).map(|_| draw.wild()).collect::<Vec<_>>() };
+        let (vertices, edges) = (fill(vertex_words), fill(edge_words));
+        let tally = Tally { made: draw.wild(), held: draw.wild(), steps: draw.wild() };
+        self.pair.set(State { vertices, edges, tally });
+    }
+
+    /// Sound tables, with rows as they might be.
+    fn random_state(&mut self) -> State {
+        let bytes = self.pair.program.len() as u32;
+        let draw = &mut self.draw;
+        let rows = match self.size {
+            Size::Small => draw.below(13),
+            Size::Middle => draw.between(20, 100),
+            Size::Large => draw.between(1000, 1030),
+        };
+        let edge_rows = if rows > 999 { draw.between(1000, 1030) } else { draw.below(2 * rows + 1) };
+        let vertex_words = words(draw, rows as usize, VERTEX_WORDS, 10);
+        let edge_words = words(draw, edge_rows as usize, EDGE_WORDS, 10);
+        let (rows, edge_rows) = ((vertex_words / VERTEX_WORDS).min(ROWS) as u32, (edge_words / EDGE_WORDS).min(ROWS) as u32);
+        // Often nearly all rows are made and held, so that rows run out.
+        let made = if draw.one_in(2) { rows.saturating_sub(draw.below(3)) } else { draw.below(rows + 1) };
+        let held = match made {
+            0 => 0,
+            _ if draw.one_in(2) => edge_rows.saturating_sub(draw.below(3)),
+            _ => draw.below(edge_rows + 1),
+        };
+        let junk = draw.one_in(2);
+        let mut vertices: Vec<u32> = (0..vertex_words).map(|_| if junk { draw.wild() } else { 0 }).collect();
+        let mut edges: Vec<u32> = (0..edge_words).map(|_| if junk { draw.wild() } else { 0 }).collect();
+        for row in vertices.chunks_exact_mut(VERTEX_WORDS).take(made as usize) {
+            row[STATUS] = 1 + draw.weighted(&[4, 3, 5, 2]) as u32;
+            row[PLACE] = draw.below(bytes + 1);
+            row[SCOPE] = draw.below(made);
+            row[PHASE] = if draw.one_in(2) { 0 } else { draw.below(10) };
+            for word in &mut row[MADE..] {
+                *word = if draw.one_in(30) { draw.wild() } else { draw.below(made) };
+            }
+        }
+        let acyclic = draw.one_in(2);
+        for row in edges.chunks_exact_mut(EDGE_WORDS).take(held as usize) {
+            let (a, b) = (draw.below(made), draw.below(made));
+            (row[SOURCE], row[TARGET]) = if acyclic { (a.min(b), a.max(b)) } else { (a, b) };
+        }
+        let steps = if draw.one_in(8) { draw.between(8189, 8193) } else { draw.below(8192) };
+        State { vertices, edges, tally: Tally { made, held, steps } }
+    }
+
+    /// Changes a word of a table or a number of the tally.
+    fn alter(&mut self) {
+        let bytes = self.pair.program.len() as u32;
+        let draw = &mut self.draw;
+        let state = self.pair.state();
+        let tally = state.tally;
+        let (vertex_words, edge_words) = (state.vertices.len(), state.edges.len());
+        // Mostly rows in use.
+        let mut row = |used: u32, words: usize, row_words: usize| {
+            let used = if draw.one_in(6) { used.saturating_add(3) } else { used };
+            draw.index(words.min(row_words.saturating_mul(used as usize)))
+        };
+        let vertex_at = row(tally.made, vertex_words, VERTEX_WORDS);
+        let edge_at = row(tally.held, edge_words, EDGE_WORDS);
+        let near = |draw: &mut Draw, number: u32| match draw.below(4) {
+            0 => number.wrapping_add(1),
+            1 => number.wrapping_sub(1),
+            2 => draw.pick(&[0, 1, 1024, 1025, 8190, 8191, 8192, u32::MAX]),
+            _ => draw.wild(),
+        };
+        match draw.below(12) {
+            0 => self.pair.set_tally(Tally { made: near(draw, tally.made), ..tally }),
+            1 => self.pair.set_tally(Tally { held: near(draw, tally.held), ..tally }),
+            2 => self.pair.set_tally(Tally { steps: near(draw, tally.steps), ..tally }),
+            3 | 4 if edge_words > 0 => {
+                let word = if draw.one_in(4) { draw.wild() } else { draw.below(tally.made.saturating_add(1)) };
+                self.pair.set_edge_word(edge_at, word);
+            }
+            _ if vertex_words > 0 => {
+                let word = match vertex_at % VERTEX_WORDS {
+                    _ if draw.one_in(8) => draw.wild(),
+                    STATUS => draw.below(6),
+                    PLACE => draw.below(bytes + 2),
+                    PHASE => draw.below(10),
+                    _ => draw.below(tally.made.saturating_add(1)),
+                };
+                self.pair.set_vertex_word(vertex_at, word);
+            }
+            _ => {}
+        }
+    }
+
+    fn any_call(&mut self) -> Call {
+        match self.draw.weighted(&[16, 16, 3, 3, 1, 1]) {
+            0 => Call::Step(self.able_or_name()),
+            1 => Call::Command(self.command()),
+            2 => Call::Run(self.draw.pick(&[0, 1, 2, 3, 5, 20, 8192])),
+            3 => Call::Lowest,
+            4 => Call::Load,
+            _ => Call::Open,
+        }
+    }
+
+    /// A command that is not far from being accepted, mostly.
+    fn command(&mut self) -> Command {
+        let executing = self.having(|status| status == VERTEX_EXECUTING);
+        if executing.is_empty() && !self.draw.one_in(8) {
+            return Command::Start { vertex: self.able_or_name() };
+        }
+        let caller = if executing.is_empty() || self.draw.one_in(20) { self.name() } else { self.draw.pick(&executing) };
+        match self.draw.weighted(&[6, 12, 4, 3, 4, 1]) {
+            0 => {
+                let bytes = self.pair.program.len() as u32;
+                let place = if self.draw.one_in(8) { self.draw.wild() } else { self.draw.below(bytes + 1) };
+                Command::NewTd { caller, place, scope: self.name() }
+            }
+            1 => Command::NewEdge { caller, source: self.name(), target: self.name() },
+            2 => Command::Release { caller, vertex: self.name() },
+            3 => Command::Transfer { caller, vertex: self.name() },
+            4 => Command::Start { vertex: self.able_or_name() },
+            _ => Command::Stop { caller },
+        }
+    }
+
+    /// A vertex, mostly one that was made.
+    fn name(&mut self) -> u32 {
+        let made = self.pair.state().tally.made;
+        match self.draw.below(40) {
+            0 => self.draw.wild(),
+            1 => made,
+            _ => self.draw.below(made),
+        }
+    }
+
+    fn able_or_name(&mut self) -> u32 {
+        let able = self.able();
+        if able.is_empty() || self.draw.one_in(6) {
+            self.name()
+        } else {
+            self.draw.pick(&able)
+        }
+    }
+
+    /// The vertices that execute, or are released with no edge into them.
+    fn able(&self) -> Vec<u32> {
+        let State { edges, tally, .. } = self.pair.state();
+        let mut waiting = vec![false; ROWS];
+        for row in edges.chunks_exact(EDGE_WORDS).take(tally.held as usize) {
+            if let Some(waits) = waiting.get_mut(row[TARGET] as usize) {
+                *waits = true;
+            }
+        }
+        let mut able = self.having(|status| status == VERTEX_EXECUTING || status == VERTEX_RELEASED);
+        able.retain(|&vertex| self.status(vertex) == VERTEX_EXECUTING || !waiting[vertex as usize]);
+        able
+    }
+
+    fn having(&self, status: impl Fn(u32) -> bool) -> Vec<u32> {
+        let made = (self.pair.state().tally.made as usize).min(ROWS).min(self.pair.state().vertices.len() / VERTEX_WORDS);
+        (0..made as u32).filter(|&vertex| status(self.status(vertex))).collect()
+    }
+
+    fn status(&self, vertex: u32) -> u32 {
+        self.pair.state().vertices[VERTEX_WORDS * vertex as usize + STATUS]
+    }
+}
+
+/// How many words to lend where so many rows are wanted.
+fn words(draw: &mut Draw, rows: usize, row_words: usize, short_one_in: u32) -> usize {
+    let spare = draw.index(row_words);
+    if draw.one_in(short_one_in) {
+        return match draw.below(4) {
+            0 => 0,
+            1 => spare,
+            2 => (rows * row_words).saturating_sub(1),
+            _ => draw.index(rows * row_words + 1),
+        };
+    }
+    match draw.weighted(&[8, 4, 1, 1]) {
+        0 => rows * row_words,
+        1 => (rows + draw.index(4)) * row_words + spare,
+        2 => ROWS.max(rows) * row_words,
+        _ => (ROWS.max(rows) + draw.index(6)) * row_words + spare,
+    }
+}

@@ -1,0 +1,39 @@
+//! A short comparison that yet sees every word, every refusal and programs at the limits.
+
+use compare::counts::{REFUSALS, WORDS};
+
+#[test]
+fn no_difference() {
+    let (counts, _) = match compare::compare(250_000, 1) {
+        Ok(done) => done,
+        Err(failure) => panic!("seed {}: {}", failure.seed, failure.difference.0),
+    };
+    println!("{counts}");
+    for word in WORDS {
+        assert!(counts.said(word) > 0, "{word} was never said");
+    }
+    for number in REFUSALS {
+        assert!(counts.refusals(number) > 0, "refusal {number} was never seen");
+    }
+    assert_eq!(counts.largest(), [4096, 1024, 32]);
+}
+
+/// The generator's valid programs do load, its damaged ones mostly don't, and the mixed one is what the benchmark says of it.
+#[test]
+fn generated_programs() {
+    use compare::{draw::Draw, programs};
+    let mut draw = Draw::new(5);
+    let mut refused = 0;
+    for round in 0..3000 {
+        let size = if round % 10 == 0 { programs::Size::Large } else { programs::Size::Small };
+        let program = programs::valid(&mut draw, size);
+        let machine = keshtiwol::Machine::load(&program);
+        assert!(machine.is_ok(), "{machine:?}: {program:02X?}");
+        refused += u32::from(keshtiwol::Machine::load(&programs::damaged(&mut draw, size)).is_err());
+    }
+    assert!(refused > 2000, "only {refused} of 3000 damaged programs were refused");
+    let mixed = programs::mixed();
+    let mut machine = keshtiwol::Machine::load(&mixed).unwrap();
+    assert_eq!(machine.run(keshtiwol::STEP_LIMIT).ending, keshtiwol::Ending::Done);
+    assert_eq!((mixed.len(), machine.tally().made, programs::needs(&mixed).2), (4000, 1000, 32));
+}

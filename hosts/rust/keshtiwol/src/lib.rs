@@ -1,0 +1,328 @@
+//! Safe calls into the task-graph engine: which job of a program may start now.
+//!
+//! A program is bytes: numbered jobs with async, finish and fork. [`Machine`] owns all that the engine needs:
+//!
+//! ```
+//! use keshtiwol::{Answer, Lowest, Machine};
+//!
+//! // fork { job 1 } { job 2 }, then job 3
+//! let mut machine = Machine::load(&[4, 1, 1, 0, 1, 2, 0, 1, 3, 0])?;
+//! let mut jobs = Vec::new();
+//! while let Lowest::Vertex(vertex) = machine.lowest() {
+//!     if let Answer::Job { number, .. } = machine.step(vertex) {
+//!         jobs.push(number); // run it here
+//!     }
+//! }
+//! assert_eq!(jobs, [1, 2, 3]);
+//! assert_eq!(machine.tally().steps, 22);
+//! # Ok::<(), keshtiwol::Refusal>(())
+//! ```
+//!
+//! Hosts that lend their own tables use the functions: [`load`], [`step`], [`run`] and [`lowest`] for programs, [`open`] and [`command`]
+//! for the bare machine. Whatever slices they are handed, a call ends in an accepted step or in a numbered refusal that changed nothing.
+//! The engine keeps nothing between calls, and different tables may be used from different threads at once.
+//!
+//! The engine itself is the archive `libkit.a`, linked from the folder in `KESHTIWOL_LIB` (an absolute path) or else from the
+//! repository's `target/staticlib`.
+
+mod machine;
+mod raw;
+
+pub mod refusal;
+
+pub use machine::Machine;
+pub use refusal::Refusal;
+
+use std::fmt;
+
+/// Words in a vertex row.
+pub const VERTEX_WORDS: usize = 7;
+/// Where in a vertex row its status stands: 1 new, 2 released, 3 executing, 4 finished.
+pub const STATUS: usize = 0;
+/// Where its place stands, a byte offset in the program.
+pub const PLACE: usize = 1;
+/// Where its scope stands, a vertex.
+pub const SCOPE: usize = 2;
+/// Where its phase stands: the commands already done of the item at its place.
+pub const PHASE: usize = 3;
+/// Where the three vertices that this item made begin, 0 where none.
+pub const MADE: usize = 4;
+
+/// Words in an edge row.
+pub const EDGE_WORDS: usize = 2;
+/// Where in an edge row its source stands.
+pub const SOURCE: usize = 0;
+/// Where its target stands.
+pub const TARGET: usize = 1;
+
+/// The statuses of a vertex.
+pub const VERTEX_NEW: u32 = 1;
+pub const VERTEX_RELEASED: u32 = 2;
+pub const VERTEX_EXECUTING: u32 = 3;
+pub const VERTEX_FINISHED: u32 = 4;
+
+/// The longest program.
+pub const PROGRAM_BYTES: usize = 4096;
+/// The rows of each table that the engine uses at most.
+pub const ROWS: usize = 1024;
+/// Words of a vertex table that is enough for every program.
+pub const VERTEX_TABLE: usize = VERTEX_WORDS * ROWS;
+/// Words of an edge table that is enough for every program.
+pub const EDGE_TABLE: usize = EDGE_WORDS * ROWS;
+/// Steps are refused, with 12, where so many were taken. No program needs as many.
+pub const STEP_LIMIT: u32 = 8192;
+
+/// Vertices made, edges held, steps taken. Loading and opening set it.
+#[repr(C)]
+#[derive(Clone, Copy, Debug, Default, PartialEq, Eq)]
+pub struct Tally {
+    pub made: u32,
+    pub held: u32,
+    pub steps: u32,
+}
+
+/// What a load, an opening, a step or a command says.
+#[derive(Clone, Copy, Debug, PartialEq, Eq)]
+pub enum Answer {
+    /// The program is loaded, or the bare machine open.
+    Ready,
+    /// The vertex executes now.
+    Start,
+    /// The vertex made.
+    New(u32),
+    /// Source and target.
+    Edge(u32, u32),
+    /// The vertex released.
+    Release(u32),
+    /// The vertex that has the edges now.
+    Transfer(u32),
+    /// The host runs this job now, and does not step its vertex again before the job has ended. The offset tells jobs apart.
+    Job { number: u32, offset: u32 },
+    /// The vertex is finished.
+    Stop,
+    /// Nothing changed. For the numbers see [`refusal`]; the place is an offset in the program, or 0.
+    Refused { number: u32, place: u32 },
+}
+
+/// How a run ended.
+#[derive(Clone, Copy, Debug, PartialEq, Eq)]
+pub enum Ending {
+    /// All vertices made are finished.
+    Done,
+    /// No step would be accepted.
+    Stuck,
+    /// The budget is used.
+    Spent,
+    Refused {
+        number: u32,
+        place: u32,
+    },
+}
+
+/// A run's ending, its last accepted step, and how many steps it took.
+#[derive(Clone, Copy, Debug, PartialEq, Eq)]
+pub struct Run {
+    pub ending: Ending,
+    pub last: Option<Answer>,
+    pub taken: u32,
+}
+
+/// The lowest vertex that can step.
+#[derive(Clone, Copy, Debug, PartialEq, Eq)]
+pub enum Lowest {
+    Vertex(u32),
+    NoVertex,
+    Refused { number: u32, place: u32 },
+}
+
+/// A single command of the dag-calculus. The caller must be executing.
+#[derive(Clone, Copy, Debug, PartialEq, Eq)]
+pub enum Command {
+    /// Makes the next vertex.
+    NewTd {
+        caller: u32,
+        place: u32,
+        scope: u32,
+    },
+    NewEdge {
+        caller: u32,
+        source: u32,
+        target: u32,
+    },
+    Release {
+        caller: u32,
+        vertex: u32,
+    },
+    /// Hands the caller's edges out to the vertex.
+    Transfer {
+        caller: u32,
+        vertex: u32,
+    },
+    /// Starts a released vertex; it has no caller.
+    Start {
+        vertex: u32,
+    },
+    Stop {
+        caller: u32,
+    },
+}
+
+/// Loads a program: clears the usable rows and the tally, and sets the first two vertices and the edge between them.
+pub fn load(program: &[u8], vertices: &mut [u32], edges: &mut [u32], tally: &mut Tally) -> Answer {
+    let (mut no_vertex, mut no_edge) = ([0], [0]);
+    let (vertices, edges) = (lend(vertices, &mut no_vertex), lend(edges, &mut no_edge));
+    // SAFETY: true lengths of memory that is borrowed for the whole call; `lend` tells why nothing is null or overlaps.
+    answer(unsafe { raw::keshtiwol_load(start(program), program.len(), vertices.0, vertices.1, edges.0, edges.1, tally) })
+}
+
+/// One step of a vertex: starts a released one; an executing one does the next command of the item at its place.
+pub fn step(program: &[u8], vertices: &mut [u32], edges: &mut [u32], tally: &mut Tally, vertex: u32) -> Answer {
+    let (mut no_vertex, mut no_edge) = ([0], [0]);
+    let (vertices, edges) = (lend(vertices, &mut no_vertex), lend(edges, &mut no_edge));
+    // SAFETY: as in `load`.
+    answer(unsafe { raw::keshtiwol_step(start(program), program.len(), vertices.0, vertices.1, edges.0, edges.1, tally, vertex) })
+}
+
+/// Steps the lowest vertex that can step until all are finished, none can step or the budget is used. Jobs count as run where they
+/// are named.
+pub fn run(program: &[u8], vertices: &mut [u32], edges: &mut [u32], tally: &mut Tally, budget: u32) -> Run {
+    let (mut no_vertex, mut no_edge) = ([0], [0]);
+    let (vertices, edges) = (lend(vertices, &mut no_vertex), lend(edges, &mut no_edge));
+    // SAFETY: as in `load`.
+    let reply = unsafe { raw::keshtiwol_run(start(program), program.len(), vertices.0, vertices.1, edges.0, edges.1, tally, budget) };
+    Run {
+        ending: match reply.ending.said {
+            raw::DONE => Ending::Done,
+            raw::STUCK => Ending::Stuck,
+            raw::SPENT => Ending::Spent,
+            raw::REFUSED => Ending::Refused { number: reply.ending.first, place: reply.ending.second },
+            _ => unknown("a run's ending", reply.ending),
+        },
+        last: match reply.last.said {
+            raw::NONE => None,
+            _ => Some(answer(reply.last)),
+        },
+        taken: reply.taken,
+    }
+}
+
+/// The lowest vertex that can step. It changes nothing, yet borrows the tables alone, since the engine wants one call at a time.
+pub fn lowest(program: &[u8], vertices: &mut [u32], edges: &mut [u32], tally: &mut Tally) -> Lowest {
+    let (mut no_vertex, mut no_edge) = ([0], [0]);
+    let (vertices, edges) = (lend(vertices, &mut no_vertex), lend(edges, &mut no_edge));
+    // SAFETY: as in `load`.
+    let reply = unsafe { raw::keshtiwol_lowest(start(program), program.len(), vertices.0, vertices.1, edges.0, edges.1, tally) };
+    match reply.said {
+        raw::VERTEX => Lowest::Vertex(reply.first),
+        raw::NONE => Lowest::NoVertex,
+        raw::REFUSED => Lowest::Refused { number: reply.first, place: reply.second },
+        _ => unknown("a search for the lowest vertex", reply),
+    }
+}
+
+/// Opens the bare machine: clears the usable rows and the tally, and makes vertex 0, released.
+pub fn open(vertices: &mut [u32], edges: &mut [u32], tally: &mut Tally) -> Answer {
+    let (mut no_vertex, mut no_edge) = ([0], [0]);
+    let (vertices, edges) = (lend(vertices, &mut no_vertex), lend(edges, &mut no_edge));
+    // SAFETY: as in `load`.
+    answer(unsafe { raw::keshtiwol_open(vertices.0, vertices.1, edges.0, edges.1, tally) })
+}
+
+/// A single command. It leaves the tally's steps alone.
+pub fn command(vertices: &mut [u32], edges: &mut [u32], tally: &mut Tally, command: Command) -> Answer {
+    let (number, caller, first, second) = match command {
+        Command::NewTd { caller, place, scope } => (raw::DO_NEW, caller, place, scope),
+        Command::NewEdge { caller, source, target } => (raw::DO_EDGE, caller, source, target),
+        Command::Release { caller, vertex } => (raw::DO_RELEASE, caller, vertex, 0),
+        Command::Transfer { caller, vertex } => (raw::DO_TRANSFER, caller, vertex, 0),
+        Command::Start { vertex } => (raw::DO_START, vertex, 0, 0),
+        Command::Stop { caller } => (raw::DO_STOP, caller, 0, 0),
+    };
+    answer(numbered(vertices, edges, tally, number, caller, first, second))
+}
+
+fn numbered(vertices: &mut [u32], edges: &mut [u32], tally: &mut Tally, number: u32, caller: u32, first: u32, second: u32) -> raw::Reply {
+    let (mut no_vertex, mut no_edge) = ([0], [0]);
+    let (vertices, edges) = (lend(vertices, &mut no_vertex), lend(edges, &mut no_edge));
+    // SAFETY: as in `load`.
+    unsafe { raw::keshtiwol_command(vertices.0, vertices.1, edges.0, edges.1, tally, number, caller, first, second) }
+}
+
+/// A table as the interface wants it. Slices are never null and exclusive ones never overlap, but two empty ones may have the same
+/// address, so for those a word of their own stands in.
+fn lend(table: &mut [u32], spare: &mut [u32; 1]) -> (*mut u32, usize) {
+    match table.len() {
+        0 => (spare.as_mut_ptr(), 0),
+        words => (table.as_mut_ptr(), words),
+    }
+}
+
+/// The same for a program, which is only read.
+fn start(program: &[u8]) -> *const u8 {
+    match program.len() {
+        0 => &0,
+        _ => program.as_ptr(),
+    }
+}
+
+fn answer(reply: raw::Reply) -> Answer {
+    let raw::Reply { said, first, second } = reply;
+    match said {
+        raw::REFUSED => Answer::Refused { number: first, place: second },
+        raw::READY => Answer::Ready,
+        raw::START => Answer::Start,
+        raw::NEW => Answer::New(first),
+        raw::EDGE => Answer::Edge(first, second),
+        raw::RELEASE => Answer::Release(first),
+        raw::TRANSFER => Answer::Transfer(first),
+        raw::JOB => Answer::Job { number: first, offset: second },
+        raw::STOP => Answer::Stop,
+        _ => unknown("a step", reply),
+    }
+}
+
+#[cold]
+fn unknown(what: &str, reply: raw::Reply) -> ! {
+    panic!("libkit.a answered {what} with {reply:?}, which keshtiwol.h does not name: are archive and crate from the same version?")
+}
+
+/// As the lister prints it: the word, then its vertices or job number.
+impl fmt::Display for Answer {
+    fn fmt(&self, f: &mut fmt::Formatter) -> fmt::Result {
+        match *self {
+            Answer::Ready => write!(f, "ready"),
+            Answer::Start => write!(f, "start"),
+            Answer::New(vertex) => write!(f, "new {vertex}"),
+            Answer::Edge(source, target) => write!(f, "edge {source} {target}"),
+            Answer::Release(vertex) => write!(f, "release {vertex}"),
+            Answer::Transfer(vertex) => write!(f, "transfer {vertex}"),
+            Answer::Job { number, .. } => write!(f, "job {number}"),
+            Answer::Stop => write!(f, "stop"),
+            Answer::Refused { number, place } => write!(f, "refused {number} {place}"),
+        }
+    }
+}
+
+#[cfg(test)]
+mod tests {
+    use super::*;
+
+    /// No [`Command`] has another number, so this is asked below the safe functions.
+    #[test]
+    fn a_command_number_that_no_command_has() {
+        let (mut vertices, mut edges, mut tally) = ([0; 14], [0; 4], Tally::default());
+        assert_eq!(open(&mut vertices, &mut edges, &mut tally), Answer::Ready);
+        for number in [0, 7, 99, u32::MAX] {
+            let before = (vertices, edges, tally);
+            let reply = answer(numbered(&mut vertices, &mut edges, &mut tally, number, 0, 0, 0));
+            assert_eq!(reply, Answer::Refused { number: refusal::NO_SUCH_COMMAND, place: 0 });
+            assert_eq!((vertices, edges, tally), before);
+        }
+    }
+
+    #[test]
+    #[should_panic(expected = "libkit.a answered a step with")]
+    fn an_answer_that_the_header_does_not_name() {
+        answer(raw::Reply { said: 14, first: 0, second: 0 });
+    }
+}

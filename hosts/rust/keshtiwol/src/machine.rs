@@ -1,0 +1,56 @@
+use crate::{Answer, Lowest, Refusal, Run, Tally, EDGE_TABLE, VERTEX_TABLE};
+
+/// A loaded program with tables of its own, large enough for every program.
+#[derive(Clone, Debug)]
+pub struct Machine {
+    program: Vec<u8>,
+    vertices: Vec<u32>,
+    edges: Vec<u32>,
+    tally: Tally,
+}
+
+impl Machine {
+    /// Loads a program, or tells what is wrong with it.
+    pub fn load(program: &[u8]) -> Result<Machine, Refusal> {
+        let mut machine =
+            Machine { program: program.to_vec(), vertices: vec![0; VERTEX_TABLE], edges: vec![0; EDGE_TABLE], tally: Tally::default() };
+        match crate::load(program, &mut machine.vertices, &mut machine.edges, &mut machine.tally) {
+            Answer::Refused { number, place } => Err(Refusal { number, place }),
+            _ => Ok(machine),
+        }
+    }
+
+    /// One step of a vertex. After [`Answer::Job`] run that job, and step this vertex again when it has ended.
+    pub fn step(&mut self, vertex: u32) -> Answer {
+        crate::step(&self.program, &mut self.vertices, &mut self.edges, &mut self.tally, vertex)
+    }
+
+    /// Steps lowest vertices first, at most `budget` times.
+    pub fn run(&mut self, budget: u32) -> Run {
+        crate::run(&self.program, &mut self.vertices, &mut self.edges, &mut self.tally, budget)
+    }
+
+    /// The lowest vertex that can step.
+    pub fn lowest(&mut self) -> Lowest {
+        crate::lowest(&self.program, &mut self.vertices, &mut self.edges, &mut self.tally)
+    }
+
+    /// Vertices made, edges held and steps taken so far.
+    pub fn tally(&self) -> Tally {
+        self.tally
+    }
+
+    pub fn program(&self) -> &[u8] {
+        &self.program
+    }
+
+    /// The rows of the vertices made, [`crate::VERTEX_WORDS`] words each.
+    pub fn vertices(&self) -> &[u32] {
+        &self.vertices[..crate::VERTEX_WORDS * self.tally.made as usize]
+    }
+
+    /// The rows of the edges held, [`crate::EDGE_WORDS`] words each.
+    pub fn edges(&self) -> &[u32] {
+        &self.edges[..crate::EDGE_WORDS * self.tally.held as usize]
+    }
+}

@@ -1,0 +1,138 @@
+//! The C interface as `include/keshtiwol.h` declares it. A test compares the constants; nothing checks the structs and functions, so
+//! read them side by side.
+
+use crate::Tally;
+
+#[repr(C)]
+#[derive(Clone, Copy, Debug)]
+pub struct Reply {
+    pub said: u32,
+    pub first: u32,
+    pub second: u32,
+}
+
+#[repr(C)]
+#[derive(Clone, Copy, Debug)]
+pub struct RunReply {
+    pub ending: Reply,
+    pub last: Reply,
+    pub taken: u32,
+}
+
+// What is said.
+pub const REFUSED: u32 = 0;
+pub const READY: u32 = 1;
+pub const START: u32 = 2;
+pub const NEW: u32 = 3;
+pub const EDGE: u32 = 4;
+pub const RELEASE: u32 = 5;
+pub const TRANSFER: u32 = 6;
+pub const JOB: u32 = 7;
+pub const STOP: u32 = 8;
+pub const NONE: u32 = 9;
+pub const VERTEX: u32 = 10;
+pub const DONE: u32 = 11;
+pub const STUCK: u32 = 12;
+pub const SPENT: u32 = 13;
+
+// The commands.
+pub const DO_NEW: u32 = 1;
+pub const DO_EDGE: u32 = 2;
+pub const DO_RELEASE: u32 = 3;
+pub const DO_TRANSFER: u32 = 4;
+pub const DO_START: u32 = 5;
+pub const DO_STOP: u32 = 6;
+
+extern "C" {
+    pub fn keshtiwol_load(
+        program: *const u8,
+        program_bytes: usize,
+        vertices: *mut u32,
+        vertex_words: usize,
+        edges: *mut u32,
+        edge_words: usize,
+        tally: *mut Tally,
+    ) -> Reply;
+
+    pub fn keshtiwol_step(
+        program: *const u8,
+        program_bytes: usize,
+        vertices: *mut u32,
+        vertex_words: usize,
+        edges: *mut u32,
+        edge_words: usize,
+        tally: *mut Tally,
+        vertex: u32,
+    ) -> Reply;
+
+    pub fn keshtiwol_run(
+        program: *const u8,
+        program_bytes: usize,
+        vertices: *mut u32,
+        vertex_words: usize,
+        edges: *mut u32,
+        edge_words: usize,
+        tally: *mut Tally,
+        budget: u32,
+    ) -> RunReply;
+
+    pub fn keshtiwol_lowest(
+        program: *const u8,
+        program_bytes: usize,
+        vertices: *mut u32,
+        vertex_words: usize,
+        edges: *mut u32,
+        edge_words: usize,
+        tally: *mut Tally,
+    ) -> Reply;
+
+    pub fn keshtiwol_open(vertices: *mut u32, vertex_words: usize, edges: *mut u32, edge_words: usize, tally: *mut Tally) -> Reply;
+
+    pub fn keshtiwol_command(
+        vertices: *mut u32,
+        vertex_words: usize,
+        edges: *mut u32,
+        edge_words: usize,
+        tally: *mut Tally,
+        command: u32,
+        caller: u32,
+        first: u32,
+        second: u32,
+    ) -> Reply;
+}
+
+#[cfg(test)]
+mod tests {
+    use super::*;
+    use crate::{refusal::*, *};
+
+    macro_rules! named {
+        ($($name:ident)*) => { vec![$((stringify!($name), $name as u32)),*] };
+    }
+
+    /// Every constant of the header stands in this crate with the same value.
+    #[test]
+    fn constants_are_the_headers() {
+        let header = include_str!("../../../../include/keshtiwol.h");
+        let constant = |line: &'static str| {
+            let (name, value) = line.trim().strip_prefix("KESHTIWOL_")?.split_once(" = ")?;
+            let digits = value.find(|c: char| !c.is_ascii_digit()).unwrap_or(value.len());
+            Some((name, value[..digits].parse::<u32>().unwrap()))
+        };
+        let in_header: Vec<_> = header.lines().filter_map(constant).collect();
+        let here = named![
+            VERTEX_WORDS STATUS PLACE SCOPE PHASE MADE
+            EDGE_WORDS SOURCE TARGET
+            VERTEX_NEW VERTEX_RELEASED VERTEX_EXECUTING VERTEX_FINISHED
+            PROGRAM_BYTES ROWS VERTEX_TABLE EDGE_TABLE STEP_LIMIT
+            REFUSED READY START NEW EDGE RELEASE TRANSFER JOB STOP NONE VERTEX DONE STUCK SPENT
+            LENGTH_OUTSIDE NUMBER_MALFORMED BYTE_UNKNOWN LEVEL_TOO_DEEP BYTES_RUN_OUT BYTES_AFTER_END JOB_TOO_LARGE TOO_MANY_VERTICES
+            TOO_FEW_VERTEX_ROWS TOO_FEW_EDGE_ROWS UNSOUND_TABLES NOTHING_STARTS
+            NO_SUCH_VERTEX EDGE_LEADS_IN IS_NEW IS_FINISHED IS_EXECUTING
+            CALLER_NOT_EXECUTING NO_VERTEX_ROW NO_EDGE_ROW TARGET_NOT_WAITING EDGE_HELD CLOSES_CYCLE RELEASE_NOT_NEW
+            TRANSFER_NOT_NEW TRANSFER_HAS_EDGE_OUT NO_SUCH_COMMAND
+            DO_NEW DO_EDGE DO_RELEASE DO_TRANSFER DO_START DO_STOP
+        ];
+        assert_eq!(here, in_header);
+    }
+}

@@ -1,0 +1,85 @@
+//! The numbers of refusals, by who causes them.
+
+use std::{error, fmt};
+
+// The program's writer.
+pub const LENGTH_OUTSIDE: u32 = 1;
+pub const NUMBER_MALFORMED: u32 = 2;
+pub const BYTE_UNKNOWN: u32 = 3;
+pub const LEVEL_TOO_DEEP: u32 = 4;
+pub const BYTES_RUN_OUT: u32 = 5;
+pub const BYTES_AFTER_END: u32 = 6;
+pub const JOB_TOO_LARGE: u32 = 7;
+pub const TOO_MANY_VERTICES: u32 = 8;
+// The lender.
+pub const TOO_FEW_VERTEX_ROWS: u32 = 10;
+pub const TOO_FEW_EDGE_ROWS: u32 = 11;
+pub const UNSOUND_TABLES: u32 = 12;
+pub const NOTHING_STARTS: u32 = 13;
+// The host, choosing.
+pub const NO_SUCH_VERTEX: u32 = 20;
+pub const EDGE_LEADS_IN: u32 = 21;
+pub const IS_NEW: u32 = 22;
+pub const IS_FINISHED: u32 = 23;
+pub const IS_EXECUTING: u32 = 39;
+// The caller of single commands.
+pub const CALLER_NOT_EXECUTING: u32 = 30;
+pub const NO_VERTEX_ROW: u32 = 31;
+pub const NO_EDGE_ROW: u32 = 32;
+pub const TARGET_NOT_WAITING: u32 = 33;
+pub const EDGE_HELD: u32 = 34;
+pub const CLOSES_CYCLE: u32 = 35;
+pub const RELEASE_NOT_NEW: u32 = 36;
+pub const TRANSFER_NOT_NEW: u32 = 37;
+pub const TRANSFER_HAS_EDGE_OUT: u32 = 38;
+pub const NO_SUCH_COMMAND: u32 = 99;
+
+/// A refusal, for hosts that want it as an error.
+#[derive(Clone, Copy, Debug, PartialEq, Eq)]
+pub struct Refusal {
+    pub number: u32,
+    /// An offset in the program for the numbers 2 to 7, else 0.
+    pub place: u32,
+}
+
+/// A few words on a refusal's number.
+pub fn text(number: u32) -> &'static str {
+    match number {
+        LENGTH_OUTSIDE => "the program has no bytes or more than 4,096",
+        NUMBER_MALFORMED => "a number is longer than three bytes or not in its shortest form",
+        BYTE_UNKNOWN => "an item's first byte is above 4",
+        LEVEL_TOO_DEEP => "a body is at level 33",
+        BYTES_RUN_OUT => "the bytes run out",
+        BYTES_AFTER_END => "bytes come after the end",
+        JOB_TOO_LARGE => "a job's number is above 65,535",
+        TOO_MANY_VERTICES => "the program makes more than 1,024 vertices",
+        TOO_FEW_VERTEX_ROWS => "too few vertex rows are lent",
+        TOO_FEW_EDGE_ROWS => "too few edge rows are lent",
+        UNSOUND_TABLES => "tally and tables don't fit together, or 8,192 steps were taken",
+        NOTHING_STARTS => "no item can be read at the vertex's place, or its phase is past the item",
+        NO_SUCH_VERTEX => "there is no such vertex",
+        EDGE_LEADS_IN => "something must finish before this vertex starts",
+        IS_NEW => "the vertex is not released yet",
+        IS_FINISHED => "the vertex is finished",
+        IS_EXECUTING => "the vertex executes already",
+        CALLER_NOT_EXECUTING => "the caller is not executing",
+        NO_VERTEX_ROW => "no vertex row is left",
+        NO_EDGE_ROW => "no edge row is left",
+        TARGET_NOT_WAITING => "the edge's target executes or is finished",
+        EDGE_HELD => "the edge is held already",
+        CLOSES_CYCLE => "this would close a cycle",
+        RELEASE_NOT_NEW => "only a new vertex is released",
+        TRANSFER_NOT_NEW => "edges are handed to a new vertex only",
+        TRANSFER_HAS_EDGE_OUT => "the vertex that would get the edges has one already",
+        NO_SUCH_COMMAND => "no command has this number",
+        _ => "unknown",
+    }
+}
+
+impl fmt::Display for Refusal {
+    fn fmt(&self, f: &mut fmt::Formatter) -> fmt::Result {
+        write!(f, "refused {} {}: {}", self.number, self.place, text(self.number))
+    }
+}
+
+impl error::Error for Refusal {}

@@ -1,0 +1,153 @@
+//! The examples of the engine's paper, through the safe functions.
+
+use keshtiwol::{Answer, Ending, Lowest, Machine, Refusal, Run, STEP_LIMIT};
+
+/// Steps the lowest vertex until none can step: each step's vertex and answer.
+fn steps(machine: &mut Machine) -> Vec<(u32, Answer)> {
+    let mut taken = Vec::new();
+    while let Lowest::Vertex(vertex) = machine.lowest() {
+        taken.push((vertex, machine.step(vertex)));
+    }
+    taken
+}
+
+fn jobs(program: &[u8]) -> Vec<u32> {
+    let mut machine = Machine::load(program).unwrap();
+    let number = |(_, answer)| match answer {
+        Answer::Job { number, .. } => Some(number),
+        _ => None,
+    };
+    steps(&mut machine).into_iter().filter_map(number).collect()
+}
+
+fn listing(program: &[u8]) -> String {
+    let mut machine = match Machine::load(program) {
+        Ok(machine) => machine,
+        Err(Refusal { number, place }) => return format!("refused {number} {place}\n"),
+    };
+    let taken = steps(&mut machine);
+    let jobs = taken.iter().filter(|(_, answer)| matches!(answer, Answer::Job { .. })).count();
+    let mut text = format!("vertices {} jobs {jobs} steps {}\n", machine.tally().made, machine.tally().steps);
+    for (vertex, answer) in taken {
+        text += &format!("{vertex} {answer}\n");
+    }
+    text
+}
+
+const LISTED: [u8; 9] = [3, 2, 1, 5, 0, 0, 1, 6, 0];
+
+#[test]
+fn step_counts() {
+    let counts: [(&[u8], u32); 6] = [
+        (&[0], 4),
+        (&[1, 0, 0], 5),
+        (&[2, 1, 1, 0, 1, 2, 0], 11),
+        (&[4, 1, 1, 0, 1, 2, 0, 1, 3, 0], 22),
+        (&[1, 0xFF, 0xFF, 3, 0], 5),
+        (&LISTED, 21),
+    ];
+    for (program, count) in counts {
+        let mut machine = Machine::load(program).unwrap();
+        let run = machine.run(STEP_LIMIT);
+        assert_eq!(run, Run { ending: Ending::Done, last: Some(Answer::Stop), taken: count }, "{program:02X?}");
+        assert_eq!(machine.tally().steps, count);
+        assert_eq!(machine.tally().held, 0);
+        assert_eq!(machine.run(0), Run { ending: Ending::Done, last: None, taken: 0 });
+    }
+}
+
+#[test]
+fn jobs_lowest_first() {
+    assert_eq!(jobs(&[1, 0, 0]), [0]);
+    assert_eq!(jobs(&[2, 1, 1, 0, 1, 2, 0]), [2, 1]);
+    assert_eq!(jobs(&[4, 1, 1, 0, 1, 2, 0, 1, 3, 0]), [1, 2, 3]);
+    assert_eq!(jobs(&[1, 0xFF, 0xFF, 3, 0]), [65_535]);
+}
+
+/// The async's job ahead of the other, which the lowest first would not give.
+#[test]
+fn jobs_in_either_order() {
+    let mut machine = Machine::load(&[2, 1, 1, 0, 1, 2, 0]).unwrap();
+    let said: Vec<_> = [0, 0, 0, 0, 2, 2, 0].into_iter().map(|vertex| machine.step(vertex)).collect();
+    assert_eq!(
+        said,
+        [
+            Answer::Start,
+            Answer::New(2),
+            Answer::Edge(2, 1),
+            Answer::Release(2),
+            Answer::Start,
+            Answer::Job { number: 1, offset: 1 },
+            Answer::Job { number: 2, offset: 4 },
+        ]
+    );
+    assert_eq!(machine.run(STEP_LIMIT), Run { ending: Ending::Done, last: Some(Answer::Stop), taken: 4 });
+}
+
+#[test]
+fn the_listing() {
+    let expected = "vertices 5 jobs 2 steps 21\n0 start\n0 new 2\n0 new 3\n0 edge 3 2\n0 transfer 2\n0 release 2\n0 release 3\n0 stop\n\
+        3 start\n3 new 4\n3 edge 4 2\n3 release 4\n3 stop\n4 start\n4 job 5\n4 stop\n2 start\n2 job 6\n2 stop\n1 start\n1 stop\n";
+    assert_eq!(listing(&LISTED), expected);
+}
+
+#[test]
+fn a_refused_listing() {
+    assert_eq!(listing(&[1, 0x80, 0, 0]), "refused 2 1\n");
+}
+
+#[test]
+fn refused_programs() {
+    let (deep, long) = ([2; 32], [0; 4097]);
+    let pairs = [[2, 0].repeat(1023), vec![0]].concat();
+    let refused: [(&[u8], u32, u32); 12] = [
+        (&[], 1, 0),
+        (&long, 1, 0),
+        (&[5], 3, 0),
+        (&[1, 0x80, 0, 0], 2, 1),
+        (&[1, 0x80, 0x80, 0x80, 0, 0], 2, 1),
+        (&[0, 0], 6, 1),
+        (&[3, 0], 5, 2),
+        (&[1, 0x80], 5, 2),
+        (&[1, 0x80, 0x80, 4, 0], 7, 1),
+        (&[0x1, 0xFF, 0xFF, 3], 5, 4),
+        (&deep, 4, 31),
+        (&pairs, 8, 0),
+    ];
+    for (program, number, place) in refused {
+        assert_eq!(Machine::load(program).unwrap_err(), Refusal { number, place }, "{program:02X?}");
+    }
+}
+
+#[test]
+fn programs_at_the_limits() {
+    let nested = [[2].repeat(31), [0].repeat(32)].concat();
+    let pairs = [[2, 0].repeat(1022), vec![0]].concat();
+    let forks = [[4, 0, 0].repeat(340), vec![2, 0, 2, 0, 0]].concat();
+    let jobs = [[1, 5].repeat(2047), vec![1, 0]].concat();
+    assert_eq!(Machine::load(&jobs).unwrap_err(), Refusal { number: 5, place: 4096 });
+    let jobs = [[1, 5].repeat(2046), vec![1, 0x80, 1, 0]].concat();
+    for (program, made, count) in [(nested, 33, 159), (pairs, 1024, 5114), (forks, 1024, 5114), (jobs, 2, 2051)] {
+        let mut machine = Machine::load(&program).unwrap();
+        assert_eq!(machine.run(u32::MAX), Run { ending: Ending::Done, last: Some(Answer::Stop), taken: count });
+        assert_eq!(machine.tally().made, made);
+        assert_eq!(machine.vertices().len(), 7 * made as usize);
+        assert!(machine.edges().is_empty());
+    }
+}
+
+#[test]
+fn budgets() {
+    let mut machine = Machine::load(&LISTED).unwrap();
+    assert_eq!(machine.run(0), Run { ending: Ending::Spent, last: None, taken: 0 });
+    assert_eq!(machine.run(4), Run { ending: Ending::Spent, last: Some(Answer::Edge(3, 2)), taken: 4 });
+    assert_eq!(machine.lowest(), Lowest::Vertex(0));
+    assert_eq!(machine.run(17), Run { ending: Ending::Done, last: Some(Answer::Stop), taken: 17 });
+    assert_eq!(machine.lowest(), Lowest::NoVertex);
+}
+
+#[test]
+fn a_refusal_reads_well() {
+    let refusal = Machine::load(&[5]).unwrap_err();
+    assert_eq!(refusal.to_string(), "refused 3 0: an item's first byte is above 4");
+}

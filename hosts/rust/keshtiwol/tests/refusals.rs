@@ -1,0 +1,237 @@
+//! Refusals of lent tables, of the host's choices and of single commands; each must change nothing. (Those of programs are among the
+//! examples; 99 is in the crate, below the safe functions.)
+
+use keshtiwol::*;
+
+/// Tables, a tally, and calls that check refusals for changes.
+#[derive(Clone, PartialEq, Debug)]
+struct Lent {
+    vertices: Vec<u32>,
+    edges: Vec<u32>,
+    tally: Tally,
+}
+
+impl Lent {
+    fn new(vertex_words: usize, edge_words: usize) -> Lent {
+        Lent { vertices: vec![77; vertex_words], edges: vec![77; edge_words], tally: Tally { made: 9, held: 9, steps: 9 } }
+    }
+
+    /// An opened machine with vertex 0 executing.
+    fn bare(vertex_rows: usize, edge_rows: usize) -> Lent {
+        let mut lent = Lent::new(7 * vertex_rows, 2 * edge_rows);
+        assert_eq!(lent.open(), Answer::Ready);
+        assert_eq!(lent.command(Command::Start { vertex: 0 }), Answer::Start);
+        lent
+    }
+
+    fn call(&mut self, call: impl FnOnce(&mut [u32], &mut [u32], &mut Tally) -> Answer) -> Answer {
+        let before = self.clone();
+        let answer = call(&mut self.vertices, &mut self.edges, &mut self.tally);
+        if let Answer::Refused { .. } = answer {
+            assert_eq!(*self, before, "{answer} changed something");
+        }
+        answer
+    }
+
+    fn open(&mut self) -> Answer {
+        self.call(open)
+    }
+
+    fn load(&mut self, program: &[u8]) -> Answer {
+        self.call(|vertices, edges, tally| load(program, vertices, edges, tally))
+    }
+
+    fn step(&mut self, program: &[u8], vertex: u32) -> Answer {
+        self.call(|vertices, edges, tally| step(program, vertices, edges, tally, vertex))
+    }
+
+    fn command(&mut self, what: Command) -> Answer {
+        self.call(|vertices, edges, tally| command(vertices, edges, tally, what))
+    }
+
+    fn new_vertex(&mut self) -> Answer {
+        self.command(Command::NewTd { caller: 0, place: 0, scope: 0 })
+    }
+
+    fn edge(&mut self, source: u32, target: u32) -> Answer {
+        self.command(Command::NewEdge { caller: 0, source, target })
+    }
+
+    fn release(&mut self, vertex: u32) -> Answer {
+        self.command(Command::Release { caller: 0, vertex })
+    }
+
+    fn transfer(&mut self, vertex: u32) -> Answer {
+        self.command(Command::Transfer { caller: 0, vertex })
+    }
+
+    fn start(&mut self, vertex: u32) -> Answer {
+        self.command(Command::Start { vertex })
+    }
+
+    fn stop(&mut self, caller: u32) -> Answer {
+        self.command(Command::Stop { caller })
+    }
+}
+
+fn refused(number: u32) -> Answer {
+    Answer::Refused { number, place: 0 }
+}
+
+#[test]
+fn the_bare_example() {
+    let mut lent = Lent::bare(3, 4);
+    assert_eq!(lent.new_vertex(), Answer::New(1));
+    assert_eq!(lent.new_vertex(), Answer::New(2));
+    assert_eq!(lent.edge(1, 2), Answer::Edge(1, 2));
+    assert_eq!(lent.edge(2, 1), refused(refusal::CLOSES_CYCLE));
+    assert_eq!(lent.edge(1, 1), refused(refusal::CLOSES_CYCLE));
+    assert_eq!(lent.edge(1, 2), refused(refusal::EDGE_HELD));
+    assert_eq!(lent.edge(0, 1), Answer::Edge(0, 1));
+    assert_eq!(lent.transfer(1), refused(refusal::TRANSFER_HAS_EDGE_OUT));
+    assert_eq!(lent.transfer(2), refused(refusal::CLOSES_CYCLE));
+    assert_eq!(lent.edges, [1, 2, 0, 1, 0, 0, 0, 0]);
+    assert_eq!(lent.tally, Tally { made: 3, held: 2, steps: 0 });
+}
+
+#[test]
+fn commands() {
+    let mut lent = Lent::bare(4, 1);
+    for vertex in 1..4 {
+        assert_eq!(lent.new_vertex(), Answer::New(vertex));
+    }
+    assert_eq!(lent.new_vertex(), refused(refusal::NO_VERTEX_ROW));
+    assert_eq!(lent.start(1), refused(refusal::IS_NEW));
+    assert_eq!(lent.release(1), Answer::Release(1));
+    assert_eq!(lent.release(1), refused(refusal::RELEASE_NOT_NEW));
+    assert_eq!(lent.transfer(1), refused(refusal::TRANSFER_NOT_NEW));
+    assert_eq!(lent.edge(2, 1), Answer::Edge(2, 1));
+    assert_eq!(lent.edge(2, 3), refused(refusal::NO_EDGE_ROW));
+    assert_eq!(lent.edge(1, 0), refused(refusal::TARGET_NOT_WAITING));
+    assert_eq!(lent.start(1), refused(refusal::EDGE_LEADS_IN));
+    assert_eq!(lent.start(0), refused(refusal::IS_EXECUTING));
+    assert_eq!(lent.stop(1), refused(refusal::CALLER_NOT_EXECUTING));
+    assert_eq!(lent.edge(4, 1), refused(refusal::NO_SUCH_VERTEX));
+    assert_eq!(lent.start(u32::MAX), refused(refusal::NO_SUCH_VERTEX));
+    assert_eq!(lent.release(2), Answer::Release(2));
+    assert_eq!(lent.start(2), Answer::Start);
+    assert_eq!(lent.stop(2), Answer::Stop);
+    assert_eq!(lent.start(2), refused(refusal::IS_FINISHED));
+    // The stop freed the row; an edge from a finished vertex is accepted and takes none.
+    assert_eq!(lent.tally, Tally { made: 4, held: 0, steps: 0 });
+    assert_eq!(lent.edge(2, 3), Answer::Edge(2, 3));
+    assert_eq!(lent.tally.held, 0);
+    assert_eq!(lent.edge(1, 3), Answer::Edge(1, 3));
+    assert_eq!(lent.edges, [1, 3]);
+}
+
+#[test]
+fn a_host_that_chooses_badly() {
+    let program = [2, 1, 1, 0, 0];
+    let mut lent = Lent::new(21, 4);
+    assert_eq!(lent.load(&program), Answer::Ready);
+    assert_eq!(lent.step(&program, 2), refused(refusal::NO_SUCH_VERTEX));
+    assert_eq!(lent.step(&program, 1), refused(refusal::EDGE_LEADS_IN));
+    assert_eq!(lent.step(&program, 0), Answer::Start);
+    assert_eq!(lent.step(&program, 0), Answer::New(2));
+    assert_eq!(lent.step(&program, 2), refused(refusal::IS_NEW));
+    assert_eq!(lent.step(&program, 0), Answer::Edge(2, 1));
+    assert_eq!(lent.step(&program, 0), Answer::Release(2));
+    assert_eq!(lent.step(&program, 0), Answer::Stop);
+    assert_eq!(lent.step(&program, 0), refused(refusal::IS_FINISHED));
+    // Another program: the bytes at vertex 2's place begin no item, or are refused as a whole.
+    assert_eq!(lent.step(&program, 2), Answer::Start);
+    assert_eq!(lent.step(&[0], 2), refused(refusal::NOTHING_STARTS));
+    assert_eq!(lent.step(&[0, 0, 0, 0, 0], 2), refused(refusal::NOTHING_STARTS));
+    assert_eq!(lent.step(&[], 2), refused(refusal::NOTHING_STARTS));
+    lent.vertices[7 * 2 + PHASE] = 1;
+    assert_eq!(lent.step(&program, 2), refused(refusal::NOTHING_STARTS));
+    lent.vertices[7 * 2 + PHASE] = 0;
+    assert_eq!(lent.step(&program, 2), Answer::Job { number: 1, offset: 1 });
+}
+
+#[test]
+fn a_lender_that_lends_too_little() {
+    let program = [2, 0, 0];
+    assert_eq!(Lent::new(20, 4).load(&program), refused(refusal::TOO_FEW_VERTEX_ROWS));
+    assert_eq!(Lent::new(21, 3).load(&program), refused(refusal::TOO_FEW_EDGE_ROWS));
+    // Full rows are used, the words after them never touched.
+    let mut lent = Lent::new(34, 5);
+    assert_eq!(lent.load(&program), Answer::Ready);
+    assert_eq!(lent.vertices[..14], [2, 0, 1, 0, 0, 0, 0, 2, 2, 1, 0, 0, 0, 0]);
+    assert_eq!(lent.vertices[14..28], [0; 14]);
+    assert_eq!(lent.vertices[28..], [77; 6]);
+    assert_eq!(lent.edges, [0, 1, 0, 0, 77]);
+    assert_eq!(lent.tally, Tally { made: 2, held: 1, steps: 0 });
+}
+
+#[test]
+fn more_rows_than_are_used() {
+    let mut lent = Lent::new(VERTEX_TABLE + 9, EDGE_TABLE + 3);
+    assert_eq!(lent.open(), Answer::Ready);
+    assert_eq!(lent.vertices[..2], [VERTEX_RELEASED, 0]);
+    assert_eq!(lent.vertices[VERTEX_TABLE - 1..], [0, 77, 77, 77, 77, 77, 77, 77, 77, 77]);
+    assert_eq!(lent.edges[EDGE_TABLE - 1..], [0, 77, 77, 77]);
+}
+
+#[test]
+fn unsound_tables() {
+    let program = [0];
+    let mut sound = Lent::new(14, 2);
+    assert_eq!(sound.load(&program), Answer::Ready);
+    let spoil: [fn(&mut Lent); 7] = [
+        |lent| lent.tally.made = 3,
+        |lent| lent.tally.held = u32::MAX,
+        |lent| lent.tally.made = u32::MAX,
+        |lent| lent.vertices[STATUS] = 0,
+        |lent| lent.vertices[7 + STATUS] = 5,
+        |lent| lent.edges[SOURCE] = 2,
+        |lent| lent.edges[TARGET] = u32::MAX,
+    ];
+    for spoil in spoil {
+        let mut lent = sound.clone();
+        spoil(&mut lent);
+        let spoilt = lent.clone();
+        assert_eq!(lent.step(&program, 0), refused(refusal::UNSOUND_TABLES));
+        assert_eq!(lent.start(0), refused(refusal::UNSOUND_TABLES));
+        let Lent { vertices, edges, tally } = &mut lent;
+        assert_eq!(lowest(&program, vertices, edges, tally), Lowest::Refused { number: 12, place: 0 });
+        let refused = Run { ending: Ending::Refused { number: 12, place: 0 }, last: None, taken: 0 };
+        assert_eq!(run(&program, vertices, edges, tally, 5), refused);
+        assert_eq!(lent, spoilt);
+    }
+    // Steps are counted by steps and runs only.
+    sound.tally.steps = STEP_LIMIT;
+    assert_eq!(sound.step(&program, 0), refused(refusal::UNSOUND_TABLES));
+    assert_eq!(sound.start(0), Answer::Start);
+    sound.tally.steps = STEP_LIMIT - 1;
+    assert_eq!(sound.step(&program, 0), Answer::Stop);
+}
+
+#[test]
+fn tables_of_no_words() {
+    let mut none = Lent::new(0, 0);
+    assert_eq!(none.open(), refused(refusal::TOO_FEW_VERTEX_ROWS));
+    assert_eq!(none.load(&[0]), refused(refusal::TOO_FEW_VERTEX_ROWS));
+    assert_eq!(none.load(&[]), refused(refusal::LENGTH_OUTSIDE));
+    assert_eq!(none.start(0), refused(refusal::UNSOUND_TABLES));
+    assert_eq!(none.step(&[], 0), refused(refusal::UNSOUND_TABLES));
+    // Nothing made and nothing held is sound: nothing can step, and all of nothing is finished.
+    none.tally = Tally::default();
+    assert_eq!(none.step(&[0], 0), refused(refusal::NO_SUCH_VERTEX));
+    assert_eq!(none.start(0), refused(refusal::NO_SUCH_VERTEX));
+    let Lent { vertices, edges, tally } = &mut none;
+    assert_eq!(lowest(&[], vertices, edges, tally), Lowest::NoVertex);
+    assert_eq!(run(&[], vertices, edges, tally, 5), Run { ending: Ending::Done, last: None, taken: 0 });
+    // One row of vertices and none of edges is a machine already.
+    let mut lent = Lent::bare(1, 0);
+    assert_eq!(lent.new_vertex(), refused(refusal::NO_VERTEX_ROW));
+    assert_eq!(lent.stop(0), Answer::Stop);
+}
+
+#[test]
+fn every_refusal_has_a_text() {
+    for number in [1, 2, 3, 4, 5, 6, 7, 8, 10, 11, 12, 13, 20, 21, 22, 23, 30, 31, 32, 33, 34, 35, 36, 37, 38, 39, 99] {
+        assert_ne!(refusal::text(number), "unknown");
+    }
+}

@@ -1,0 +1,231 @@
+//! The task-graph machine of document 01, written from the paper alone.
+//!
+//! Every function works on lent tables of 32-bit words of any length and content and never panics.
+//! A refused call changes nothing.
+#![forbid(unsafe_code)]
+
+mod graph;
+mod read;
+mod steps;
+#[cfg(test)]
+mod tests;
+
+use graph::{Tables, View, RELEASED};
+use read::read;
+use steps::{Book, Seek};
+
+/// "The tally is lent by the caller": vertices made, edges held, steps.
+#[derive(Clone, Copy, PartialEq, Eq, Debug, Default)]
+pub struct Tally {
+    pub made: u32,
+    pub held: u32,
+    pub steps: u32,
+}
+
+/// What a call answers: one of the seven things an accepted step says, `Ready` for an accepted
+/// opening or loading, or the refusal.
+#[derive(Clone, Copy, PartialEq, Eq, Debug)]
+pub enum Answer {
+    Ready,
+    Start,
+    New(u32),
+    Edge(u32, u32),
+    Release(u32),
+    Transfer(u32),
+    Job { number: u32, offset: u32 },
+    Stop,
+    Refused { number: u32, place: u32 },
+}
+
+/// "A run answers done, stuck or spent", or is refused (12 only).
+#[derive(Clone, Copy, PartialEq, Eq, Debug)]
+pub enum Ending {
+    Done,
+    Stuck,
+    Spent,
+    Refused { number: u32, place: u32 },
+}
+
+/// "with the last accepted step and the steps taken, or 'none' and 0".
+#[derive(Clone, Copy, PartialEq, Eq, Debug)]
+pub struct Run {
+    pub ending: Ending,
+    pub last: Option<Answer>,
+    pub taken: u32,
+}
+
+/// The six commands.
+#[derive(Clone, Copy, PartialEq, Eq, Debug)]
+pub enum Command {
+    NewTd {
+        caller: u32,
+        place: u32,
+        scope: u32,
+    },
+    NewEdge {
+        caller: u32,
+        source: u32,
+        target: u32,
+    },
+    Release {
+        caller: u32,
+        vertex: u32,
+    },
+    Transfer {
+        caller: u32,
+        vertex: u32,
+    },
+    Start {
+        vertex: u32,
+    },
+    Stop {
+        caller: u32,
+    },
+}
+
+/// The lowest vertex whose step would be accepted.
+#[derive(Clone, Copy, PartialEq, Eq, Debug)]
+pub enum Lowest {
+    Vertex(u32),
+    NoVertex,
+    Refused { number: u32, place: u32 },
+}
+
+/// A refusal whose place is 0: all but 2 to 7.
+fn refused(number: u32) -> Answer {
+    Answer::Refused { number, place: 0 }
+}
+
+/// "Opening the bare machine clears the used rows and tally and makes vertex 0, released, other
+/// words 0."
+pub fn open(vertices: &mut [u32], edges: &mut [u32], tally: &mut Tally) -> Answer {
+    let mut tables = Tables::new(vertices, edges, tally);
+    // "10 fewer than V vertex rows (bare machine: none)"
+    if tables.rows.is_empty() {
+        return refused(10);
+    }
+    tables.clear();
+    tables.rows[0][0] = RELEASED;
+    tables.tally.made = 1;
+    Answer::Ready
+}
+
+/// One single command, called from outside. "Single commands change its first two numbers only."
+pub fn command(
+    vertices: &mut [u32],
+    edges: &mut [u32],
+    tally: &mut Tally,
+    command: Command,
+) -> Answer {
+    let mut tables = Tables::new(vertices, edges, tally);
+    let view = tables.view();
+    if !view.sound() {
+        return refused(12);
+    }
+    match view.check(command) {
+        Ok(()) => tables.apply(command),
+        Err(number) => refused(number),
+    }
+}
+
+/// "Loading clears the used rows and the tally, then sets vertex 0 (released, place 0, scope 1),
+/// vertex 1 (released, place of the last byte, scope 1) and the edge 0 to 1."
+pub fn load(program: &[u8], vertices: &mut [u32], edges: &mut [u32], tally: &mut Tally) -> Answer {
+    // Order: "1; the first of 2 to 7 by place [...]; 8; 10; 11".
+    let counts = match read(program, |_, _| ()) {
+        Ok(counts) => counts,
+        Err((number, place)) => return Answer::Refused { number, place },
+    };
+    let mut tables = Tables::new(vertices, edges, tally);
+    if tables.rows.len() < counts.vertices() as usize {
+        return refused(10);
+    }
+    if tables.edges.len() < counts.edge_rows() as usize {
+        return refused(11);
+    }
+    tables.clear();
+    // V is at least 2 and the edge rows needed at least 1; a program that reads has a last byte.
+    tables.rows[0] = [RELEASED, 0, 1, 0, 0, 0, 0];
+    tables.rows[1] = [RELEASED, program.len() as u32 - 1, 1, 0, 0, 0, 0];
+    tables.edges[0] = [0, 1];
+    *tables.tally = Tally {
+        made: 2,
+        held: 1,
+        steps: 0,
+    };
+    Answer::Ready
+}
+
+/// "A step names a vertex. A released one is started. An executing one does the next command of
+/// the item at its place."
+pub fn step(
+    program: &[u8],
+    vertices: &mut [u32],
+    edges: &mut [u32],
+    tally: &mut Tally,
+    vertex: u32,
+) -> Answer {
+    let mut tables = Tables::new(vertices, edges, tally);
+    let view = tables.view();
+    if !view.sound_to_step() {
+        return refused(12);
+    }
+    match view.step_of(program, vertex) {
+        Ok(due) => tables.take(vertex, due),
+        Err(number) => refused(number),
+    }
+}
+
+/// "A run takes a budget of steps and steps the lowest vertex whose step would be accepted."
+pub fn run(
+    program: &[u8],
+    vertices: &mut [u32],
+    edges: &mut [u32],
+    tally: &mut Tally,
+    budget: u32,
+) -> Run {
+    let mut tables = Tables::new(vertices, edges, tally);
+    let mut run = Run {
+        ending: Ending::Refused {
+            number: 12,
+            place: 0,
+        },
+        last: None,
+        taken: 0,
+    };
+    // Accepted steps keep the tables sound, so this is asked once.
+    if !tables.view().sound_to_step() {
+        return run;
+    }
+    let book = Book::new(program);
+    // "Before each step it looks: done if all vertices made are finished; stuck if no step would
+    // be accepted; spent if the budget is used."
+    loop {
+        match tables.view().seek(&book) {
+            Seek::Done => run.ending = Ending::Done,
+            Seek::Stuck => run.ending = Ending::Stuck,
+            Seek::Found(..) if run.taken == budget => run.ending = Ending::Spent,
+            Seek::Found(vertex, due) => {
+                run.last = Some(tables.take(vertex, due));
+                run.taken += 1;
+                continue;
+            }
+        }
+        return run;
+    }
+}
+
+/// The lowest vertex whose step would be accepted; refused exactly where a run is.
+pub fn lowest(program: &[u8], vertices: &[u32], edges: &[u32], tally: &Tally) -> Lowest {
+    let view = View::new(vertices, edges, tally);
+    if !view.sound_to_step() {
+        return Lowest::Refused {
+            number: 12,
+            place: 0,
+        };
+    }
+    match view.seek(&Book::new(program)) {
+        Seek::Found(vertex, _) => Lowest::Vertex(vertex),
+        Seek::Done | Seek::Stuck => Lowest::NoVertex,
+    }
+}

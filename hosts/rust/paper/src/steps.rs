@@ -1,0 +1,261 @@
+//! "Loading and stepping": the command that is due at a vertex, and the lowest vertex that can step.
+
+use std::cell::OnceCell;
+
+use crate::graph::{
+    Marks, Row, Tables, View, EXECUTING, FINISHED, MADE, MOST_ROWS, MOST_STEPS, NEW, PHASE, PLACE,
+    RELEASED, STATUS,
+};
+use crate::read::{read, Item};
+use crate::{Answer, Command};
+
+/// A step that would be accepted: what it does, and what becomes of the stepping vertex's row.
+#[derive(Clone, Copy)]
+pub(crate) struct Due {
+    act: Act,
+    then: Then,
+}
+
+#[derive(Clone, Copy)]
+enum Act {
+    /// "job: one step that names the job"
+    Job {
+        number: u32,
+        offset: u32,
+    },
+    Do(Command),
+}
+
+#[derive(Clone, Copy)]
+enum Then {
+    /// "A start or a stop changes no place, phase or made vertex."
+    Stay,
+    /// One more command of the item is done.
+    Next,
+    /// The same after a newTd: this made word gets the new vertex.
+    Keep(usize),
+    /// "An item's last command sets phase and made vertices to 0", and the place moves.
+    Move(u32),
+}
+
+/// The items of a program by place, read at most once, when first asked for.
+pub(crate) struct Book<'p> {
+    program: &'p [u8],
+    items: OnceCell<Vec<Option<Item>>>,
+}
+
+impl<'p> Book<'p> {
+    pub fn new(program: &'p [u8]) -> Book<'p> {
+        Book {
+            program,
+            items: OnceCell::new(),
+        }
+    }
+
+    /// What starts at a place; nothing anywhere in a program that loading refuses by 1 to 8.
+    fn item(&self, place: u32) -> Option<Item> {
+        let items = self.items.get_or_init(|| {
+            // A program longer than 4,096 bytes is refused before anything is found in it.
+            let mut items = vec![None; self.program.len().min(4096)];
+            match read(self.program, |place, item| items[place] = Some(item)) {
+                Ok(_) => items,
+                Err(_) => Vec::new(),
+            }
+        });
+        items.get(place as usize).copied().flatten()
+    }
+}
+
+/// What a run finds when it looks before a step.
+pub(crate) enum Seek {
+    Done,
+    Stuck,
+    Found(u32, Due),
+}
+
+/// The next command of the item at an executing vertex's place, or nothing where the phase is "not
+/// below that item's commands". `end` is the program's last byte.
+fn next_command(caller: u32, row: &Row, item: Item, end: u32) -> Option<Due> {
+    let [_, place, scope, phase, first, second, third] = *row;
+    let new = |word, place: u32, scope| {
+        (
+            Act::Do(Command::NewTd {
+                caller,
+                place,
+                scope,
+            }),
+            Then::Keep(word),
+        )
+    };
+    let edge = |source, target| {
+        (
+            Act::Do(Command::NewEdge {
+                caller,
+                source,
+                target,
+            }),
+            Then::Next,
+        )
+    };
+    let transfer = |vertex| (Act::Do(Command::Transfer { caller, vertex }), Then::Next);
+    let release = |vertex| Act::Do(Command::Release { caller, vertex });
+    // An item starts at `place`, so it lies in the program and its first body one byte further.
+    let body = place.saturating_add(1);
+    let (act, then) = match (item, phase) {
+        (Item::Job { number, past }, 0) => (
+            Act::Job {
+                number: number.into(),
+                offset: place,
+            },
+            Then::Move(past.into()),
+        ),
+        // "async: newTd t' (its body, own scope); newEdge t' to own scope; release t'; then past
+        // the item."
+        (Item::Async { .. }, 0) => new(0, body, scope),
+        (Item::Async { .. }, 1) => edge(first, scope),
+        (Item::Async { past }, 2) => (release(first), Then::Move(past.into())),
+        // "finish: newTd t2 (past the item, own scope); newTd t1 (its body, scope t2); newEdge t1
+        // to t2; transfer to t2; release t2; release t1; then the last byte."
+        (Item::Finish { past }, 0) => new(0, past.into(), scope),
+        (Item::Finish { .. }, 1) => new(1, body, first),
+        (Item::Finish { .. }, 2) => edge(second, first),
+        (Item::Finish { .. }, 3) => transfer(first),
+        (Item::Finish { .. }, 4) => (release(first), Then::Next),
+        (Item::Finish { .. }, 5) => (release(second), Then::Move(end)),
+        // "fork: newTd t1 (left), t2 (right), t (past the item), all with own scope; newEdge t1 to
+        // t; newEdge t2 to t; transfer to t; release t, t1, t2; then the last byte."
+        (Item::Fork { .. }, 0) => new(0, body, scope),
+        (Item::Fork { right, .. }, 1) => new(1, right.into(), scope),
+        (Item::Fork { past, .. }, 2) => new(2, past.into(), scope),
+        (Item::Fork { .. }, 3) => edge(first, third),
+        (Item::Fork { .. }, 4) => edge(second, third),
+        (Item::Fork { .. }, 5) => transfer(third),
+        (Item::Fork { .. }, 6) => (release(third), Then::Next),
+        (Item::Fork { .. }, 7) => (release(first), Then::Next),
+        (Item::Fork { .. }, 8) => (release(second), Then::Move(end)),
+        // "end byte: stop."
+        (Item::End, 0) => (Act::Do(Command::Stop { caller }), Then::Stay),
+        _ => return None,
+    };
+    Some(Due { act, then })
+}
+
+impl View<'_> {
+    /// The step of an executing vertex with the item found at its place: "13 and the command's
+    /// own, 20 for the other vertices it names included".
+    fn executing_step(
+        &self,
+        vertex: u32,
+        row: &Row,
+        item: Option<Item>,
+        program: &[u8],
+    ) -> Result<Due, u32> {
+        let item = item.ok_or(13u32)?;
+        // The program reads, so it has 1 to 4,096 bytes.
+        let end = program.len() as u32 - 1;
+        let due = next_command(vertex, row, item, end).ok_or(13u32)?;
+        if let Act::Do(command) = due.act {
+            self.check(command)?;
+        }
+        Ok(due)
+    }
+
+    /// The step that names a vertex, or its refusal, on tables that 12 does not refuse: "Step: 12,
+    /// 20, 22, 23, then 21, or 13 and the command's own".
+    pub fn step_of(&self, program: &[u8], vertex: u32) -> Result<Due, u32> {
+        let row = self.made().get(vertex as usize).ok_or(20u32)?;
+        match row[STATUS] {
+            NEW => Err(22),
+            FINISHED => Err(23),
+            RELEASED => {
+                self.no_edge_into(vertex)?;
+                Ok(start(vertex))
+            }
+            _ => {
+                // 13 speaks of the whole program, so all of it is read.
+                let mut item = None;
+                let place = row[PLACE] as usize;
+                read(program, |at, found| {
+                    if at == place {
+                        item = Some(found)
+                    }
+                })
+                .map_err(|_| 13u32)?;
+                self.executing_step(vertex, row, item, program)
+            }
+        }
+    }
+
+    /// What a run finds: done, stuck, or the lowest vertex whose step would be accepted. The rows
+    /// are looked at once, the edges once for all released vertices.
+    pub fn seek(&self, book: &Book) -> Seek {
+        let rows = self.made();
+        // At 8,192 steps none more is accepted (12).
+        if self.tally.steps < MOST_STEPS {
+            let mut blocked = None;
+            for (number, row) in rows.iter().enumerate() {
+                let vertex = number as u32;
+                match row[STATUS] {
+                    RELEASED if !blocked.get_or_insert_with(|| self.blocked())[number] => {
+                        return Seek::Found(vertex, start(vertex));
+                    }
+                    EXECUTING => {
+                        let item = book.item(row[PLACE]);
+                        if let Ok(due) = self.executing_step(vertex, row, item, book.program) {
+                            return Seek::Found(vertex, due);
+                        }
+                    }
+                    _ => {}
+                }
+            }
+        }
+        // "done if all vertices made are finished; stuck if no step would be accepted"
+        if rows.iter().all(|row| row[STATUS] == FINISHED) {
+            Seek::Done
+        } else {
+            Seek::Stuck
+        }
+    }
+
+    /// The vertices with an edge into them, whatever the source's status.
+    fn blocked(&self) -> Marks {
+        let mut blocked = [false; MOST_ROWS];
+        for edge in self.held() {
+            blocked[edge[1] as usize] = true;
+        }
+        blocked
+    }
+}
+
+/// "A released one is started."
+fn start(vertex: u32) -> Due {
+    Due {
+        act: Act::Do(Command::Start { vertex }),
+        then: Then::Stay,
+    }
+}
+
+impl Tables<'_> {
+    /// Takes an accepted step of a vertex; the tally is "kept true by each accepted step".
+    pub fn take(&mut self, vertex: u32, due: Due) -> Answer {
+        let answer = match due.act {
+            Act::Job { number, offset } => Answer::Job { number, offset },
+            Act::Do(command) => self.apply(command),
+        };
+        let row = &mut self.rows[vertex as usize];
+        match due.then {
+            Then::Stay => {}
+            Then::Next => row[PHASE] += 1,
+            Then::Keep(word) => {
+                row[PHASE] += 1;
+                row[MADE + word] = self.tally.made - 1;
+            }
+            Then::Move(place) => {
+                row[PLACE] = place;
+                row[PHASE..].fill(0);
+            }
+        }
+        self.tally.steps += 1;
+        answer
+    }
+}

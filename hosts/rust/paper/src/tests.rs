@@ -1,0 +1,1096 @@
+use crate::read::{read, Counts, Item};
+use crate::*;
+
+// --- Helpers -----------------------------------------------------------------------------------
+
+/// A small generator of numbers (xorshift), so that failures repeat.
+struct Dice(u64);
+
+impl Dice {
+    fn roll(&mut self) -> u64 {
+        self.0 ^= self.0 << 13;
+        self.0 ^= self.0 >> 7;
+        self.0 ^= self.0 << 17;
+        self.0.wrapping_mul(0x2545_F491_4F6C_DD1D) >> 32
+    }
+
+    fn below(&mut self, bound: usize) -> usize {
+        (self.roll() % bound.max(1) as u64) as usize
+    }
+
+    fn one_in(&mut self, odds: usize) -> bool {
+        self.below(odds) == 0
+    }
+}
+
+/// What is lent.
+#[derive(Clone, PartialEq, Eq, Debug)]
+struct Lent {
+    vertices: Vec<u32>,
+    edges: Vec<u32>,
+    tally: Tally,
+}
+
+impl Lent {
+    fn rows(vertices: usize, edges: usize) -> Lent {
+        Lent {
+            vertices: vec![9; 7 * vertices],
+            edges: vec![9; 2 * edges],
+            tally: Tally {
+                made: 9,
+                held: 9,
+                steps: 9,
+            },
+        }
+    }
+
+    fn open(&mut self) -> Answer {
+        open(&mut self.vertices, &mut self.edges, &mut self.tally)
+    }
+
+    fn command(&mut self, c: Command) -> Answer {
+        command(&mut self.vertices, &mut self.edges, &mut self.tally, c)
+    }
+
+    fn load(&mut self, program: &[u8]) -> Answer {
+        load(
+            program,
+            &mut self.vertices,
+            &mut self.edges,
+            &mut self.tally,
+        )
+    }
+
+    fn step(&mut self, program: &[u8], vertex: u32) -> Answer {
+        step(
+            program,
+            &mut self.vertices,
+            &mut self.edges,
+            &mut self.tally,
+            vertex,
+        )
+    }
+
+    fn run(&mut self, program: &[u8], budget: u32) -> Run {
+        run(
+            program,
+            &mut self.vertices,
+            &mut self.edges,
+            &mut self.tally,
+            budget,
+        )
+    }
+
+    fn lowest(&self, program: &[u8]) -> Lowest {
+        lowest(program, &self.vertices, &self.edges, &self.tally)
+    }
+
+    fn row(&self, vertex: usize) -> [u32; 7] {
+        self.vertices[7 * vertex..7 * vertex + 7]
+            .try_into()
+            .unwrap()
+    }
+
+    fn held(&self) -> Vec<(u32, u32)> {
+        self.edges
+            .chunks(2)
+            .take(self.tally.held as usize)
+            .map(|e| (e[0], e[1]))
+            .collect()
+    }
+}
+
+fn refusal(number: u32, place: u32) -> Answer {
+    Answer::Refused { number, place }
+}
+
+fn is_refused(answer: Answer) -> bool {
+    matches!(answer, Answer::Refused { .. })
+}
+
+fn counts(program: &[u8]) -> Counts {
+    read(program, |_, _| ()).unwrap()
+}
+
+/// 4 + w + 5a + 10f + 15k
+fn full_count(program: &[u8]) -> u32 {
+    let c = counts(program);
+    4 + c.jobs + 5 * c.asyncs + 10 * c.finishes + 15 * c.forks
+}
+
+fn loaded(program: &[u8]) -> Lent {
+    let mut lent = Lent::rows(1024, 1024);
+    assert_eq!(lent.load(program), Answer::Ready);
+    lent
+}
+
+fn load_refusal(program: &[u8]) -> Answer {
+    let mut lent = Lent::rows(1024, 1024);
+    let answer = lent.load(program);
+    assert_eq!(lent, Lent::rows(1024, 1024));
+    answer
+}
+
+/// The jobs of a program in the order in which a random schedule answers them.
+fn jobs_at_random(program: &[u8], dice: &mut Dice) -> Vec<u32> {
+    let mut lent = loaded(program);
+    let mut jobs = Vec::new();
+    while lent.tally.steps < full_count(program) {
+        let vertex = dice.below(lent.tally.made as usize) as u32;
+        if let Answer::Job { number, .. } = lent.step(program, vertex) {
+            jobs.push(number);
+        }
+    }
+    jobs
+}
+
+/// The lister: heading, then each step of the lowest vertex.
+fn listing(program: &[u8]) -> String {
+    let mut lent = Lent::rows(1024, 1024);
+    if let Answer::Refused { number, place } = lent.load(program) {
+        return format!("refused {number} {place}\n");
+    }
+    let c = counts(program);
+    let mut out = format!(
+        "vertices {} jobs {} steps {}\n",
+        c.vertices(),
+        c.jobs,
+        full_count(program)
+    );
+    while let Lowest::Vertex(v) = lent.lowest(program) {
+        out += &match lent.step(program, v) {
+            Answer::Start => format!("{v} start\n"),
+            Answer::New(a) => format!("{v} new {a}\n"),
+            Answer::Edge(a, b) => format!("{v} edge {a} {b}\n"),
+            Answer::Release(a) => format!("{v} release {a}\n"),
+            Answer::Transfer(a) => format!("{v} transfer {a}\n"),
+            Answer::Job { number, .. } => format!("{v} job {number}\n"),
+            Answer::Stop => format!("{v} stop\n"),
+            other => panic!("{other:?}"),
+        };
+    }
+    out
+}
+
+/// A body of random items at a level.
+fn random_body(dice: &mut Dice, level: usize, room: &mut usize, out: &mut Vec<u8>) {
+    for _ in 0..dice.below(5) {
+        if *room == 0 {
+            break;
+        }
+        *room -= 1;
+        match if level < 5 { dice.below(5) } else { 0 } {
+            0 | 1 => {
+                out.push(1);
+                let mut number =
+                    [dice.below(100), dice.below(20_000), dice.below(65_536)][dice.below(3)];
+                while number > 127 {
+                    out.push(number as u8 | 0x80);
+                    number >>= 7;
+                }
+                out.push(number as u8);
+            }
+            2 => {
+                out.push(2);
+                random_body(dice, level + 1, room, out);
+            }
+            3 => {
+                out.push(3);
+                random_body(dice, level + 1, room, out);
+            }
+            _ => {
+                out.push(4);
+                random_body(dice, level + 1, room, out);
+                random_body(dice, level + 1, room, out);
+            }
+        }
+    }
+    out.push(0);
+}
+
+fn random_program(dice: &mut Dice) -> Vec<u8> {
+    let mut out = Vec::new();
+    let mut room = 1 + dice.below(20);
+    random_body(dice, 1, &mut room, &mut out);
+    out
+}
+
+/// By removing vertices without an edge into them, again and again.
+fn has_cycle(edges: &[(u32, u32)]) -> bool {
+    let mut left = edges.to_vec();
+    loop {
+        let before = left.len();
+        let targets: Vec<u32> = left.iter().map(|e| e.1).collect();
+        left.retain(|e| targets.contains(&e.0));
+        if left.len() == before {
+            return before > 0;
+        }
+    }
+}
+
+/// Whether one or more edges lead from a to b, by growing a set.
+fn leads(edges: &[(u32, u32)], a: u32, b: u32) -> bool {
+    let mut met: Vec<u32> = Vec::new();
+    loop {
+        let before = met.len();
+        for &(s, t) in edges {
+            if (s == a || met.contains(&s)) && !met.contains(&t) {
+                met.push(t);
+            }
+        }
+        if met.len() == before {
+            return met.contains(&b);
+        }
+    }
+}
+
+// --- Bench examples ----------------------------------------------------------------------------
+
+#[test]
+fn bench_examples_take_their_steps() {
+    let fork = [4, 1, 1, 0, 1, 2, 0, 1, 3, 0];
+    let examples: [(&[u8], u32, usize); 5] = [
+        (&[0], 4, 0),
+        (&[1, 0, 0], 5, 1),
+        (&[2, 1, 1, 0, 1, 2, 0], 11, 2),
+        (&fork, 22, 3),
+        (&[3, 2, 1, 5, 0, 0, 1, 6, 0], 21, 2),
+    ];
+    for (program, steps, jobs) in examples {
+        assert_eq!(full_count(program), steps);
+        let mut lent = loaded(program);
+        let run = lent.run(program, u32::MAX);
+        assert_eq!(
+            run,
+            Run {
+                ending: Ending::Done,
+                last: Some(Answer::Stop),
+                taken: steps
+            }
+        );
+        assert_eq!(lent.tally.steps, steps);
+        assert_eq!(lent.tally.held, 0);
+        assert_eq!(lent.lowest(program), Lowest::NoVertex);
+        assert_eq!(
+            lent.run(program, 0),
+            Run {
+                ending: Ending::Done,
+                last: None,
+                taken: 0
+            }
+        );
+        // A budget one too small, and one just enough.
+        let mut lent = loaded(program);
+        let run = lent.run(program, steps - 1);
+        assert_eq!((run.ending, run.taken), (Ending::Spent, steps - 1));
+        assert_eq!(
+            lent.run(program, 1),
+            Run {
+                ending: Ending::Done,
+                last: Some(Answer::Stop),
+                taken: 1
+            }
+        );
+        assert_eq!(jobs_at_random(program, &mut Dice(77)).len(), jobs);
+    }
+}
+
+#[test]
+fn bench_examples_order_their_jobs() {
+    let mut dice = Dice(5);
+    let mut seen = Vec::new();
+    for _ in 0..100 {
+        let jobs = jobs_at_random(&[2, 1, 1, 0, 1, 2, 0], &mut dice);
+        if !seen.contains(&jobs) {
+            seen.push(jobs);
+        }
+        let jobs = jobs_at_random(&[4, 1, 1, 0, 1, 2, 0, 1, 3, 0], &mut dice);
+        assert_eq!((jobs.len(), jobs[2]), (3, 3));
+        assert_eq!(
+            jobs_at_random(&[3, 2, 1, 5, 0, 0, 1, 6, 0], &mut dice),
+            [5, 6]
+        );
+    }
+    seen.sort();
+    assert_eq!(seen, [[1, 2], [2, 1]]);
+}
+
+#[test]
+fn bench_examples_are_refused() {
+    assert_eq!(load_refusal(&[]), refusal(1, 0));
+    assert_eq!(load_refusal(&[5]), refusal(3, 0));
+    assert_eq!(load_refusal(&[1, 0x80, 0, 0]), refusal(2, 1));
+    assert_eq!(load_refusal(&[0, 0]), refusal(6, 1));
+    assert_eq!(load_refusal(&[3, 0]), refusal(5, 2));
+    assert_eq!(load_refusal(&[1, 0x80, 0x80, 4, 0]), refusal(7, 1));
+}
+
+#[test]
+fn job_65535() {
+    let program = [1, 0xff, 0xff, 3, 0];
+    let mut lent = loaded(&program);
+    assert_eq!(lent.step(&program, 0), Answer::Start);
+    assert_eq!(
+        lent.step(&program, 0),
+        Answer::Job {
+            number: 65_535,
+            offset: 0
+        }
+    );
+    assert_eq!(lent.row(0), [3, 4, 1, 0, 0, 0, 0]);
+}
+
+#[test]
+fn bare_machine_example() {
+    let mut lent = Lent::rows(3, 2);
+    assert_eq!(lent.open(), Answer::Ready);
+    assert_eq!(
+        lent.tally,
+        Tally {
+            made: 1,
+            held: 0,
+            steps: 0
+        }
+    );
+    assert_eq!(lent.row(0), [2, 0, 0, 0, 0, 0, 0]);
+    let edge = |source, target| Command::NewEdge {
+        caller: 0,
+        source,
+        target,
+    };
+    let transfer = |vertex| Command::Transfer { caller: 0, vertex };
+    let new = Command::NewTd {
+        caller: 0,
+        place: u32::MAX,
+        scope: 77,
+    };
+    assert_eq!(lent.command(new), refusal(30, 0));
+    assert_eq!(lent.command(Command::Start { vertex: 0 }), Answer::Start);
+    assert_eq!(lent.command(new), Answer::New(1));
+    assert_eq!(lent.command(new), Answer::New(2));
+    assert_eq!(lent.row(2), [1, u32::MAX, 77, 0, 0, 0, 0]);
+    assert_eq!(lent.command(new), refusal(31, 0));
+    assert_eq!(lent.command(edge(1, 2)), Answer::Edge(1, 2));
+    let before = lent.clone();
+    assert_eq!(lent.command(edge(2, 1)), refusal(35, 0));
+    assert_eq!(lent.command(edge(1, 1)), refusal(35, 0));
+    assert_eq!(lent.command(edge(1, 2)), refusal(34, 0));
+    assert_eq!(lent, before);
+    assert_eq!(lent.command(edge(0, 1)), Answer::Edge(0, 1));
+    assert_eq!(lent.command(transfer(1)), refusal(38, 0));
+    assert_eq!(lent.command(transfer(2)), refusal(35, 0));
+    assert_eq!(lent.command(edge(0, 2)), refusal(32, 0));
+    assert_eq!(
+        lent.tally,
+        Tally {
+            made: 3,
+            held: 2,
+            steps: 0
+        }
+    );
+}
+
+#[test]
+fn listing_of_the_paper() {
+    let expected = "vertices 5 jobs 2 steps 21\n0 start\n0 new 2\n0 new 3\n0 edge 3 2\n0 transfer 2\n\
+        0 release 2\n0 release 3\n0 stop\n3 start\n3 new 4\n3 edge 4 2\n3 release 4\n3 stop\n4 start\n\
+        4 job 5\n4 stop\n2 start\n2 job 6\n2 stop\n1 start\n1 stop\n";
+    assert_eq!(listing(&[3, 2, 1, 5, 0, 0, 1, 6, 0]), expected);
+    assert_eq!(listing(&[3, 0]), "refused 5 2\n");
+}
+
+// --- Reading -----------------------------------------------------------------------------------
+
+#[test]
+fn levels() {
+    let mut program = vec![2; 31];
+    program.extend([0; 32]);
+    assert_eq!(full_count(&program), 4 + 5 * 31);
+    assert_eq!(loaded(&program).run(&program, 10_000).taken, 4 + 5 * 31);
+    for opener in [2, 3, 4] {
+        let mut program = vec![opener; 32];
+        assert_eq!(load_refusal(&program), refusal(4, 31));
+        program.extend([0; 65]);
+        assert_eq!(load_refusal(&program), refusal(4, 31));
+    }
+    // The right body of a fork has the level of its left one.
+    let mut program = vec![2; 30];
+    program.extend([4, 0, 0]);
+    program.extend([0; 31]);
+    assert_eq!(
+        loaded(&program).run(&program, 10_000).taken,
+        full_count(&program)
+    );
+    let mut program = vec![2; 30];
+    program.extend([4, 0, 2, 0, 0]);
+    program.extend([0; 31]);
+    assert_eq!(load_refusal(&program), refusal(4, 32));
+}
+
+#[test]
+fn pairs() {
+    let pairs = |n: usize| {
+        let mut program = [2, 0].repeat(n);
+        program.push(0);
+        program
+    };
+    let program = pairs(1022);
+    let mut lent = loaded(&program);
+    assert_eq!(lent.run(&program, u32::MAX).taken, 4 + 5 * 1022);
+    assert_eq!(
+        lent.tally,
+        Tally {
+            made: 1024,
+            held: 0,
+            steps: 4 + 5 * 1022
+        }
+    );
+    assert_eq!(load_refusal(&pairs(1023)), refusal(8, 0));
+    // 8 comes before 10 and 11, and those in this order.
+    assert_eq!(Lent::rows(0, 0).load(&pairs(1023)), refusal(8, 0));
+    assert_eq!(Lent::rows(1023, 0).load(&program), refusal(10, 0));
+    assert_eq!(Lent::rows(1024, 1022).load(&program), refusal(11, 0));
+    assert_eq!(Lent::rows(1024, 1023).load(&program), Answer::Ready);
+}
+
+#[test]
+fn reading_refuses_in_order() {
+    assert_eq!(load_refusal(&vec![0; 4097]), refusal(1, 0));
+    assert_eq!(load_refusal(&[1]), refusal(5, 1));
+    assert_eq!(load_refusal(&[1, 0x80]), refusal(5, 2));
+    assert_eq!(load_refusal(&[1, 0x80, 0x80]), refusal(5, 3));
+    assert_eq!(load_refusal(&[1, 0x80, 0x80, 0x80]), refusal(2, 1));
+    assert_eq!(load_refusal(&[1, 0x80, 0x80, 0]), refusal(2, 1));
+    assert_eq!(load_refusal(&[1, 0xff, 0xff, 4, 9]), refusal(7, 1));
+    assert_eq!(load_refusal(&[1, 5]), refusal(5, 2));
+    assert_eq!(load_refusal(&[2, 4, 0, 0]), refusal(5, 4));
+    assert_eq!(load_refusal(&[2, 1, 1, 0, 0x81, 0]), refusal(3, 4));
+    assert_eq!(load_refusal(&[0, 5]), refusal(6, 1));
+    let mut longest = [1, 1].repeat(2047);
+    longest.push(0);
+    assert_eq!(loaded(&longest).run(&longest, u32::MAX).taken, 4 + 2047);
+    let mut longest = [1, 1].repeat(2046);
+    longest.extend([1, 0x80, 1, 0]);
+    assert_eq!(longest.len(), 4096);
+    assert_eq!(loaded(&longest).run(&longest, u32::MAX).taken, 4 + 2047);
+}
+
+#[test]
+fn loading_touches_the_used_rows_only() {
+    let mut lent = Lent::rows(0, 0);
+    lent.vertices = vec![9; 7 * 1026 + 3];
+    lent.edges = vec![9; 2 * 1025 + 1];
+    assert_eq!(lent.load(&[2, 0, 0]), Answer::Ready);
+    assert_eq!(lent.row(0), [2, 0, 1, 0, 0, 0, 0]);
+    assert_eq!(lent.row(1), [2, 2, 1, 0, 0, 0, 0]);
+    assert!(lent.vertices[14..7 * 1024].iter().all(|&w| w == 0));
+    assert!(lent.vertices[7 * 1024..].iter().all(|&w| w == 9));
+    assert_eq!(lent.edges[..2], [0, 1]);
+    assert!(lent.edges[2..2 * 1024].iter().all(|&w| w == 0));
+    assert!(lent.edges[2 * 1024..].iter().all(|&w| w == 9));
+    // A row that is not full is none.
+    let mut lent = Lent::rows(0, 0);
+    lent.vertices = vec![9; 13];
+    lent.edges = vec![9; 3];
+    assert_eq!(lent.load(&[0]), refusal(10, 0));
+    lent.vertices = vec![9; 15];
+    assert_eq!(lent.load(&[0]), Answer::Ready);
+    assert_eq!((lent.vertices[14], lent.edges[2]), (9, 9));
+    lent.vertices = vec![9; 6];
+    assert_eq!(lent.open(), refusal(10, 0));
+    assert_eq!(lent.vertices, [9; 6]);
+}
+
+// --- Commands ----------------------------------------------------------------------------------
+
+/// Rows with these statuses, and edges.
+fn graph(statuses: &[u32], edges: &[[u32; 2]], spare: usize) -> Lent {
+    let mut lent = Lent::rows(0, 0);
+    for &status in statuses {
+        lent.vertices.extend([status, 1, 2, 3, 4, 5, 6]);
+    }
+    lent.edges = edges.concat();
+    lent.vertices.extend(vec![7; 7 * spare]);
+    lent.edges.extend(vec![7; 2 * spare]);
+    lent.tally = Tally {
+        made: statuses.len() as u32,
+        held: edges.len() as u32,
+        steps: 9000,
+    };
+    lent
+}
+
+#[test]
+fn commands_refuse_in_order() {
+    let try_one = |lent: &Lent, c: Command| {
+        let mut after = lent.clone();
+        let answer = after.command(c);
+        assert!(!is_refused(answer) || after == *lent);
+        answer
+    };
+    let lent = graph(&[3, 1, 2, 3, 4, 1], &[[1, 2]], 0);
+    let new = |caller| Command::NewTd {
+        caller,
+        place: 0,
+        scope: 0,
+    };
+    let edge = |caller, source, target| Command::NewEdge {
+        caller,
+        source,
+        target,
+    };
+    let release = |caller, vertex| Command::Release { caller, vertex };
+    let transfer = |caller, vertex| Command::Transfer { caller, vertex };
+    let start = |vertex| Command::Start { vertex };
+    for (c, number) in [
+        (new(6), 20),
+        (new(1), 30),
+        (new(u32::MAX), 20),
+        (new(0), 31),
+        (edge(6, 0, 0), 20),
+        (edge(1, 6, 0), 20),
+        (edge(1, 0, 6), 20),
+        (edge(1, 0, 0), 30),
+        (edge(0, 1, 3), 33),
+        (edge(0, 4, 4), 33),
+        (edge(0, 1, 2), 34),
+        (edge(0, 2, 1), 35),
+        (edge(0, 2, 2), 35),
+        (edge(0, 0, 1), 32),
+        (release(6, 1), 20),
+        (release(0, 6), 20),
+        (release(1, 2), 30),
+        (release(0, 2), 36),
+        (transfer(6, 1), 20),
+        (transfer(0, 6), 20),
+        (transfer(1, 2), 30),
+        (transfer(0, 2), 37),
+        (transfer(0, 0), 37),
+        (transfer(0, 1), 38),
+        (start(6), 20),
+        (start(1), 22),
+        (start(3), 39),
+        (start(4), 23),
+        (start(2), 21),
+        (Command::Stop { caller: 6 }, 20),
+        (Command::Stop { caller: 1 }, 30),
+    ] {
+        assert_eq!(try_one(&lent, c), refusal(number, 0), "{c:?}");
+    }
+    // A finished source needs no row, and adds nothing.
+    let mut after = lent.clone();
+    assert_eq!(after.command(edge(0, 4, 1)), Answer::Edge(4, 1));
+    assert_eq!(after, lent);
+    // 12 comes first; the steps do not matter at a single command.
+    for (word, value) in [(0, 0), (0, 5), (7, u32::MAX)] {
+        let mut bad = lent.clone();
+        bad.vertices[word] = value;
+        assert_eq!(try_one(&bad, new(6)), refusal(12, 0));
+    }
+    for word in [0, 1] {
+        let mut bad = lent.clone();
+        bad.edges[word] = 6;
+        assert_eq!(try_one(&bad, new(6)), refusal(12, 0));
+    }
+    for (made, held) in [(7, 1), (6, 2), (u32::MAX, 0), (0, u32::MAX)] {
+        let mut bad = lent.clone();
+        (bad.tally.made, bad.tally.held) = (made, held);
+        assert_eq!(try_one(&bad, start(9)), refusal(12, 0));
+    }
+    // Only the first 1,024 rows count.
+    let mut long = graph(&[3; 1030], &[], 1);
+    assert_eq!(try_one(&long, new(0)), refusal(12, 0));
+    long.tally.made = 1024;
+    assert_eq!(try_one(&long, new(0)), refusal(31, 0));
+}
+
+#[test]
+fn transfer_and_stop_keep_the_order() {
+    let mut lent = graph(&[3, 1, 2, 2], &[[0, 2], [2, 3], [0, 3], [3, 0]], 1);
+    let before = lent.clone();
+    assert_eq!(
+        lent.command(Command::Transfer {
+            caller: 0,
+            vertex: 1
+        }),
+        Answer::Transfer(1)
+    );
+    assert_eq!(lent.edges, [1, 2, 2, 3, 1, 3, 3, 0, 7, 7]);
+    assert_eq!(
+        (lent.tally, &lent.vertices),
+        (before.tally, &before.vertices)
+    );
+    let mut lent = before.clone();
+    assert_eq!(lent.command(Command::Stop { caller: 0 }), Answer::Stop);
+    assert_eq!(lent.edges, [2, 3, 3, 0, 0, 0, 0, 0, 7, 7]);
+    assert_eq!(lent.row(0), [4, 1, 2, 3, 4, 5, 6]);
+    assert_eq!(
+        lent.tally,
+        Tally {
+            made: 4,
+            held: 2,
+            steps: 9000
+        }
+    );
+}
+
+#[test]
+fn paths_decide_cycles() {
+    let mut dice = Dice(31);
+    let mut seen = [0; 2];
+    for _ in 0..4000 {
+        let n = 2 + dice.below(9);
+        let edges: Vec<[u32; 2]> = (0..dice.below(2 * n))
+            .map(|_| [dice.below(n) as u32, dice.below(n) as u32])
+            .collect();
+        let mut statuses = vec![1; n];
+        statuses[0] = 3;
+        let lent = graph(&statuses, &edges, 1);
+        let held = lent.held();
+        let (a, b) = (dice.below(n) as u32, 1 + dice.below(n - 1) as u32);
+        let expected = if held.contains(&(a, b)) {
+            refusal(34, 0)
+        } else if a == b || leads(&held, b, a) {
+            seen[0] += 1;
+            refusal(35, 0)
+        } else {
+            Answer::Edge(a, b)
+        };
+        let answer = lent.clone().command(Command::NewEdge {
+            caller: 0,
+            source: a,
+            target: b,
+        });
+        assert_eq!(answer, expected, "{edges:?} {a} {b}");
+        let expected = if held.iter().any(|e| e.0 == b) {
+            refusal(38, 0)
+        } else if leads(&held, 0, b) {
+            seen[1] += 1;
+            refusal(35, 0)
+        } else {
+            Answer::Transfer(b)
+        };
+        assert_eq!(
+            lent.clone().command(Command::Transfer {
+                caller: 0,
+                vertex: b
+            }),
+            expected,
+            "{edges:?} {b}"
+        );
+    }
+    assert!(seen.iter().all(|&n| n > 100), "{seen:?}");
+}
+
+#[test]
+fn long_paths() {
+    let chain: Vec<[u32; 2]> = (1..1023).map(|v| [v, v + 1]).collect();
+    let mut statuses = vec![1; 1024];
+    statuses[0] = 3;
+    let mut lent = graph(&statuses, &chain, 2);
+    let edge = |source, target| Command::NewEdge {
+        caller: 0,
+        source,
+        target,
+    };
+    assert_eq!(lent.command(edge(1023, 1)), refusal(35, 0));
+    assert_eq!(lent.command(edge(1, 1023)), Answer::Edge(1, 1023));
+    assert_eq!(lent.command(edge(0, 2)), Answer::Edge(0, 2));
+    assert_eq!(
+        lent.command(Command::Transfer {
+            caller: 0,
+            vertex: 1023
+        }),
+        refusal(35, 0)
+    );
+    assert_eq!(lent.command(edge(0, 5)), refusal(32, 0));
+}
+
+// --- Steps and runs ----------------------------------------------------------------------------
+
+#[test]
+fn step_refuses_in_order() {
+    let program = [1, 1, 0];
+    let mut lent = loaded(&program);
+    assert_eq!(lent.step(&program, 2), refusal(20, 0));
+    assert_eq!(lent.step(&program, u32::MAX), refusal(20, 0));
+    assert_eq!(lent.step(&program, 1), refusal(21, 0));
+    // A released vertex is started, whatever the bytes.
+    assert_eq!(lent.step(&[], 0), Answer::Start);
+    assert_eq!(lent.step(&[], 0), refusal(13, 0));
+    assert_eq!(
+        lent.run(&[], 5),
+        Run {
+            ending: Ending::Stuck,
+            last: None,
+            taken: 0
+        }
+    );
+    assert_eq!(lent.step(&[0, 0], 0), refusal(13, 0));
+    // Nothing starts at place 1, and nothing past the end; a job has one command.
+    for (place, phase, answer) in [
+        (1, 0, refusal(13, 0)),
+        (3, 0, refusal(13, 0)),
+        (u32::MAX, 0, refusal(13, 0)),
+        (0, 1, refusal(13, 0)),
+        (0, u32::MAX, refusal(13, 0)),
+        (2, 1, refusal(13, 0)),
+        (2, 0, Answer::Stop),
+        (
+            0,
+            0,
+            Answer::Job {
+                number: 1,
+                offset: 0,
+            },
+        ),
+    ] {
+        let mut lent = lent.clone();
+        lent.vertices[1] = place;
+        lent.vertices[3] = phase;
+        assert_eq!(lent.step(&program, 0), answer);
+    }
+    let mut late = lent.clone();
+    late.tally.steps = 8192;
+    assert_eq!(late.step(&program, 9), refusal(12, 0));
+    assert_eq!(
+        late.lowest(&program),
+        Lowest::Refused {
+            number: 12,
+            place: 0
+        }
+    );
+    assert_eq!(
+        late.run(&program, 0),
+        Run {
+            ending: Ending::Refused {
+                number: 12,
+                place: 0
+            },
+            last: None,
+            taken: 0
+        }
+    );
+    // A new or a finished vertex.
+    lent.vertices[0] = 1;
+    assert_eq!(lent.step(&program, 0), refusal(22, 0));
+    lent.vertices[0] = 4;
+    assert_eq!(lent.step(&program, 0), refusal(23, 0));
+}
+
+#[test]
+fn runs_look_in_order() {
+    // No vertex made: done.
+    let mut lent = Lent::rows(0, 0);
+    lent.tally = Tally::default();
+    assert_eq!(
+        lent.run(&[], 3),
+        Run {
+            ending: Ending::Done,
+            last: None,
+            taken: 0
+        }
+    );
+    // The count reaches 8,192 inside a run: stuck, or done if that was the last step.
+    let program = [0];
+    let mut lent = loaded(&program);
+    assert_eq!(
+        lent.run(&program, 0),
+        Run {
+            ending: Ending::Spent,
+            last: None,
+            taken: 0
+        }
+    );
+    lent.tally.steps = 8190;
+    assert_eq!(
+        lent.run(&program, 9),
+        Run {
+            ending: Ending::Stuck,
+            last: Some(Answer::Stop),
+            taken: 2
+        }
+    );
+    assert_eq!(lent.tally.steps, 8192);
+    let mut lent = loaded(&program);
+    lent.tally.steps = 8188;
+    assert_eq!(
+        lent.run(&program, 9),
+        Run {
+            ending: Ending::Done,
+            last: Some(Answer::Stop),
+            taken: 4
+        }
+    );
+}
+
+#[test]
+fn any_schedule_takes_the_full_count() {
+    let mut dice = Dice(2024);
+    for round in 0..1500 {
+        let program = random_program(&mut dice);
+        let c = counts(&program);
+        // No more rows than the paper says are needed.
+        let mut lent = Lent::rows(c.vertices() as usize, c.edge_rows() as usize);
+        assert_eq!(lent.load(&program), Answer::Ready);
+        let mut jobs = 0;
+        let mut accepted = 0;
+        while lent
+            .vertices
+            .chunks(7)
+            .take(lent.tally.made as usize)
+            .any(|row| row[0] != 4)
+        {
+            assert_ne!(lent.lowest(&program), Lowest::NoVertex);
+            let vertex = dice.below(lent.tally.made as usize) as u32;
+            let before = lent.clone();
+            let answer = lent.step(&program, vertex);
+            match answer {
+                Answer::Refused { number, .. } => {
+                    assert!([21, 22, 23].contains(&number), "{answer:?}");
+                    assert_eq!(lent, before);
+                    continue;
+                }
+                Answer::Job { .. } => jobs += 1,
+                _ => {}
+            }
+            accepted += 1;
+            assert_eq!(lent.tally.steps, accepted);
+            if round < 200 {
+                assert!(!has_cycle(&lent.held()));
+            }
+        }
+        assert_eq!(accepted, full_count(&program));
+        assert_eq!(
+            (jobs, lent.tally.made, lent.tally.held),
+            (c.jobs, c.vertices(), 0)
+        );
+        // So does a run, in parts of any size.
+        let mut lent = loaded(&program);
+        let mut taken = 0;
+        loop {
+            let run = lent.run(&program, dice.below(20) as u32);
+            taken += run.taken;
+            match run.ending {
+                Ending::Done => break,
+                ending => assert_eq!(ending, Ending::Spent),
+            }
+        }
+        assert_eq!(taken, full_count(&program));
+    }
+}
+
+/// A run by its words alone: try each vertex by a full step on a copy.
+fn plain_lowest(lent: &Lent, program: &[u8]) -> Option<u32> {
+    (0..lent.tally.made).find(|&v| !is_refused(lent.clone().step(program, v)))
+}
+
+fn plain_run(lent: &mut Lent, program: &[u8], budget: u32) -> Run {
+    let mut run = Run {
+        ending: Ending::Done,
+        last: None,
+        taken: 0,
+    };
+    loop {
+        if lent
+            .vertices
+            .chunks(7)
+            .take(lent.tally.made as usize)
+            .all(|row| row[0] == 4)
+        {
+            return run;
+        }
+        let Some(v) = plain_lowest(lent, program) else {
+            return Run {
+                ending: Ending::Stuck,
+                ..run
+            };
+        };
+        if run.taken == budget {
+            return Run {
+                ending: Ending::Spent,
+                ..run
+            };
+        }
+        run.last = Some(lent.step(program, v));
+        run.taken += 1;
+    }
+}
+
+/// Words that are mostly small, now and then anything.
+fn word(dice: &mut Dice, bound: usize) -> u32 {
+    if dice.one_in(40) {
+        dice.roll() as u32
+    } else {
+        dice.below(bound) as u32
+    }
+}
+
+#[test]
+fn any_words_are_answered() {
+    let mut dice = Dice(99);
+    let (mut stuck, mut done, mut spent, mut unsound) = (0, 0, 0, 0);
+    let mut refusals = [0; 40];
+    for _ in 0..6000 {
+        let mut program = random_program(&mut dice);
+        if dice.one_in(10) {
+            let at = dice.below(program.len());
+            program[at] = dice.roll() as u8;
+        }
+        // Places where something starts, the long items more often.
+        let mut places = vec![0];
+        let _ = read(&program, |place, item| {
+            let often = match item {
+                Item::Job { .. } | Item::End => 1,
+                _ => 5,
+            };
+            places.extend(vec![place as u32; often]);
+        });
+        let made = 1 + dice.below(8);
+        let held = dice.below(8);
+        let mut lent = Lent::rows(made + dice.below(6), held + dice.below(5));
+        for (i, w) in lent.vertices.iter_mut().enumerate() {
+            *w = match i % 7 {
+                0 if dice.one_in(300) => dice.roll() as u32,
+                0 => 1 + dice.below(4) as u32,
+                1 if dice.one_in(20) => word(&mut dice, program.len()),
+                1 => places[dice.below(places.len())],
+                3 => word(&mut dice, 9),
+                _ if dice.one_in(10) => word(&mut dice, made + 1),
+                _ => dice.below(made) as u32,
+            };
+        }
+        for w in &mut lent.edges {
+            *w = if dice.one_in(200) {
+                dice.roll() as u32
+            } else {
+                dice.below(made) as u32
+            };
+        }
+        lent.vertices.extend(vec![3; dice.below(7)]);
+        lent.edges.extend(vec![3; dice.below(2)]);
+        lent.tally = Tally {
+            made: made as u32,
+            held: held as u32,
+            steps: 0,
+        };
+        if dice.one_in(20) {
+            lent.tally.steps = 8180 + dice.below(14) as u32;
+        }
+        if dice.one_in(50) {
+            lent.tally.made = dice.roll() as u32;
+        }
+        if dice.one_in(50) {
+            lent.tally.held = dice.roll() as u32;
+        }
+        // A single command and a step on copies.
+        let (a, b, c) = (
+            word(&mut dice, made + 1),
+            word(&mut dice, made + 1),
+            word(&mut dice, made + 1),
+        );
+        let command = match dice.below(6) {
+            0 => Command::NewTd {
+                caller: a,
+                place: b,
+                scope: c,
+            },
+            1 => Command::NewEdge {
+                caller: a,
+                source: b,
+                target: c,
+            },
+            2 => Command::Release {
+                caller: a,
+                vertex: b,
+            },
+            3 => Command::Transfer {
+                caller: a,
+                vertex: b,
+            },
+            4 => Command::Start { vertex: a },
+            _ => Command::Stop { caller: a },
+        };
+        let mut after = lent.clone();
+        let answer = after.command(command);
+        assert_eq!(after.tally.steps, lent.tally.steps);
+        assert!(!is_refused(answer) || after == lent);
+        let mut after = lent.clone();
+        for vertex in (0..=made as u32).chain([a]) {
+            match after.step(&program, vertex) {
+                Answer::Refused { number, place } => {
+                    assert_eq!(place, 0);
+                    assert_eq!(after, lent);
+                    refusals[number as usize] += 1;
+                }
+                _ => {
+                    assert_eq!(after.tally.steps, lent.tally.steps + 1);
+                    after.clone_from(&lent);
+                }
+            }
+        }
+        // A run is the plain run, and the lowest vertex the plain lowest.
+        let budget = dice.below(40) as u32;
+        let lowest = lent.lowest(&program);
+        let mut after = lent.clone();
+        let run = after.run(&program, budget);
+        match run.ending {
+            Ending::Refused { number, place } => {
+                unsound += 1;
+                assert_eq!((number, place, run.last, run.taken), (12, 0, None, 0));
+                assert_eq!(
+                    lowest,
+                    Lowest::Refused {
+                        number: 12,
+                        place: 0
+                    }
+                );
+                assert_eq!(after, lent);
+                assert_eq!(lent.clone().step(&program, a), refusal(12, 0));
+                continue;
+            }
+            Ending::Done => done += 1,
+            Ending::Stuck => stuck += 1,
+            Ending::Spent => spent += 1,
+        }
+        assert_eq!(
+            lowest,
+            plain_lowest(&lent, &program).map_or(Lowest::NoVertex, Lowest::Vertex)
+        );
+        let mut plain = lent.clone();
+        assert_eq!(plain_run(&mut plain, &program, budget), run);
+        assert_eq!(plain, after);
+    }
+    assert!(
+        stuck > 100 && done > 100 && spent > 100 && unsound > 100,
+        "{stuck} {done} {spent} {unsound}"
+    );
+    for number in [12, 13, 20, 21, 22, 23, 31, 32, 33, 34, 35, 36, 37, 38] {
+        assert!(refusals[number] > 0, "{number}: {refusals:?}");
+    }
+}
+
+#[test]
+fn any_bytes_are_answered() {
+    let mut dice = Dice(12);
+    let mut taken = 0;
+    for _ in 0..20_000 {
+        let program: Vec<u8> = (0..dice.below(14))
+            .map(|_| {
+                if dice.one_in(12) {
+                    dice.roll() as u8
+                } else {
+                    dice.below(9).saturating_sub(4) as u8
+                }
+            })
+            .collect();
+        let mut lent = Lent::rows(60, 60);
+        if lent.load(&program) == Answer::Ready {
+            taken += 1;
+            assert_eq!(lent.run(&program, u32::MAX).taken, full_count(&program));
+        } else {
+            assert_eq!(lent, Lent::rows(60, 60));
+        }
+    }
+    assert!(taken > 300, "{taken}");
+}
