@@ -1,11 +1,13 @@
 -- What a step leaves, from what is due. Where a step adds its vertex's own words to what its command left (machine's `Adds`), it leaves
 -- the table with these words stored, and one step more; so each path through the code of a step has its law.
 --
---     adds-is                    what `Adds` fixes
---     job-ready, taken-ready     where something is stored, the vertex's row lies in the table and a step may be counted
---     refused-path               a refusal is due
---     job-path                   a job is due
---     turned-path, taken-path    a command is due, and refused or taken
+--     adds-is                       what `Adds` fixes
+--     job-ready, command-ready      where a job or a command is due, the vertex's row lies in the table, a step may be counted and the
+--                                   tables are sound
+--     taken-ready                   row and count behind a command that is taken
+--     refused-path                  a refusal is due
+--     job-path                      a job is due
+--     turned-path, taken-path       a command is due, and refused or taken
 use Prim.Native.Nat.{ℕ, _+_, _*_, _<_, _≤_}
 use mathlib.Core.Path.{_≡_, refl, sym, _∙_, ap, subst}
 use mathlib.Core.Bool.{Bool, true, false, not}
@@ -16,6 +18,7 @@ use lib.ListN.{length, getD, set, length-set}
 use lib.Seq.{getD-set-same, getD-set-other, ext-getD}
 use borrow.Author.Tests.{ltb-true, not-true, not-false}
 use Rattle.graph.specs.Tables.{Lent, lent, vertexWords, placeWord, phaseWord, madeWord, vertexRows, vertexWord, setVertexWord}
+use Rattle.graph.specs.Sound.{sound}
 use Rattle.graph.specs.Answers as of-graph
 use Rattle.graph.specs.Commands.{isMade, command}
 use Rattle.graph.specs.Demand2.{SameBut}
@@ -143,7 +146,7 @@ stored-counted v e t t' v' k w h c =
 
 -- WHERE SOMETHING IS DUE
 abbrev Ready : Lent → ℕ → Type 0
-Ready s v = (v < vertexRows (s .vertices)) × (s .steps < 8192)
+Ready s v = (v < vertexRows (s .vertices)) × (s .steps < 8192) × (sound s ≡ true)
 
 unfoldable ReadyFor : Lent → ℕ → Due → Type 0
 ReadyFor s v (refusal-due n) = Unit {0}
@@ -167,7 +170,7 @@ ready-of s v p q =
     let lt : v < s .made = ltb-true v (s .made) q in
     let fits : s .made ≤ vertexRows (s .vertices) = sound-fits s (both-left _ _ p) .vertices-fit in
     let few : s .steps < 8192 = ltb-true (s .steps) 8192 (both-right _ _ p) in
-    (omega arith, few)
+    (omega arith, few, both-left _ _ p)
 
 ready-due : (bytes : List ℕ) (s : Lent) (v : ℕ) → ReadyFor s v (due bytes s v)
 unfolding due
@@ -187,7 +190,7 @@ refused-path s k n d is bytes same =
 
 -- a job is due
 module _ (v e : List ℕ) (t : Tally) (k n p : ℕ) (w : Own) (d : code.Due) (is : d ≡ of-due.Job n p w) where
-  pub job-ready : IsDue (lent v e t) k (dueOf d) → (k < vertexRows v) × (t .steps < 8192)
+  pub job-ready : IsDue (lent v e t) k (dueOf d) → Ready (lent v e t) k
   unfolding ReadyFor
   job-ready h = subst (λ (x : Due). ReadyFor (lent v e t) k x) (ap dueOf is) (ready-is h)
 
@@ -205,7 +208,13 @@ module _ (v e : List ℕ) (t : Tally) (k n p : ℕ) (w : Own) (d : code.Due) (is
             stored-counted v e t t' v' k (ownWords w) words counted ∙ sym (adds-is k (ownWords w) s (step bytes s k .after) (does .1));
       }
 
--- a command is due, which left this
+-- a command is due
+module _ (v e : List ℕ) (t : Tally) (k : ℕ) (c : Command) (w : Own) (d : code.Due) (is : d ≡ of-due.Command c w) where
+  pub command-ready : IsDue (lent v e t) k (dueOf d) → Ready (lent v e t) k
+  unfolding ReadyFor
+  command-ready h = subst (λ (x : Due). ReadyFor (lent v e t) k x) (ap dueOf is) (ready-is h)
+
+-- and left this
 module _ (v e : List ℕ) (t : Tally) (k : ℕ) (c : Command) (w : Own) (d : code.Due) (is : d ≡ of-due.Command c w) (v' e' : List ℕ)
     (done : Done) (left : of-graph.outcome done v' e' ≡ command c (lent v e t)) (b : Bool)
     (told : b ≡ not (of-graph.accepted (of-graph.said (done .answer)))) where
@@ -251,9 +260,8 @@ module _ (v e : List ℕ) (t : Tally) (k : ℕ) (c : Command) (w : Own) (d : cod
   taken h = ap of-graph.accepted (sym says) ∙ not-false _ (sym told ∙ h)
 
   pub taken-ready : IsDue (lent v e t) k (dueOf d) → b ≡ false → (k < vertexRows v') × (done .tally .steps < 8192)
-  unfolding ReadyFor
   taken-ready due-here h =
-      let ready : Ready (lent v e t) k = subst (λ (x : Due). ReadyFor (lent v e t) k x) (ap dueOf is) (ready-is due-here) in
+      let ready : Ready (lent v e t) k = command-ready v e t k c w d is due-here in
       let f = effect c (lent v e t) (taken h) in
       let long : length v' ≡ length v = ap (λ (x : Lent). length (x .vertices)) leaves ∙ f .vertex-words .0 in
       let steps : done .tally .steps ≡ t .steps = ap (λ (x : Lent). x .steps) leaves ∙ f .steps-kept in

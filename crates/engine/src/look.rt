@@ -120,6 +120,7 @@ pub(crate) fn may_step(status: u32, blocked: u8) -> bool
 
 // What is due would be accepted.
 fn would_take(vertices: &[u32], edges: &[u32], tally: Tally, next: Due) -> bool
+    requires { ⌜ sound (lent (now vertices) (now edges) tally) ≡ true ⌝ }
     ensures { λ r. ⌜ r ≡ takes (lent (now (vertices .entry)) (now (edges .entry)) tally) (dueOf next) ⌝ }
 {
     match next {
@@ -135,6 +136,7 @@ fn would_take(vertices: &[u32], edges: &[u32], tally: Tally, next: Due) -> bool
 
 // The refusal of a single command, or `ACCEPTED`.
 fn refusal(vertices: &[u32], edges: &[u32], tally: Tally, given: Command) -> u32
+    requires { ⌜ sound (lent (now vertices) (now edges) tally) ≡ true ⌝ }
     ensures { λ r. ⌜ eqb r 0 ≡ of-graph.accepted (command given (lent (now (vertices .entry)) (now (edges .entry)) tally) .answer) ⌝ }
 {
     match given {

@@ -9,7 +9,7 @@ use crate::next::THIRD;
 use crate::next::next_due;
 use graph::Refusal;
 use graph::Tally;
-use graph::commands::command_by_value;
+use graph::commands::command_on_sound;
 use graph::rows::PHASE;
 use graph::rows::PLACE;
 use graph::rows::VERTEX_WORDS;
@@ -66,7 +66,7 @@ pub(crate) fn do_due(
             }
         }
         Due::Command { command, own } => {
-            let done = command_by_value(vertices, edges, tally, command);
+            let done = command_on_sound(vertices, edges, tally, command);
             let answer = done.answer;
             let after = done.tally;
             if is_refused(answer) {

@@ -13,13 +13,13 @@ use Rattle.graph.specs.declared.Command.the-variants.{NewTd, NewEdge, Re
 use Rattle.graph.specs.declared.Done.{Done}
 use Rattle.graph.specs.declared.Tally.{Tally}
 use Rattle.graph.specs.Tables.{Lent, lent, usableLimit, vertexWords, statusWord, edgeWords, vertexRows, edgeRows, RELEASED, FINISHED, status, setStatus, clear}
-use Rattle.graph.specs.Answers.{Said, said, Outcome, outcome, unless, decided, no-vertex-rows}
+use Rattle.graph.specs.Answers.{Said, said, Outcome, outcome, unless, decided, no-vertex-rows, unsound-tables}
 use Rattle.graph.specs.Sound.{sound}
 use Rattle.graph.specs.Search.{Searchable}
 use Rattle.graph.specs.Commands.{openingRefusal, openedTables, callerRefusal, newTdRefusal, newEdgeRefusal, releaseRefusal, transferRefusal, startRefusal, stopRefusal, command}
 use Rattle.graph.proofs.SoundChecks.{sound-rows, searchable}
 use Rattle.graph.proofs.TestLaws.{both-true, both-false-left, both-false-right, not-of-true, not-of-false}
-use Rattle.graph.proofs.TakenLaws.{Runs, taken, taken-caller}
+use Rattle.graph.proofs.TakenLaws.{Runs, taken, taken-caller, unsound}
 use Rattle.graph.proofs.RefusalLaws.{unless-pass, unless-stop, decided-is}
 
 due : (s : Lent) (k : ℕ) (a : Said) (s' : Lent) → (k ≡ 0 → ⊥) → _≡_ {A = Outcome} (record { answer = Said.refused k 0; after = s }) (decided s k a s')
@@ -66,12 +66,12 @@ answered-full {n = n} {m = m} p h = le-ltb m n (omega arith)
 pub answered-free : {r n m : ℕ} → r ≡ n → m < r → ltb m n ≡ true
 answered-free {n = n} {m = m} p h = lt-ltb m n (omega arith)
 
--- what can be read once `is_sound` has answered yes
-pub status-there : (v e : List ℕ) (t : Tally) (k : ℕ) {r : Bool} → r ≡ sound (lent v e t) → not r ≡ false → k < t .made → vertexWords * k + statusWord < length v
-status-there v e t k p q lt = omega (arith, sound-rows (lent v e t) (answered-yes p q))
+-- what can be read of sound tables
+pub status-there : (v e : List ℕ) (t : Tally) (k : ℕ) → sound (lent v e t) ≡ true → k < t .made → vertexWords * k + statusWord < length v
+status-there v e t k p lt = omega (arith, sound-rows (lent v e t) p)
 
-pub edges-there : (v e : List ℕ) (t : Tally) {r : Bool} → r ≡ sound (lent v e t) → not r ≡ false → edgeWords * t .held ≤ length e
-edges-there v e t p q = sound-rows (lent v e t) (answered-yes p q) .1 .0
+pub edges-there : (v e : List ℕ) (t : Tally) → sound (lent v e t) ≡ true → edgeWords * t .held ≤ length e
+edges-there v e t p = sound-rows (lent v e t) p .1 .0
 
 -- the refusals that begin the chain of a caller: one of them is due, or none is and the command's own follow
 due-first : (b c d : Bool) (l n k : ℕ) (own : ℕ) → (unless b l (unless c n (unless d k 0)) ≡ 0 → ⊥) → unless b l (unless c n (unless d k 0)) ≡ unless b l (unless c n (unless d k own))
@@ -160,3 +160,7 @@ opened-is s p q h h' k = rw (h', h, k, p, q) refl
 -- a command by its case
 pub command-case : {o : Outcome} (s : Lent) {given c : Command} → given ≡ c → o ≡ command c s → o ≡ command given s
 command-case s p h = h ∙ ap (λ (x : Command). command x s) (sym p)
+
+-- a command that is refused at the door
+pub unsound-outcome : (r : Done) (v e : List ℕ) (t : Tally) (c : Command) → sound (lent v e t) ≡ false → (said (r .answer) ≡ Said.refused unsound-tables 0) × (r .tally ≡ t) → outcome r v e ≡ command c (lent v e t)
+unsound-outcome r v e t c p h = (λ i. record { answer = h .0 i; after = lent v e (h .1 i) }) ∙ sym (unsound c (lent v e t) p)

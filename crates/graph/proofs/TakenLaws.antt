@@ -1,7 +1,7 @@
 -- When a command is taken. Each of the six is decided by its chain of refusals, and the chain gives 0 exactly if the facts of
 -- `Taken` hold, which say what the tests find in words of numbers and paths.
 use Prim.Native.Nat.{ℕ, _<_}
-use mathlib.Core.Path.{_≡_, refl}
+use mathlib.Core.Path.{_≡_, refl, _∙_, ap}
 use mathlib.Core.Logic.{_⊎_, inl, inr, ⊎-elim, _↔_}
 use mathlib.Core.Bool.{Bool, true, false, cond}
 use native.Mathlib.Omega.{arith}
@@ -10,14 +10,14 @@ use borrow.Author.Tests.{lt-ltb, ltb-true, eq-eqb, ne-eqb, eqb-true, eqb-false, 
 use Rattle.graph.specs.declared.Command.{Command}
 use Rattle.graph.specs.declared.Command.the-variants.{NewTd, NewEdge, Release, Transfer, Start, Stop}
 use Rattle.graph.specs.Tables.{Lent, NEW, RELEASED, EXECUTING, FINISHED, vertexRows, edgeRows, status}
-use Rattle.graph.specs.Answers.{Said, accepted, decided}
+use Rattle.graph.specs.Answers.{Said, accepted, decided, unsound-tables}
 use Rattle.graph.specs.Sound.{sound}
 use Rattle.graph.specs.Paths.{holds, leadsInto, leadsOutOf, reaches}
 use Rattle.graph.specs.Commands.{hasStatus, withStatus, withVertex, withEdge, withMoved, stopped, callerRefusal, newTdRefusal, newEdgeRefusal, releaseRefusal, transferRefusal, startRefusal, stopRefusal, targetReaches, newTd, newEdge, release, transfer, start, stop, command}
 use Rattle.graph.specs.Demand2.{RowFree}
 use Rattle.graph.proofs.TestLaws.{both-true, both-left, both-right, either-cases, either-left, either-right, either-false, either-false-left, either-false-right, not-of-false}
 use Rattle.graph.proofs.SoundLaws.{Known, sound-fits}
-use Rattle.graph.proofs.RefusalLaws.{unless-none, unless-all, decided-taken, decided-is, decided-keeps, decided-either}
+use Rattle.graph.proofs.RefusalLaws.{unless-stop, unless-none, unless-all, decided-taken, decided-is, decided-keeps, decided-either}
 
 -- a command in its three parts: the refusal due, what it says and what it leaves if none is due
 abbrev pub refusal : Command → Lent → ℕ
@@ -77,6 +77,20 @@ after-refused c s h = rw (command-is c s) (decided-keeps s (refusal c s) (says c
 -- what holds before, and of what an accepted command leaves, holds afterwards
 pub after-either : (P : Lent → Type 0) (c : Command) (s : Lent) → P s → (refusal c s ≡ 0 → P (leaves c s)) → P (command c s .after)
 after-either P c s p q = rw (command-is c s) (decided-either P s (refusal c s) (says c s) (leaves c s) p q)
+
+-- unsound tables refuse every command first of all
+unsound-refusal : (c : Command) (s : Lent) → sound s ≡ false → refusal c s ≡ unsound-tables
+unfolding callerRefusal newTdRefusal newEdgeRefusal releaseRefusal transferRefusal startRefusal stopRefusal
+unsound-refusal (NewTd t place scope) s h = unless-stop _ _ h
+unsound-refusal (NewEdge t t1 t2) s h = unless-stop _ _ h
+unsound-refusal (Release t t') s h = unless-stop _ _ h
+unsound-refusal (Transfer t t') s h = unless-stop _ _ h
+unsound-refusal (Start t) s h = unless-stop _ _ h
+unsound-refusal (Stop t) s h = unless-stop _ _ h
+
+pub unsound : (c : Command) (s : Lent) → sound s ≡ false → command c s ≡ record { answer = Said.refused unsound-tables 0; after = s }
+unfolding decided
+unsound c s h = command-is c s ∙ ap (λ (n : ℕ). decided s n (says c s) (leaves c s)) (unsound-refusal c s h)
 
 -- the caller is a made vertex that is executing
 pub record Runs (s : Lent) (t : ℕ) : Type 0 where

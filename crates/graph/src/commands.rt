@@ -9,6 +9,7 @@ use crate::edges::drop_edges;
 use crate::edges::move_sources;
 use crate::refusals::ACCEPTED;
 use crate::refusals::NO_VERTEX_ROWS;
+use crate::refusals::UNSOUND_TABLES;
 use crate::refusals::new_edge_refusal;
 use crate::refusals::new_td_refusal;
 use crate::refusals::release_refusal;
@@ -27,8 +28,11 @@ use crate::rows::edge_rows;
 use crate::rows::make_row;
 use crate::rows::set_status;
 use crate::rows::vertex_rows;
+use crate::sound::is_sound;
 ghost use mathlib.Core.Path.{_≡_};
+ghost use mathlib.Core.Bool.{true};
 ghost use Rattle.graph.specs.Tables.{lent};
+ghost use Rattle.graph.specs.Sound.{sound};
 ghost use Rattle.graph.specs.Answers.{Said, said, outcome};
 ghost use Rattle.graph.specs.Commands.{opening, newTd, newEdge, release, transfer, start, stop, command};
 
@@ -65,7 +69,7 @@ pub fn open_by_value(vertices: &mut [u32], edges: &mut [u32], tally: Tally) -> D
 }
 
 // Makes the next vertex, new, with the place and scope handed in and its other words 0.
-pub fn new_td(
+fn new_td(
     vertices: &mut [u32],
     edges: &[u32],
     tally: Tally,
@@ -73,6 +77,7 @@ pub fn new_td(
     place: u32,
     scope: u32,
 ) -> Done
+    requires { ⌜ sound (lent (now vertices) (now edges) tally) ≡ true ⌝ }
     ensures { λ r. ⌜ outcome r (now (vertices .exit)) (now (edges .entry)) ≡ newTd (lent (now (vertices .entry)) (now (edges .entry)) tally) caller place scope ⌝ }
 {
     let refusal = new_td_refusal(vertices, edges, tally, caller);
@@ -92,7 +97,7 @@ pub fn new_td(
 }
 
 // Adds the edge from `source` to `target`; a finished source adds nothing and is accepted.
-pub fn new_edge(
+fn new_edge(
     vertices: &[u32],
     edges: &mut [u32],
     tally: Tally,
@@ -100,6 +105,7 @@ pub fn new_edge(
     source: u32,
     target: u32,
 ) -> Done
+    requires { ⌜ sound (lent (now vertices) (now edges) tally) ≡ true ⌝ }
     ensures { λ r. ⌜ outcome r (now (vertices .entry)) (now (edges .exit)) ≡ newEdge (lent (now (vertices .entry)) (now (edges .entry)) tally) caller source target ⌝ }
 {
     let refusal = new_edge_refusal(vertices, edges, tally, caller, source, target);
@@ -125,7 +131,8 @@ pub fn new_edge(
 }
 
 // Turns a new vertex released.
-pub fn release(vertices: &mut [u32], edges: &[u32], tally: Tally, caller: u32, vertex: u32) -> Done
+fn release(vertices: &mut [u32], edges: &[u32], tally: Tally, caller: u32, vertex: u32) -> Done
+    requires { ⌜ sound (lent (now vertices) (now edges) tally) ≡ true ⌝ }
     ensures { λ r. ⌜ outcome r (now (vertices .exit)) (now (edges .entry)) ≡ release (lent (now (vertices .entry)) (now (edges .entry)) tally) caller vertex ⌝ }
 {
     let refusal = release_refusal(vertices, edges, tally, caller, vertex);
@@ -140,7 +147,8 @@ pub fn release(vertices: &mut [u32], edges: &[u32], tally: Tally, caller: u32, v
 }
 
 // Gives each edge out of `caller` the source `vertex`, which is new and has no edge out.
-pub fn transfer(vertices: &[u32], edges: &mut [u32], tally: Tally, caller: u32, vertex: u32) -> Done
+fn transfer(vertices: &[u32], edges: &mut [u32], tally: Tally, caller: u32, vertex: u32) -> Done
+    requires { ⌜ sound (lent (now vertices) (now edges) tally) ≡ true ⌝ }
     ensures { λ r. ⌜ outcome r (now (vertices .entry)) (now (edges .exit)) ≡ transfer (lent (now (vertices .entry)) (now (edges .entry)) tally) caller vertex ⌝ }
 {
     let refusal = transfer_refusal(vertices, edges, tally, caller, vertex);
@@ -155,7 +163,8 @@ pub fn transfer(vertices: &[u32], edges: &mut [u32], tally: Tally, caller: u32, 
 }
 
 // Turns a released vertex with no edge into it executing.
-pub fn start(vertices: &mut [u32], edges: &[u32], tally: Tally, vertex: u32) -> Done
+fn start(vertices: &mut [u32], edges: &[u32], tally: Tally, vertex: u32) -> Done
+    requires { ⌜ sound (lent (now vertices) (now edges) tally) ≡ true ⌝ }
     ensures { λ r. ⌜ outcome r (now (vertices .exit)) (now (edges .entry)) ≡ start (lent (now (vertices .entry)) (now (edges .entry)) tally) vertex ⌝ }
 {
     let refusal = start_refusal(vertices, edges, tally, vertex);
@@ -170,7 +179,8 @@ pub fn start(vertices: &mut [u32], edges: &[u32], tally: Tally, vertex: u32) -> 
 }
 
 // Finishes `caller` and drops its edges out.
-pub fn stop(vertices: &mut [u32], edges: &mut [u32], tally: Tally, caller: u32) -> Done
+fn stop(vertices: &mut [u32], edges: &mut [u32], tally: Tally, caller: u32) -> Done
+    requires { ⌜ sound (lent (now vertices) (now edges) tally) ≡ true ⌝ }
     ensures { λ r. ⌜ outcome r (now (vertices .exit)) (now (edges .exit)) ≡ stop (lent (now (vertices .entry)) (now (edges .entry)) tally) caller ⌝ }
 {
     let refusal = stop_refusal(vertices, edges, tally, caller);
@@ -196,6 +206,22 @@ pub fn command_by_value(
     tally: Tally,
     given: Command,
 ) -> Done
+    ensures { λ r. ⌜ outcome r (now (vertices .exit)) (now (edges .exit)) ≡ command given (lent (now (vertices .entry)) (now (edges .entry)) tally) ⌝ }
+{
+    if !is_sound(vertices, edges, tally) {
+        return refused(UNSOUND_TABLES, tally);
+    }
+    command_on_sound(vertices, edges, tally, given)
+}
+
+// The same on tables that are known to be sound.
+pub fn command_on_sound(
+    vertices: &mut [u32],
+    edges: &mut [u32],
+    tally: Tally,
+    given: Command,
+) -> Done
+    requires { ⌜ sound (lent (now vertices) (now edges) tally) ≡ true ⌝ }
     ensures { λ r. ⌜ outcome r (now (vertices .exit)) (now (edges .exit)) ≡ command given (lent (now (vertices .entry)) (now (edges .entry)) tally) ⌝ }
 {
     match given {

@@ -1,5 +1,6 @@
-// The refusals: their numbers, and for each call the first one that is due. `specs/Answers.antt` has the same list of numbers for the
-// definitions; the contracts hold the two together.
+// The refusals: their numbers, and for each command on sound tables the first one that is due. Unsound ones are refused at the door
+// (`commands::command_by_value`, or a step). `specs/Answers.antt` has the same list of numbers for the definitions; the contracts hold the
+// two together.
 use crate::Tally;
 use crate::edges::is_held;
 use crate::edges::leads;
@@ -14,11 +15,12 @@ use crate::rows::TARGET;
 use crate::rows::VERTEX_WORDS;
 use crate::rows::edge_rows;
 use crate::rows::vertex_rows;
-use crate::sound::is_sound;
 ghost use mathlib.Core.Path.{_≡_};
+ghost use mathlib.Core.Bool.{true};
 ghost use lib.Dec.{eqb};
 ghost use Rattle.graph.specs.Tests.{either};
 ghost use Rattle.graph.specs.Tables.{lent, NEW, RELEASED};
+ghost use Rattle.graph.specs.Sound.{sound};
 ghost use Rattle.graph.specs.Paths.{reaches};
 ghost use Rattle.graph.specs.Search.{Searchable};
 ghost use Rattle.graph.specs.Commands.{callerRefusal, newTdRefusal, newEdgeRefusal, releaseRefusal, transferRefusal, startRefusal, stopRefusal};
@@ -61,14 +63,12 @@ pub const TRANSFER_NOT_NEW: u32 = 37;
 
 pub const TRANSFER_HAS_EDGE_OUT: u32 = 38;
 
-// 12, 20 and 30 of a command of `caller` that names `a` and `b` besides.
+// 20 and 30 of a command of `caller` that names `a` and `b` besides.
 fn caller_refusal(vertices: &[u32], edges: &[u32], tally: Tally, caller: u32, a: u32, b: u32) -> u32
+    requires { ⌜ sound (lent (now vertices) (now edges) tally) ≡ true ⌝ }
     ensures { λ r. ⌜ r ≡ callerRefusal (lent (now (vertices .entry)) (now (edges .entry)) tally) caller a b 0 ⌝ }
 {
     let made = tally.made;
-    if !is_sound(vertices, edges, tally) {
-        return UNSOUND_TABLES;
-    }
     if made <= caller {
         return NO_SUCH_VERTEX;
     }
@@ -84,8 +84,9 @@ fn caller_refusal(vertices: &[u32], edges: &[u32], tally: Tally, caller: u32, a:
     ACCEPTED
 }
 
-// newTd: 12, 20, 30, 31.
+// newTd: 20, 30, 31.
 pub fn new_td_refusal(vertices: &[u32], edges: &[u32], tally: Tally, caller: u32) -> u32
+    requires { ⌜ sound (lent (now vertices) (now edges) tally) ≡ true ⌝ }
     ensures { λ r. ⌜ r ≡ newTdRefusal (lent (now (vertices .entry)) (now (edges .entry)) tally) caller ⌝ }
 {
     let first = caller_refusal(vertices, edges, tally, caller, caller, caller);
@@ -119,7 +120,7 @@ fn closes_cycle(edges: &[u32], held: usize, source: u32, target: u32) -> bool
     reaches(edges, held, target, source)
 }
 
-// newEdge: 12, 20, 30, 33, then nothing for a finished source, 34, 35, 32.
+// newEdge: 20, 30, 33, then nothing for a finished source, 34, 35, 32.
 pub fn new_edge_refusal(
     vertices: &[u32],
     edges: &[u32],
@@ -128,6 +129,7 @@ pub fn new_edge_refusal(
     source: u32,
     target: u32,
 ) -> u32
+    requires { ⌜ sound (lent (now vertices) (now edges) tally) ≡ true ⌝ }
     ensures { λ r. ⌜ r ≡ newEdgeRefusal (lent (now (vertices .entry)) (now (edges .entry)) tally) caller source target ⌝ }
 {
     let held = tally.held as usize;
@@ -153,7 +155,7 @@ pub fn new_edge_refusal(
     ACCEPTED
 }
 
-// release: 12, 20, 30, 36.
+// release: 20, 30, 36.
 pub fn release_refusal(
     vertices: &[u32],
     edges: &[u32],
@@ -161,6 +163,7 @@ pub fn release_refusal(
     caller: u32,
     vertex: u32,
 ) -> u32
+    requires { ⌜ sound (lent (now vertices) (now edges) tally) ≡ true ⌝ }
     ensures { λ r. ⌜ r ≡ releaseRefusal (lent (now (vertices .entry)) (now (edges .entry)) tally) caller vertex ⌝ }
 {
     let first = caller_refusal(vertices, edges, tally, caller, vertex, vertex);
@@ -173,7 +176,7 @@ pub fn release_refusal(
     ACCEPTED
 }
 
-// transfer: 12, 20, 30, 37, 38, 35.
+// transfer: 20, 30, 37, 38, 35.
 pub fn transfer_refusal(
     vertices: &[u32],
     edges: &[u32],
@@ -181,6 +184,7 @@ pub fn transfer_refusal(
     caller: u32,
     vertex: u32,
 ) -> u32
+    requires { ⌜ sound (lent (now vertices) (now edges) tally) ≡ true ⌝ }
     ensures { λ r. ⌜ r ≡ transferRefusal (lent (now (vertices .entry)) (now (edges .entry)) tally) caller vertex ⌝ }
 {
     let held = tally.held as usize;
@@ -200,14 +204,12 @@ pub fn transfer_refusal(
     ACCEPTED
 }
 
-// start: 12, 20, 22, 39, 23, 21.
+// start: 20, 22, 39, 23, 21.
 pub fn start_refusal(vertices: &[u32], edges: &[u32], tally: Tally, vertex: u32) -> u32
+    requires { ⌜ sound (lent (now vertices) (now edges) tally) ≡ true ⌝ }
     ensures { λ r. ⌜ r ≡ startRefusal (lent (now (vertices .entry)) (now (edges .entry)) tally) vertex ⌝ }
 {
     let made = tally.made;
-    if !is_sound(vertices, edges, tally) {
-        return UNSOUND_TABLES;
-    }
     if made <= vertex {
         return NO_SUCH_VERTEX;
     }
@@ -227,8 +229,9 @@ pub fn start_refusal(vertices: &[u32], edges: &[u32], tally: Tally, vertex: u32)
     ACCEPTED
 }
 
-// stop: 12, 20, 30.
+// stop: 20, 30.
 pub fn stop_refusal(vertices: &[u32], edges: &[u32], tally: Tally, caller: u32) -> u32
+    requires { ⌜ sound (lent (now vertices) (now edges) tally) ≡ true ⌝ }
     ensures { λ r. ⌜ r ≡ stopRefusal (lent (now (vertices .entry)) (now (edges .entry)) tally) caller ⌝ }
 {
     caller_refusal(vertices, edges, tally, caller, caller, caller)

@@ -1,6 +1,6 @@
 -- Each return by the law of its path.
 use borrow.Author.Needs.{needs}
-use Rattle.engine.proofs.StepIs.{refused-path, job-ready, job-path, turned-path, taken-ready, taken-path}
+use Rattle.engine.proofs.StepIs.{refused-path, job-ready, job-path, command-ready, turned-path, taken-ready, taken-path}
 use Rattle.engine.proofs.steps.do_due.Statement.{statement}
 use Rattle.engine.proofs.steps.do_due.Tie as tie
 
@@ -11,22 +11,26 @@ store-requires c κs = job-ready _ _ _ _ _ _ _ _ (c .before .before .next2 .give
 counted-requires : tie.Need-counted-requires
 counted-requires c κs = job-ready _ _ _ _ _ _ _ _ (c .before .before .before .before .before .next2 .given .1) (c .before .before .before .before .before .before .before .before .before .pre) .1
 
+-- a command: sound tables
+command-on-sound-requires : tie.Need-command-on-sound-requires
+command-on-sound-requires c κs = command-ready _ _ _ _ _ _ _ (c .before .before .before .next3 .given .1) (c .before .before .before .before .before .before .before .pre) .2
+
 -- a command that is refused
 returns : tie.Need-returns
 returns c =
-    turned-path _ _ _ _ _ _ _ (c .before .before .before .before .before .before .before .before .before .before .before .before .next3 .given .1) _ _ (c .before .before .before .before .before .before .before .before .command-by-value .result)
-    (c .before .before .before .before .before .before .before .before .command-by-value .ensures) _ (c .before .before .is-refused .ensures) _ (c .before .if1 .taken) (c .as-step .ensures)
+    turned-path _ _ _ _ _ _ _ (c .before .before .before .before .before .before .before .before .before .before .before .before .next3 .given .1) _ _ (c .before .before .before .before .before .before .before .before .command-on-sound .result)
+    (c .before .before .before .before .before .before .before .before .command-on-sound .ensures) _ (c .before .before .is-refused .ensures) _ (c .before .if1 .taken) (c .as-step .ensures)
 
 -- a command that is taken
 store-requires-2 : tie.Need-store-requires-2
 store-requires-2 c κs =
-    taken-ready _ _ _ _ _ _ _ (c .before .before .before .before .before .before .before .before .before .before .before .before .next3 .given .1) _ _ (c .before .before .before .before .before .before .before .before .command-by-value .result)
-    (c .before .before .before .before .before .before .before .before .command-by-value .ensures) _ (c .before .before .is-refused .ensures) (c .before .before .before .before .before .before .before .before .before .before .before .before .before .before .before .before .pre) (c .before .if1 .left) .0
+    taken-ready _ _ _ _ _ _ _ (c .before .before .before .before .before .before .before .before .before .before .before .before .next3 .given .1) _ _ (c .before .before .before .before .before .before .before .before .command-on-sound .result)
+    (c .before .before .before .before .before .before .before .before .command-on-sound .ensures) _ (c .before .before .is-refused .ensures) (c .before .before .before .before .before .before .before .before .before .before .before .before .before .before .before .before .pre) (c .before .if1 .left) .0
 
 counted-requires-2 : tie.Need-counted-requires-2
 counted-requires-2 c κs =
-    taken-ready _ _ _ _ _ _ _ (c .before .before .before .before .before .before .before .before .before .before .before .before .before .before .before .before .next3 .given .1) _ _ (c .before .before .before .before .before .before .before .before .before .before .before .before .command-by-value .result)
-    (c .before .before .before .before .before .before .before .before .before .before .before .before .command-by-value .ensures) _ (c .before .before .before .before .before .before .is-refused .ensures) (c .before .before .before .before .before .before .before .before .before .before .before .before .before .before .before .before .before .before .before .before .pre) (c .before .before .before .before .before .if1 .left) .1
+    taken-ready _ _ _ _ _ _ _ (c .before .before .before .before .before .before .before .before .before .before .before .before .before .before .before .before .next3 .given .1) _ _ (c .before .before .before .before .before .before .before .before .before .before .before .before .command-on-sound .result)
+    (c .before .before .before .before .before .before .before .before .before .before .before .before .command-on-sound .ensures) _ (c .before .before .before .before .before .before .is-refused .ensures) (c .before .before .before .before .before .before .before .before .before .before .before .before .before .before .before .before .before .before .before .before .pre) (c .before .before .before .before .before .if1 .left) .1
 
 -- a refusal
 returns-2 : tie.Need-returns-2
@@ -39,8 +43,8 @@ returns-3 c = job-path _ _ _ _ _ _ _ _ (c .before .before .before .before .befor
 -- a command
 returns-4 : tie.Need-returns-4
 returns-4 c =
-    taken-path _ _ _ _ _ _ _ (c .before .before .before .before .before .before .before .before .before .before .before .before .before .before .before .before .before .next3 .given .1) _ _ (c .before .before .before .before .before .before .before .before .before .before .before .before .before .command-by-value .result)
-    (c .before .before .before .before .before .before .before .before .before .before .before .before .before .command-by-value .ensures) _ (c .before .before .before .before .before .before .before .is-refused .ensures) _ _ _ (c .before .before .before .before .before .before .if1 .left)
+    taken-path _ _ _ _ _ _ _ (c .before .before .before .before .before .before .before .before .before .before .before .before .before .before .before .before .before .next3 .given .1) _ _ (c .before .before .before .before .before .before .before .before .before .before .before .before .before .command-on-sound .result)
+    (c .before .before .before .before .before .before .before .before .before .before .before .before .before .command-on-sound .ensures) _ (c .before .before .before .before .before .before .before .is-refused .ensures) _ _ _ (c .before .before .before .before .before .before .if1 .left)
     (c .before .as-step2 .ensures) (c .before .before .before .before .store2 .ensures) (c .counted2 .ensures)
 
 pub do-due-spec : {M : Type 1} → statement M
@@ -50,7 +54,7 @@ do-due-spec = tie.close (tie.spec
     store-requires
     counted-requires
     (λ c. search needs)
-    (λ c κs. search needs)
+    command-on-sound-requires
     (λ c κs. search needs)
     (λ c κs. search needs)
     (λ c. search needs)

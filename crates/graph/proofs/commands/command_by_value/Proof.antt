@@ -1,62 +1,25 @@
--- Each case is its command.
+-- Unsound tables are refused here; sound ones take the command as it stands.
 use borrow.Author.Needs.{needs}
-use Rattle.graph.specs.Commands.{command}
-use Rattle.graph.proofs.CallLaws.{command-case}
+use Rattle.graph.proofs.CallLaws.{answered-yes, answered-no, unsound-outcome}
 use Rattle.graph.proofs.commands.command_by_value.Statement.{statement}
 use Rattle.graph.proofs.commands.command_by_value.Tie as tie
 
 returns : tie.Need-returns
-unfolding command
-returns c = command-case _ (c .before .before .before .before .before .before .given .given .1) (c .before .before .new-td .ensures)
+returns c = unsound-outcome (c .refused .result) _ _ _ _ (answered-no (c .before .before .is-sound .ensures) (c .before .if1 .taken)) (c .refused .ensures)
+
+command-on-sound-requires : tie.Need-command-on-sound-requires
+command-on-sound-requires c κs = answered-yes (c .before .before .before .is-sound .ensures) (c .before .before .if1 .left)
 
 returns-2 : tie.Need-returns-2
-unfolding command
-returns-2 c = command-case _ (c .before .before .before .before .before .before .given2 .given .1) (c .before .before .new-edge .ensures)
-
-returns-3 : tie.Need-returns-3
-unfolding command
-returns-3 c = command-case _ (c .before .before .before .before .before .before .given3 .given .1) (c .before .before .release .ensures)
-
-returns-4 : tie.Need-returns-4
-unfolding command
-returns-4 c = command-case _ (c .before .before .before .before .before .before .given4 .given .1) (c .before .before .transfer .ensures)
-
-returns-5 : tie.Need-returns-5
-unfolding command
-returns-5 c = command-case _ (c .before .before .before .before .before .before .given5 .given .1) (c .before .before .start .ensures)
-
-returns-6 : tie.Need-returns-6
-unfolding command
-returns-6 c = command-case _ (c .before .before .before .before .before .before .before .before .given6 .given .1) (c .before .before .before .before .stop .ensures)
+returns-2 c = c .before .before .before .before .command-on-sound .ensures
 
 pub command-by-value-spec : {M : Type 1} → statement M
-command-by-value-spec = tie.close (tie.spec (λ c. search needs)
-    (λ c κs. search needs)
-    (λ c. search needs)
-    (λ c κs. search needs)
-    (λ c. search needs)
-    (λ c κs. search needs)
-    (λ c. search needs)
-    (λ c κs. search needs)
-    (λ c. search needs)
-    (λ c κs. search needs)
-    (λ c. search needs)
+command-by-value-spec = tie.close (tie.spec (λ c κs. search needs)
     (λ c κs. search needs)
     (λ c. search needs)
     (λ c. search needs)
     returns
+    command-on-sound-requires
     (λ c. search needs)
     (λ c. search needs)
-    returns-2
-    (λ c. search needs)
-    (λ c. search needs)
-    returns-3
-    (λ c. search needs)
-    (λ c. search needs)
-    returns-4
-    (λ c. search needs)
-    (λ c. search needs)
-    returns-5
-    (λ c. search needs)
-    (λ c. search needs)
-    returns-6)
+    returns-2)

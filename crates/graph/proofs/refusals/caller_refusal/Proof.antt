@@ -7,9 +7,7 @@ use Rattle.graph.proofs.refusals.caller_refusal.Tie as tie
 
 pub caller-refusal-spec : {M : Type 1} → statement M
 unfolding callerRefusal
-caller-refusal-spec = tie.close (tie.spec (λ c κs. search needs)
-    (λ c. search chain)
-    (λ c. search chain)
+caller-refusal-spec = tie.close (tie.spec (λ c. search chain)
     (λ c. search chain)
     (λ c. search chain)
     (λ c. search needs)

@@ -8,9 +8,7 @@ use Rattle.graph.proofs.refusals.start_refusal.Tie as tie
 
 pub start-refusal-spec : {M : Type 1} → statement M
 unfolding startRefusal leadsInto
-start-refusal-spec = tie.close (tie.spec (λ c κs. search needs)
-    (λ c. search chain)
-    (λ c. search chain)
+start-refusal-spec = tie.close (tie.spec (λ c. search chain)
     (λ c. search needs)
     (λ c. search needs)
     (λ c. search needs)
