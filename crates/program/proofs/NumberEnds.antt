@@ -1,7 +1,7 @@
 -- Where a number ends, and which bytes of a program stand inside one: one law for each turn of the loops that look for it.
 use Prim.Native.Nat.{ℕ, zero, suc, _+_, _-_, _*_, _/_, _%_, _^_, _<_, _≤_}
-use mathlib.Core.Path.{_≡_, refl, ap, _∙_}
-use mathlib.Core.Bool.{Bool, true, false, cond}
+use mathlib.Core.Path.{_≡_, refl, sym, ap, subst, _∙_}
+use mathlib.Core.Bool.{Bool, true, false, not, Bool·beq, cond}
 use mathlib.Core.List.{List, [], _∷_, _++_}
 use native.Mathlib.Nat.{pow-suc}
 use native.Mathlib.Numerals.{add-one}
@@ -9,11 +9,14 @@ use native.Mathlib.Omega.{arith}
 use lib.Dec.{eqb, ltb, leb}
 use lib.ListN.{length, getD, drop, drop-of-length-le}
 use lib.Seq.{drop-cons}
-use borrow.Author.Tests.{lt-ltb, le-ltb, ltb-true, ltb-false}
+use borrow.Author.Tests.{lt-ltb, le-ltb, ltb-true, ltb-false, lt-leb, ne-eqb}
 use Rattle.program.specs.Limits.{numberBytes, jobLimit}
-use Rattle.program.specs.Bytes.{jobByte, topBit, groupBytes, encodeNumber, numberSize}
+use Rattle.program.specs.Trees.{Body, largest}
+use Rattle.program.specs.Bytes.{jobByte, topBit, groupBytes, encodeNumber, encode, numberSize, size}
+use Rattle.program.specs.Claims.{Encoding, encoding}
 use Rattle.program.specs.Progress.{numberEnd, inNumber}
 use Rattle.program.proofs.NumberLaws.{one-byte, more-bytes}
+use Rattle.program.proofs.StartLaws.{starts-low}
 
 -- the end of a number, by its first byte
 end-empty : numberEnd [] ≡ 0
@@ -92,6 +95,86 @@ pub inside-more :
 unfolding inNumber
 inside-more xs i inside h = rw (add-one i, h) refl
 
--- all bytes before the place were passed
-pub inside-end : (xs : List ℕ) (n i : ℕ) (inside : Bool) → i ≤ n → n ≤ i → inside ≡ inNumber xs i → inside ≡ inNumber xs n
-inside-end xs n i inside le ge h = h ∙ ap (λ (k : ℕ). inNumber xs k) (omega arith)
+-- behind a byte that is 1 one stands inside a number where that byte does not
+inside-job : (xs : List ℕ) (i : ℕ) → getD xs i 0 ≡ jobByte → inNumber xs (suc i) ≡ not (inNumber xs i)
+unfolding inNumber
+inside-job xs i e = ap (λ (x : ℕ). cond (inNumber xs i) (leb topBit x) (eqb x jobByte)) e ∙ go (inNumber xs i)
+  where
+    go : (t : Bool) → cond t (leb topBit jobByte) (eqb jobByte jobByte) ≡ not t
+    go true = refl
+    go false = refl
+
+-- behind any other byte of a program, where that byte has its top bit set
+inside-other :
+    (b : Body) (i : ℕ) → largest b ≤ jobLimit → i < size b → (getD (encode b) i 0 ≡ jobByte → ⊥)
+    → inNumber (encode b) (suc i) ≡ leb topBit (getD (encode b) i 0)
+unfolding inNumber
+inside-other b i l lt other = go (inNumber (encode b) i) refl
+  where
+    x : ℕ
+    x = getD (encode b) i 0
+
+    go : (t : Bool) → inNumber (encode b) i ≡ t → cond (inNumber (encode b) i) (leb topBit x) (eqb x jobByte) ≡ leb topBit x
+    go true e = ap (λ (t : Bool). cond t (leb topBit x) (eqb x jobByte)) e
+    go false e =
+        ap (λ (t : Bool). cond t (leb topBit x) (eqb x jobByte)) e
+        ∙ ne-eqb x jobByte other
+        ∙ sym (lt-leb topBit x (starts-low b i l lt e))
+
+-- The byte at i tells whether the one at a place stands inside a number: as it does itself, or where `turned` the other way round.
+pub record ToldBy (xs : List ℕ) (place i : ℕ) (turned : Bool) : Type 0 where
+  pub told : inNumber xs place ≡ cond turned (not (inNumber xs i)) (inNumber xs i)
+
+-- the byte at the place does
+pub told-here : {xs : List ℕ} {place : ℕ} → ToldBy xs place place false
+told-here = record { told = refl }
+
+-- one byte back that is 1
+pub told-before :
+    {xs : List ℕ} {place i : ℕ} {turned : Bool} → ToldBy xs place i turned → 0 < i → getD xs (i - 1) 0 ≡ jobByte
+    → ToldBy xs place (i - 1) (not turned)
+told-before {xs} {place} {i} {turned} h lt e =
+    let q : i ≡ suc (i - 1) = omega arith in
+    record {
+      told =
+          h .told
+          ∙ ap (λ (t : Bool). cond turned (not t) t) (ap (inNumber xs) q ∙ inside-job xs (i - 1) e)
+          ∙ go turned (inNumber xs (i - 1));
+    }
+  where
+    go : (s t : Bool) → cond s (not (not t)) (not t) ≡ cond (not s) (not t) t
+    go true true = refl
+    go true false = refl
+    go false true = refl
+    go false false = refl
+
+-- the byte before is any other
+pub told-other :
+    {xs : List ℕ} {place i : ℕ} {turned : Bool} → ToldBy xs place i turned → Encoding xs → 0 < i → i ≤ length xs
+    → (getD xs (i - 1) 0 ≡ jobByte → ⊥) → not (Bool·beq turned (leb topBit (getD xs (i - 1) 0))) ≡ inNumber xs place
+unfolding size
+told-other {xs} {place} {i} {turned} h (encoding b fits same) lt le other =
+    let q : i ≡ suc (i - 1) = omega arith in
+    let long : length xs ≡ length (encode b) = ap length same in
+    let last : inNumber xs i ≡ leb topBit (getD xs (i - 1) 0)
+    = ap (inNumber xs) q
+    ∙ subst (λ (l : List ℕ). inNumber l (suc (i - 1)) ≡ leb topBit (getD l (i - 1) 0)) (sym same)
+    (inside-other b (i - 1) (fits .numbers) (omega arith) (subst (λ (l : List ℕ). getD l (i - 1) 0 ≡ jobByte → ⊥) same other)) in
+    go turned (leb topBit (getD xs (i - 1) 0)) ∙ ap (λ (t : Bool). cond turned (not t) t) (sym last) ∙ sym (h .told)
+  where
+    go : (s t : Bool) → not (Bool·beq s t) ≡ cond s (not t) t
+    go true true = refl
+    go true false = refl
+    go false true = refl
+    go false false = refl
+
+-- no byte is before
+pub told-first :
+    {xs : List ℕ} {place i : ℕ} {turned : Bool} → ToldBy xs place i turned → i ≤ 0 → turned ≡ inNumber xs place
+told-first {xs} {place} {i} {turned} h le =
+    let q : i ≡ 0 = omega arith in
+    go turned ∙ ap (λ (t : Bool). cond turned (not t) t) (inside-none xs ∙ ap (inNumber xs) (sym q)) ∙ sym (h .told)
+  where
+    go : (s : Bool) → s ≡ cond s (not false) false
+    go true = refl
+    go false = refl

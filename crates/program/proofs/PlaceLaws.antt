@@ -15,7 +15,7 @@ use Rattle.program.specs.Bytes.{encode, size}
 use Rattle.program.specs.Reader.{Reading, program, refusal, reading}
 use Rattle.program.specs.Answers.{Said, loads, refused, told, Stands, nothing-starts}
 use Rattle.program.specs.Located.{Code, locate, codeAt, head, found, standsIn, itemAt, isSome, startsIn, startsAt}
-use Rattle.program.specs.Claims.{Fits, Loadable}
+use Rattle.program.specs.Claims.{Fits, Loadable, Encoding, encoding}
 use Rattle.program.specs.Progress.{Holds, holds, Shows, inNumber}
 use Rattle.program.proofs.Exactness.{reading-sound}
 use Rattle.program.proofs.LocatedLaws.{item-stands}
@@ -37,6 +37,13 @@ loads-told bytes c is = go (reading bytes) refl is
     go : (r : Reading) → reading bytes ≡ r → loads c ≡ told r → Loads bytes
     go (program b) e is = let (same, fits) = reading-sound bytes b e in loaded b e same (ap length same) fits
     go (refusal n p) e is = absurd (subst Loading is tt)
+
+-- what `in_number` asks
+pub loads-encoding : (bytes : List ℕ) (c : Counts) → loads c ≡ told (reading bytes) → Encoding bytes
+loads-encoding bytes c is = go (loads-told bytes c is)
+  where
+    go : Loads bytes → Encoding bytes
+    go (loaded b e same long fits) = encoding b (fits .fits) same
 
 -- in a program that is read, something starts where the search finds code
 starts-read : (bytes : List ℕ) (b : Body) (p : ℕ) → reading bytes ≡ program b → startsAt bytes p ≡ isSome (codeAt (locate 0 b) p)

@@ -2,17 +2,18 @@
 --     code-bytes     what starts at a place is a body's code, laid out from there, and the body's bytes stand there
 --     starts         code starts at each byte of a program outside its numbers, and at none inside a number,
 --     starts-within  and nowhere behind the last
+--     starts-low     a byte outside the numbers has its top bit clear
 -- The bytes are read one by one, as the definition's test does: the state tells whether the next byte stands inside a number.
 use Prim.Native.Nat.{ℕ, zero, suc, pred, _+_, _-_, _*_, _/_, _%_, _^_, _<_, _≤_}
 use mathlib.Core.Path.{_≡_, sym, refl, _∙_, ap, subst}
-use mathlib.Core.Bool.{Bool, true, false, not, cond}
+use mathlib.Core.Bool.{Bool, true, false, not, cond, true≢false}
 use mathlib.Core.List.{List, [], _∷_, _++_, append-nil, append-assoc}
 use mathlib.Core.Option.{Option, none, some, Option·none-ne-some}
-use native.Mathlib.Nat.{le-of-suc-le-suc, lt-of-le-of-lt, pow-suc}
+use native.Mathlib.Nat.{le-of-suc-le-suc, lt-of-le-of-lt, pow-suc, add-zero}
 use native.Mathlib.Omega.{arith}
 use lib.Dec.{eqb, ltb, leb, lit<}
 use lib.ListN.{length, getD, take, drop, length-append}
-use lib.Seq.{drop-append-seam, take-suc, take-append-le, take-append-add}
+use lib.Seq.{drop-append-seam, take-suc, take-append-le, take-append-add, getD-drop}
 use borrow.Author.Tests.{eqb-true, eq-eqb, lt-ltb, ltb-true, ltb-false, le-leb, lt-leb}
 use Rattle.program.specs.Limits.{numberBytes, jobLimit}
 use Rattle.program.specs.Trees.{Body, end, job, async, finish, fork, depth, largest}
@@ -299,3 +300,28 @@ in-number-missing b p l h = in-number-after (encode b) p (omega arith) ∙ start
 pub starts :
     (b : Body) (p : ℕ) → largest b ≤ jobLimit → p < size b → not (inNumber (encode b) p) ≡ isSome (codeAt (locate 0 b) p)
 starts b p l h = ap not (in-number-missing b p l h) ∙ missing-not (codeAt (locate 0 b) p)
+
+-- a body's first byte has its top bit clear
+first-low : (b : Body) (rest : List ℕ) → getD (encode b ++ rest) 0 0 < topBit
+unfolding encode
+first-low end rest = omega arith
+first-low (job n r) rest = omega arith
+first-low (async b r) rest = omega arith
+first-low (finish b r) rest = omega arith
+first-low (fork b c r) rest = omega arith
+
+-- so has every byte outside the numbers
+pub starts-low :
+    (b : Body) (p : ℕ) → largest b ≤ jobLimit → p < size b → inNumber (encode b) p ≡ false → getD (encode b) p 0 < topBit
+unfolding missing
+starts-low b p l h out = go (codeAt (locate 0 b) p) refl (sym (in-number-missing b p l h) ∙ out)
+  where
+    low : (c : Code) → Placed b p c → getD (encode b) p 0 < topBit
+    low c (placed b' rest at is deep large) =
+        subst (λ (x : ℕ). x < topBit)
+        (sym (ap (λ (l : List ℕ). getD l 0 0) is) ∙ getD-drop p (encode b) 0 0 ∙ ap (λ (k : ℕ). getD (encode b) k 0) (add-zero p))
+        (first-low b' rest)
+
+    go : (x : Option Code) → codeAt (locate 0 b) p ≡ x → missing x ≡ false → getD (encode b) p 0 < topBit
+    go none e m = absurd (true≢false m)
+    go (some c) e m = low c (code-bytes b p c e)

@@ -10,6 +10,7 @@ ghost use lib.Dec.{eqb, leb};
 ghost use lib.ListN.{length, replicate};
 ghost use Rattle.program.specs.Bytes.{jobByte, topBit};
 ghost use Rattle.program.specs.Located.{startsAt, Marked};
+ghost use Rattle.program.specs.Claims.{Encoding};
 ghost use Rattle.program.specs.Progress.{inNumber, Outside};
 
 // Whether an item or an end byte starts at a place of a program.
@@ -79,14 +80,21 @@ fn still_inside(inside: bool, byte: u8) -> bool
     byte == JOB
 }
 
-// The byte at a place stands inside a number, of a program that is read from its first byte.
+// The byte at a place stands inside a number of a program. The bytes before tell it, from the last on: one with its top bit set has another
+// of its number behind it, and one that is 1 is a job's first byte, unless it is itself the last of a number.
 fn in_number(program: &[u8], place: usize) -> bool
-    requires { ⌜ place ≤ length (now program) ⌝ }
+    requires { ⌜ Encoding (now program) × (place ≤ length (now program)) ⌝ }
     ensures { λ r. ⌜ r ≡ inNumber (now (program .entry)) place ⌝ }
 {
-    let mut inside = false;
-    for i in 0..place {
-        inside = still_inside(inside, program[i]);
+    let mut before = place;
+    let mut turned = false;
+    while 0 < before {
+        let byte = program[before - 1];
+        if byte != JOB {
+            return turned != (TOP_BIT <= byte);
+        }
+        before -= 1;
+        turned = !turned;
     }
-    inside
+    turned
 }
