@@ -29,7 +29,7 @@ use Rattle.machine.specs.Demand2.{Due}
 use Rattle.machine.proofs.LookLaws.{lowest-none, lowest-is, late-none}
 use Rattle.engine.specs.declared.Due as of-code
 use Rattle.engine.specs.Answers.{dueOf}
-use Rattle.engine.specs.Private.{DueThere, Blocked, takes}
+use Rattle.engine.specs.Private.{DueThere, Blocked, CannotBelow, takes}
 use Rattle.engine.proofs.CandidateLaws.{mayStep, candidate-due, can-takes}
 
 -- TESTS
@@ -86,12 +86,8 @@ pub takes-case : (s : Lent) {next d : of-code.Due} {b : Bool} → next ≡ d →
 takes-case s p h = h ∙ ap (λ (x : of-code.Due). takes s (dueOf x)) (sym p)
 
 -- THE LOOK
--- the first k vertices cannot step
-abbrev pub NoneBelow : List ℕ → Lent → ℕ → Type 0
-NoneBelow bytes s k = (u : ℕ) → u < k → canStep bytes s u ≡ false
-
--- nor can the first k + 1
-pub none-more : (bytes : List ℕ) (s : Lent) (k : ℕ) → NoneBelow bytes s k → canStep bytes s k ≡ false → NoneBelow bytes s (k + 1)
+-- the first k vertices cannot step, nor can the first k + 1
+pub none-more : (bytes : List ℕ) (s : Lent) (k : ℕ) → CannotBelow bytes s k → canStep bytes s k ≡ false → CannotBelow bytes s (k + 1)
 none-more bytes s k h q =
     rw (add-one k)
     (λ u lt. ⊎-elim (λ e. subst (λ (x : ℕ). canStep bytes s x ≡ false) (sym e) q) (λ l. h u l) (below-suc lt))
@@ -110,12 +106,12 @@ unfolding chosen
 chosen-late bytes s late = rw (late-none bytes s late) refl
 
 -- this one can, and none below it
-pub chosen-this : (bytes : List ℕ) (s : Lent) (k : ℕ) → k < s .made → NoneBelow bytes s k → canStep bytes s k ≡ true → choose k ≡ chosen (lowest bytes s)
+pub chosen-this : (bytes : List ℕ) (s : Lent) (k : ℕ) → k < s .made → CannotBelow bytes s k → canStep bytes s k ≡ true → choose k ≡ chosen (lowest bytes s)
 unfolding chosen
 chosen-this bytes s k lt h can = rw (lowest-is bytes s k lt can h) refl
 
 -- none can
-pub chosen-none : (bytes : List ℕ) (s : Lent) (k : ℕ) → s .made ≤ k → NoneBelow bytes s k → no-choice ≡ chosen (lowest bytes s)
+pub chosen-none : (bytes : List ℕ) (s : Lent) (k : ℕ) → s .made ≤ k → CannotBelow bytes s k → no-choice ≡ chosen (lowest bytes s)
 unfolding chosen
 chosen-none bytes s k le h = rw (lowest-none bytes s (λ u lt. h u (omega arith))) refl
 

@@ -3,6 +3,10 @@
 --
 --     passed-by, due-here                      a vertex that may not step, and what is due of another
 --     turned-down, taken-up, none-left         its step is refused, or accepted; all vertices are looked at
+--     idle-more, idle-end, idle-below          the first vertex that executes or is released: none below it can step
+--     due-executing                            what is due of a vertex that executes
+--     sound-there, cannot-there,
+--     attempted-there                          tables equal to those at entry
 --     finished-end                             all of them are finished
 --     used-found, used-none, used-refused      how a run ends whose budget is used, by what the look finds
 --     unsound-run, late-run, run-starts        a run at its start
@@ -12,6 +16,7 @@ use mathlib.Core.Path.{_≡_, refl, sym, _∙_, ap, subst}
 use mathlib.Core.Bool.{Bool, true, false, not}
 use mathlib.Core.List.{List}
 use mathlib.Core.Option.{Option, none, some}
+use mathlib.Core.Logic.{inl, ⊎-elim}
 use native.Mathlib.Omega.{arith}
 use native.Mathlib.Numerals.{add-one}
 use lib.Dec.{eqb}
@@ -20,16 +25,16 @@ use borrow.Author.Tests.{lt-ltb, le-ltb, not-true, not-false}
 use Rattle.graph.specs.Tests.{every}
 use Rattle.graph.specs.declared.Tally.{Tally}
 use Rattle.graph.specs.declared.Refusal.{Refusal}
-use Rattle.graph.specs.Tables.{Lent, lent, FINISHED, vertexWords, status}
+use Rattle.graph.specs.Tables.{Lent, lent, RELEASED, EXECUTING, FINISHED, vertexWords, status}
 use Rattle.graph.specs.Sound.{sound}
-use Rattle.graph.proofs.TestLaws.{both-true, both-false-left, both-false-right, at-end}
+use Rattle.graph.proofs.TestLaws.{below-suc, both-true, both-false-left, both-false-right, at-end}
 use Rattle.graph.proofs.SoundChecks.{sound-rows}
 use Rattle.machine.specs.Answers.{Said, accepted, unsound-tables}
 use Rattle.machine.specs.Stepping.{stepLimit, steppable, step}
 use Rattle.machine.specs.Running.{canStep, lowest, chosen, choose, no-choice, choice-refused, Ending, spent, refused, allFinished, RunOutcome, ended, runOn, run}
 use Rattle.machine.specs.Demand2.{Due, due}
 use Rattle.machine.specs.Traces.{Stepped, Ran}
-use Rattle.machine.proofs.LookLaws.{step-sound, lowest-none, lowest-is, run-turned, run-goes, rests, used-up, goes-on}
+use Rattle.machine.proofs.LookLaws.{step-sound, idle-cannot, lowest-none, lowest-is, run-turned, run-goes, rests, used-up, goes-on}
 use Rattle.machine.proofs.GhostLaws.{clash}
 use Rattle.machine.proofs.StepDemand2.{step-keeps}
 use Rattle.engine.specs.declared.Done.{Done}
@@ -38,9 +43,10 @@ use Rattle.engine.specs.declared.Attempt.the-variants as of-attempt
 use Rattle.engine.specs.declared.Lowest.{Lowest}
 use Rattle.engine.specs.declared.Lowest.the-variants as of-lowest
 use Rattle.engine.specs.Answers.{said, choiceOf}
-use Rattle.engine.specs.Private.{DueThere, Blocked, Attempted, atRest, endsWith, whenUsed}
+use Rattle.engine.specs.Private.{DueThere, Blocked, CannotBelow, FirstLive, Attempted, atRest, endsWith, whenUsed}
+use Rattle.engine.proofs.DueLaws.{due-there}
 use Rattle.engine.proofs.CandidateLaws.{mayStep, barred, candidate-due}
-use Rattle.engine.proofs.LowestLaws.{NoneBelow, none-more}
+use Rattle.engine.proofs.LowestLaws.{none-more}
 
 -- all vertices were looked at, and are finished
 pub finished-end :
@@ -55,8 +61,8 @@ same-lent t p q = cc
 -- a vertex that may not step is passed by
 pub passed-by :
     (bytes v₀ e₀ v marks : List ℕ) (t : Tally) (k : ℕ) {r : Bool} → sound (lent v₀ e₀ t) ≡ true → v ≡ v₀ → k < t .made
-    → Blocked e₀ (t .held) marks → r ≡ mayStep (status v k) (getD marks k 0) → not r ≡ true → NoneBelow bytes (lent v₀ e₀ t) k
-    → NoneBelow bytes (lent v₀ e₀ t) (k + 1)
+    → Blocked e₀ (t .held) marks → r ≡ mayStep (status v k) (getD marks k 0) → not r ≡ true → CannotBelow bytes (lent v₀ e₀ t) k
+    → CannotBelow bytes (lent v₀ e₀ t) (k + 1)
 passed-by bytes v₀ e₀ v marks t k {r} known same made blocked may not-may lower =
     none-more bytes (lent v₀ e₀ t) k lower
     (barred bytes v₀ e₀ marks t k known made blocked (subst (λ (x : List ℕ). r ≡ mayStep (status x k) (getD marks k 0)) same may)
@@ -73,8 +79,8 @@ due-here bytes v₀ e₀ v e marks t k known p q early made may not-may there =
 -- a step that is refused leaves the tables, and its vertex cannot step
 pub turned-down :
     (bytes v₀ e₀ v e v' e' : List ℕ) (t t' : Tally) (k : ℕ) {r : Bool} (answer : Said) → v ≡ v₀ → e ≡ e₀
-    → Stepped bytes (lent v e t) k answer (lent v' e' t') → r ≡ not (accepted answer) → not r ≡ false → NoneBelow bytes (lent v₀ e₀ t) k
-    → (v' ≡ v₀) × (e' ≡ e₀) × NoneBelow bytes (lent v₀ e₀ t) (k + 1)
+    → Stepped bytes (lent v e t) k answer (lent v' e' t') → r ≡ not (accepted answer) → not r ≡ false → CannotBelow bytes (lent v₀ e₀ t) k
+    → (v' ≡ v₀) × (e' ≡ e₀) × CannotBelow bytes (lent v₀ e₀ t) (k + 1)
 turned-down bytes v₀ e₀ v e v' e' t t' k answer p q stepped refuses is-refused lower =
     let same : lent v e t ≡ lent v₀ e₀ t = same-lent t p q in
     let not-accepted : accepted answer ≡ false = not-true _ (sym refuses ∙ not-false _ is-refused) in
@@ -88,7 +94,7 @@ turned-down bytes v₀ e₀ v e v' e' t t' k answer p q stepped refuses is-refus
 -- a step that is accepted is the lowest vertex's
 pub taken-up :
     (bytes v₀ e₀ v e v' e' : List ℕ) (t t' : Tally) (k : ℕ) {r : Bool} (answer : Said) → v ≡ v₀ → e ≡ e₀ → k < t .made
-    → Stepped bytes (lent v e t) k answer (lent v' e' t') → r ≡ not (accepted answer) → not r ≡ true → NoneBelow bytes (lent v₀ e₀ t) k
+    → Stepped bytes (lent v e t) k answer (lent v' e' t') → r ≡ not (accepted answer) → not r ≡ true → CannotBelow bytes (lent v₀ e₀ t) k
     → (u : ℕ) × (lowest bytes (lent v₀ e₀ t) ≡ some u) × Stepped bytes (lent v₀ e₀ t) u answer (lent v' e' t')
 taken-up bytes v₀ e₀ v e v' e' t t' k answer p q made stepped refuses not-refused lower =
     let same : lent v e t ≡ lent v₀ e₀ t = same-lent t p q in
@@ -98,9 +104,51 @@ taken-up bytes v₀ e₀ v e v' e' t t' k answer p q made stepped refuses not-re
 
 -- no vertex can step once all are looked at
 pub none-left :
-    (bytes v₀ e₀ : List ℕ) (t : Tally) (k : ℕ) → k ≤ t .made → t .made ≤ k → NoneBelow bytes (lent v₀ e₀ t) k
+    (bytes v₀ e₀ : List ℕ) (t : Tally) (k : ℕ) → k ≤ t .made → t .made ≤ k → CannotBelow bytes (lent v₀ e₀ t) k
     → lowest bytes (lent v₀ e₀ t) ≡ none
 none-left bytes v₀ e₀ t k p q h = lowest-none bytes (lent v₀ e₀ t) (λ u lt. h u (omega arith))
+
+-- one vertex more neither executes nor is released
+pub idle-more :
+    (t : List ℕ) (made k : ℕ) → k < made → FirstLive t made k → (status t k ≡ EXECUTING → ⊥) → (status t k ≡ RELEASED → ⊥)
+    → FirstLive t made (k + 1)
+idle-more t made k lt h p q =
+    rw (add-one k) (
+      omega arith,
+      λ u below.
+          ⊎-elim (λ e. subst (λ (x : ℕ). (status t x ≡ EXECUTING → ⊥) × (status t x ≡ RELEASED → ⊥)) (sym e) (p, q)) (λ l. h .1 u l) (below-suc below),
+    )
+
+-- none of the vertices made does
+pub idle-end : (t : List ℕ) (made k : ℕ) → made ≤ k → FirstLive t made k → FirstLive t made made
+idle-end t made k le h = (omega arith, λ u lt. h .1 u (omega arith))
+
+-- no vertex below the first that executes or is released can step
+pub idle-below :
+    (bytes v e : List ℕ) (t : Tally) (r : ℕ) → sound (lent v e t) ≡ true → FirstLive v (t .made) r → CannotBelow bytes (lent v e t) r
+idle-below bytes v e t r known first u lt =
+    idle-cannot bytes (lent v e t) u known (omega (arith, first .0)) (first .1 u lt .0) (inl (first .1 u lt .1))
+
+-- what is due of a vertex that executes
+pub due-executing :
+    (bytes v e : List ℕ) (t : Tally) (k : ℕ) {d : Due} → sound (lent v e t) ≡ true → t .steps < stepLimit → k < t .made
+    → status v k ≡ EXECUTING → DueThere bytes v (t .made) k d → d ≡ due bytes (lent v e t) k
+due-executing bytes v e t k known few lt is there =
+    due-there bytes v e t k known few lt (λ q. omega arith) (λ q. omega arith) there
+
+-- what holds of tables holds of equal ones
+pub sound-there :
+    (v e v' e' : List ℕ) (t : Tally) → v' ≡ v → e' ≡ e → sound (lent v e t) ≡ true → sound (lent v' e' t) ≡ true
+sound-there v e v' e' t p q known = ap sound (same-lent t p q) ∙ known
+
+pub cannot-there :
+    (bytes v e v' e' : List ℕ) (t : Tally) (k : ℕ) → v' ≡ v → e' ≡ e → CannotBelow bytes (lent v e t) k → CannotBelow bytes (lent v' e' t) k
+cannot-there bytes v e v' e' t k p q h = subst (λ (s : Lent). CannotBelow bytes s k) (sym (same-lent t p q)) h
+
+pub attempted-there :
+    (bytes v e v' e' : List ℕ) (t : Tally) (a : Attempt) (vs es : List ℕ) → v' ≡ v → e' ≡ e → Attempted bytes (lent v' e' t) a vs es
+    → Attempted bytes (lent v e t) a vs es
+attempted-there bytes v e v' e' t a vs es p q h = subst (λ (s : Lent). Attempted bytes s a vs es) (same-lent t p q) h
 
 -- a run whose budget is used, by what the look finds: a vertex,
 pub used-found :

@@ -1,12 +1,12 @@
 -- What is due at a step, from a vertex's own words, and words stored in a row. Nobody has to believe this file: contracts of private
 -- functions cite it.
-use Prim.Native.Nat.{ℕ, _+_, _-_, _<_}
+use Prim.Native.Nat.{ℕ, _+_, _-_, _<_, _≤_}
 use mathlib.Core.Path.{_≡_}
 use mathlib.Core.Bool.{Bool, true, false, cond}
 use mathlib.Core.List.{List}
 use mathlib.Core.Option.{Option, none, some}
 use lib.ListN.{length, getD}
-use Rattle.graph.specs.Tables.{Lent, lent, RELEASED, usableLimit, placeWord, phaseWord, madeWord, setVertexWord}
+use Rattle.graph.specs.Tables.{Lent, lent, RELEASED, EXECUTING, usableLimit, status, placeWord, phaseWord, madeWord, setVertexWord}
 use Rattle.graph.specs.Paths.{leadsInto}
 use Rattle.graph.specs.Answers as of-graph
 use Rattle.graph.specs.Commands.{hasStatus, command}
@@ -15,7 +15,7 @@ use Rattle.program.specs.Answers.{Stands}
 use Rattle.program.specs.Located.{itemAt}
 use Rattle.machine.specs.Answers.{Said}
 use Rattle.machine.specs.Stepping.{scope, place, task}
-use Rattle.machine.specs.Running.{lowest, allFinished, Ending, done, stuck, spent}
+use Rattle.machine.specs.Running.{canStep, lowest, allFinished, Ending, done, stuck, spent}
 use Rattle.machine.specs.Demand2.{Own, own, ownOf, Due, refusal-due, job-due, command-due, nextAt, due}
 use Rattle.machine.specs.Traces.{Stepped}
 use Rattle.engine.specs.declared.Attempt.{Attempt}
@@ -59,6 +59,15 @@ takes s (command-due c w) = of-graph.accepted (command c s .answer)
 -- marks that tell of each vertex that can be made whether one of the first n edges leads into it
 abbrev pub Blocked : List ℕ → ℕ → List ℕ → Type 0
 Blocked e n marks = (length marks ≡ usableLimit) × ((v : ℕ) → v < usableLimit → getD marks v 0 ≡ cond (leadsInto e n v) 1 0)
+
+-- the vertices below n cannot step
+abbrev pub CannotBelow : List ℕ → Lent → ℕ → Type 0
+CannotBelow bytes s n = (u : ℕ) → u < n → canStep bytes s u ≡ false
+
+-- r is the lowest of the vertices made that executes or is released, or their number where none does
+abbrev pub FirstLive : List ℕ → ℕ → ℕ → Type 0
+FirstLive t made r =
+    (r ≤ made) × ((u : ℕ) → u < r → (status t u ≡ EXECUTING → ⊥) × (status t u ≡ RELEASED → ⊥))
 
 -- a step of the lowest vertex whose step would be accepted, if there is one
 abbrev pub Attempted : List ℕ → Lent → Attempt → List ℕ → List ℕ → Type 0

@@ -15,7 +15,9 @@ use crate::steps::do_due;
 use graph::Refusal;
 use graph::Tally;
 use graph::refusals::UNSOUND_TABLES;
+use graph::rows::EXECUTING;
 use graph::rows::FINISHED;
+use graph::rows::RELEASED;
 use graph::rows::STATUS;
 use graph::rows::USABLE_LIMIT;
 use graph::rows::VERTEX_WORDS;
@@ -25,7 +27,7 @@ use program::starts::mark_starts;
 ghost use mathlib.Core.Path.{_≡_};
 ghost use mathlib.Core.Bool.{true, not};
 ghost use mathlib.Core.Option.{none};
-ghost use Prim.Native.Nat.{_*_, _≤_};
+ghost use Prim.Native.Nat.{_*_, _<_, _≤_};
 ghost use lib.Dec.{eqb};
 ghost use lib.ListN.{length};
 ghost use Rattle.graph.specs.Tests.{every};
@@ -35,9 +37,10 @@ ghost use Rattle.program.specs.Limits.{programBytes};
 ghost use Rattle.program.specs.Located.{Marked};
 ghost use Rattle.machine.specs.Answers.{accepted, unsound-tables};
 ghost use Rattle.machine.specs.Running as of-run;
+ghost use Rattle.machine.specs.Stepping.{stepLimit};
 ghost use Rattle.machine.specs.Traces.{Ran};
 ghost use Rattle.engine.specs.Answers.{said, endingOf, lastOf};
-ghost use Rattle.engine.specs.Private.{Attempted, atRest, whenUsed};
+ghost use Rattle.engine.specs.Private.{Attempted, FirstLive, CannotBelow, atRest, whenUsed};
 
 // A run, with the tally by value.
 pub fn run_by_value(
@@ -109,7 +112,8 @@ fn ended(ending: Ending, last: LastStep, taken: u32, tally: Tally) -> RunDone
     }
 }
 
-// Steps the lowest vertex whose step is accepted, in a program with these marks where its items and end bytes start.
+// Steps the lowest vertex whose step is accepted, in a program with these marks where its items and end bytes start. No vertex below the
+// first that executes or is released can step; where that one executes and its step is accepted, no edge has to be looked at.
 fn take_lowest(
     program: &[u8],
     marks: &[u8],
@@ -123,9 +127,53 @@ fn take_lowest(
     if STEP_LIMIT <= tally.steps {
         return Attempt::NoStep;
     }
+    let first = first_live(vertices, tally.made);
+    if first == tally.made {
+        return Attempt::NoStep;
+    }
+    if vertices[VERTEX_WORDS * (first as usize) + STATUS] == EXECUTING {
+        let next = marked_due(program, marks, vertices, tally.made, first);
+        let done = do_due(vertices, edges, tally, first, next);
+        let answer = done.answer;
+        if !is_refusal(answer) {
+            return Attempt::Taken(done);
+        }
+    }
+    take_lowest_from(program, marks, vertices, edges, tally, first)
+}
+
+// The lowest vertex that executes or is released, or the number made where there is none.
+fn first_live(vertices: &[u32], made: u32) -> u32
+    requires { ⌜ vertexWords * made ≤ length (now vertices) ⌝ }
+    ensures { λ r. ⌜ FirstLive (now (vertices .entry)) made r ⌝ }
+{
+    for v in 0..made {
+        let status = vertices[VERTEX_WORDS * (v as usize) + STATUS];
+        if status == EXECUTING {
+            return v;
+        }
+        if status == RELEASED {
+            return v;
+        }
+    }
+    made
+}
+
+// The same where no vertex below `first` can step.
+fn take_lowest_from(
+    program: &[u8],
+    marks: &[u8],
+    vertices: &mut [u32],
+    edges: &mut [u32],
+    tally: Tally,
+    first: u32,
+) -> Attempt
+    requires { ⌜ Marked (now program) (now marks) × (length (now marks) ≡ programBytes) × (sound (lent (now vertices) (now edges) tally) ≡ true) × (tally .steps < stepLimit) × (first ≤ tally .made) × CannotBelow (now program) (lent (now vertices) (now edges) tally) first ⌝ }
+    ensures { λ r. ⌜ Attempted (now (program .entry)) (lent (now (vertices .entry)) (now (edges .entry)) tally) r (now (vertices .exit)) (now (edges .exit)) ⌝ }
+{
     let mut blocked = [0u8; USABLE_LIMIT];
     mark_blocked(edges, tally.held as usize, &mut blocked);
-    for v in 0..tally.made {
+    for v in first..tally.made {
         let vertex = v as usize;
         if !may_step(vertices[VERTEX_WORDS * vertex + STATUS], blocked[vertex]) {
             continue;

@@ -12,14 +12,15 @@ use Rattle.graph.specs.Sound.{sound}
 use Rattle.graph.proofs.SoundChecks.{sound-rows, usable-rows}
 use Rattle.machine.specs.Stepping.{stepLimit}
 use Rattle.machine.specs.Running.{canStep}
+use Rattle.engine.specs.Private.{CannotBelow}
 use Rattle.engine.proofs.CandidateLaws.{barred}
-use Rattle.engine.proofs.LowestLaws.{NoneBelow, none-more, candidate-can, chosen-late, chosen-this, chosen-none}
+use Rattle.engine.proofs.LowestLaws.{none-more, candidate-can, chosen-late, chosen-this, chosen-none}
 use Rattle.engine.proofs.look.lowest_marked.Statement.{statement}
 use Rattle.engine.proofs.look.lowest_marked.Tie as tie
 
 abbrev Inv-loop : tie.InvT-loop
 Inv-loop program marks vertices edges tally blocked v₀ v-end v =
-    (v ≤ tally .made) × NoneBelow program (lent vertices edges tally) v
+    (v ≤ tally .made) × CannotBelow program (lent vertices edges tally) v
 
 abbrev μ-loop : tie.MeasureT-loop
 μ-loop program marks vertices edges tally blocked v₀ v-end v = tally .made - v
