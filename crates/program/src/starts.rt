@@ -30,34 +30,27 @@ pub fn starts_at(program: &[u8], place: u32) -> bool
     }
 }
 
-// The same of every place at once: marks with 1 the places where an item or an end byte starts, and the others with 0.
+// The same of every place at once: marks with 1 the places where an item or an end byte starts. The marks handed in are 0.
 pub fn mark_starts(program: &[u8], marks: &mut [u8])
+    requires { ⌜ now marks ≡ replicate (length (now marks)) 0 ⌝ }
     ensures { λ _. ⌜ (length (now (marks .exit)) ≡ length (now (marks .entry))) × Marked (now (program .entry)) (now (marks .exit)) ⌝ }
 {
     let reading = read(program);
     match reading {
-        ProgramRead::Refused(refusal) => clear(marks),
+        ProgramRead::Refused(refusal) => {}
         ProgramRead::Program(counts) => mark_outside_numbers(program, marks),
-    }
-}
-
-fn clear(marks: &mut [u8])
-    ensures { λ _. ⌜ now (marks .exit) ≡ replicate (length (now (marks .entry))) 0 ⌝ }
-{
-    for i in 0..marks.len() {
-        marks[i] = 0;
     }
 }
 
 // Marks the places of the program that are not inside a number.
 fn mark_outside_numbers(program: &[u8], marks: &mut [u8])
+    requires { ⌜ now marks ≡ replicate (length (now marks)) 0 ⌝ }
     ensures { λ _. ⌜ (length (now (marks .exit)) ≡ length (now (marks .entry))) × Outside (now (program .entry)) (now (marks .exit)) ⌝ }
 {
     let mut inside = false;
-    for i in 0..marks.len() {
-        if program.len() <= i {
-            marks[i] = 0;
-            continue;
+    for i in 0..program.len() {
+        if marks.len() <= i {
+            return;
         }
         marks[i] = mark(!inside);
         inside = still_inside(inside, program[i]);
