@@ -27,7 +27,7 @@ part-is k xs = let long : length (drop k xs) ≡ length xs - k = length-drop k x
 pub part-length : (k : ℕ) (xs : List ℕ) → length (part k xs) ≡ length xs - k
 part-length k xs = ap length (part-is k xs) ∙ length-drop k xs
 
-first-behind : (k : ℕ) (xs : List ℕ) → getD (drop k xs) 0 0 ≡ getD xs k 0
+pub first-behind : (k : ℕ) (xs : List ℕ) → getD (drop k xs) 0 0 ≡ getD xs k 0
 first-behind k xs = getD-drop k xs 0 0 ∙ ap (λ (j : ℕ). getD xs j 0) (add-zero k)
 
 -- the number of bytes of a body, by its first item
