@@ -1,5 +1,6 @@
 -- Demand 2 of a single command, in the words of specs/Demand2.antt. A command that is accepted passed its tests (`Taken`) and leaves
--- what its definition says (`leaves`); the laws of these two give each theorem.
+-- what its definition says (`leaves`); the laws of these two give each theorem. Where each refusal is given, on any tables, is said in
+-- Reasons.
 use Prim.Native.Nat.{ℕ}
 use mathlib.Core.Path.{_≡_, sym, subst}
 use mathlib.Core.Logic.{_↔_}

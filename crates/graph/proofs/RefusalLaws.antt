@@ -1,7 +1,8 @@
 -- Refusals. A chain of tests gives 0 exactly if each test passes; a call is decided by such a chain: with 0 it says and leaves what
 -- it is to say and to leave, with any other number it leaves everything as it was.
 use Prim.Native.Nat.{ℕ, zero, suc}
-use mathlib.Core.Path.{_≡_, refl, sym, subst}
+use mathlib.Core.Path.{_≡_, refl, sym, ap, subst}
+use mathlib.Core.Logic.{_↔_}
 use mathlib.Core.Bool.{Bool, true, false}
 use native.Mathlib.Omega.{arith}
 use Rattle.graph.specs.Tables.{Lent}
@@ -45,6 +46,14 @@ pub decided-keeps : (s : Lent) (r : ℕ) (said : Said) (after : Lent) → accept
 unfolding decided
 decided-keeps s zero said after p h = true-false p h
 decided-keeps s (suc r) said after p h = refl
+
+-- and is refused with its number, at 0
+pub decided-refused :
+    (s : Lent) (r : ℕ) (said : Said) (after : Lent) (n p : ℕ) → accepted said ≡ true
+    → (decided s r said after .answer ≡ Said.refused n p) ↔ ((r ≡ 0 → ⊥) × (r ≡ n) × (p ≡ 0))
+unfolding decided
+decided-refused s zero said after n p ok = (λ h. true-false ok (ap accepted h), λ h. absurd (h .0 refl))
+decided-refused s (suc r) said after n p ok = (λ h. (λ z. omega arith, cc, cc), λ h. cc)
 
 -- so what holds of what was lent, and of what the call is to leave, holds afterwards
 pub decided-either : (P : Lent → Type 0) (s : Lent) (r : ℕ) (said : Said) (after : Lent) → P s → (r ≡ 0 → P after) → P (decided s r said after .after)

@@ -17,7 +17,7 @@ use Rattle.graph.specs.Commands.{hasStatus, withStatus, withVertex, with
 use Rattle.graph.specs.Demand2.{RowFree}
 use Rattle.graph.proofs.TestLaws.{both-true, both-left, both-right, either-cases, either-left, either-right, either-false, either-false-left, either-false-right, not-of-false}
 use Rattle.graph.proofs.SoundLaws.{Known, sound-fits}
-use Rattle.graph.proofs.RefusalLaws.{unless-stop, unless-none, unless-all, decided-taken, decided-is, decided-keeps, decided-either}
+use Rattle.graph.proofs.RefusalLaws.{unless-stop, unless-none, unless-all, decided-taken, decided-is, decided-keeps, decided-refused, decided-either}
 
 -- a command in its three parts: the refusal due, what it says and what it leaves if none is due
 abbrev pub refusal : Command → Lent → ℕ
@@ -73,6 +73,12 @@ after-is c s h = rw (command-is c s, decided-is s (refusal c s) (says c s) (leav
 
 pub after-refused : (c : Command) (s : Lent) → accepted (command c s .answer) ≡ false → command c s .after ≡ s
 after-refused c s h = rw (command-is c s) (decided-keeps s (refusal c s) (says c s) (leaves c s) (says-accepted c s) (rw (command-is c s) at h))
+
+-- it is refused with the number that is due, at 0
+pub answer-refused :
+    (c : Command) (s : Lent) (n p : ℕ)
+    → (command c s .answer ≡ Said.refused n p) ↔ ((refusal c s ≡ 0 → ⊥) × (refusal c s ≡ n) × (p ≡ 0))
+answer-refused c s n p = rw (command-is c s) (decided-refused s (refusal c s) (says c s) (leaves c s) n p (says-accepted c s))
 
 -- what holds before, and of what an accepted command leaves, holds afterwards
 pub after-either : (P : Lent → Type 0) (c : Command) (s : Lent) → P s → (refusal c s ≡ 0 → P (leaves c s)) → P (command c s .after)

@@ -64,6 +64,10 @@ unfolding both
 both-false-right true p = p
 both-false-right false p = refl
 
+both-skip : {a : Bool} (b : Bool) → a ≡ true → both a b ≡ b
+unfolding both
+both-skip b p = subst (λ (x : Bool). both x b ≡ b) (sym p) refl
+
 pub either-left : {a : Bool} (b : Bool) → a ≡ true → either a b ≡ true
 unfolding either
 either-left b p = subst (λ (x : Bool). either x b ≡ true) (sym p) refl
@@ -134,6 +138,16 @@ at-end P {i} {n} p q h = subst P (omega arith) h
 -- one number that fails is enough
 pub every-stop : (p : ℕ → Bool) (n i : ℕ) → i < n → p i ≡ false → every p n ≡ false
 every-stop p n i lt q = not-so (every p n) (λ h. true-false (every-at p n h i lt) q)
+
+-- and where not each holds, one fails
+pub every-found : (p : ℕ → Bool) (n : ℕ) → every p n ≡ false → (i : ℕ) × (i < n) × (p i ≡ false)
+unfolding every
+every-found p zero h = true-false refl h
+every-found p (suc n) h =
+    ⊎-elim
+    (λ q. let (i, lt, r) = every-found p n (sym (both-skip (every p n) q) ∙ h) in (i, omega arith, r))
+    (λ q. (n, omega arith, q))
+    (decide (p n))
 
 pub any-found : (p : ℕ → Bool) (n : ℕ) → any p n ≡ true → (i : ℕ) × (i < n) × (p i ≡ true)
 unfolding any

@@ -1,5 +1,5 @@
 -- The words in which demand 2 is stated of a single command: the graph that tables hold, the words that a command may change, the
--- row that it needs. The theorems are in proofs/Demand2.antt.
+-- row that it needs, and the reasons for its refusals. The theorems are in proofs/Demand2.antt and proofs/Reasons.antt.
 use Prim.Native.Nat.{ℕ, _+_, _*_, _<_, _≤_}
 use mathlib.Core.Path.{_≡_}
 use mathlib.Core.Logic.{_⊎_}
@@ -10,8 +10,12 @@ use lib.ListN.{length, getD}
 use lib.Dec.{ltb}
 use Rattle.graph.specs.declared.Command.{Command}
 use Rattle.graph.specs.declared.Command.the-variants.{NewTd, NewEdge, Release, Transfer, Start, Stop}
-use Rattle.graph.specs.Tables.{Lent, NEW, FINISHED, vertexWords, edgeWords, statusWord, placeWord, scopeWord, sourceWord, vertexRows, edgeRows, vertexWord, status, source, target}
-use Rattle.graph.specs.Paths.{holds}
+use Rattle.graph.specs.Tables.{Lent, NEW, EXECUTING, FINISHED, vertexWords, edgeWords, statusWord, placeWord, scopeWord, sourceWord}
+use Rattle.graph.specs.Tables.{vertexRows, edgeRows, vertexWord, status, source, target}
+use Rattle.graph.specs.Answers.{unsound-tables, no-such-vertex, edge-leads-in, vertex-new, vertex-finished, vertex-executing}
+use Rattle.graph.specs.Answers.{caller-not-executing, no-vertex-row, no-edge-row, target-not-waiting, edge-held, closes-cycle}
+use Rattle.graph.specs.Answers.{release-not-new, transfer-not-new, transfer-has-edge-out}
+use Rattle.graph.specs.Paths.{Leads, holds}
 use Rattle.graph.specs.Rules.{Graph, Unguarded}
 
 -- the graph that is lent: the made vertices with their statuses, and the set of the held edges
@@ -83,3 +87,108 @@ pub record Effect (c : Command) (s s' : Lent) : Type 0 where
   pub edge-words : SameBut (EdgeWordOf c s) (s .edges) (s' .edges)
   pub new-row : NewRowOf c s s'
   pub steps-kept : s' .steps ≡ s .steps
+
+-- REFUSALS
+-- Reasons in their order: refused with a number where something holds, or accepted where something holds; else by what follows, and
+-- behind the last one accepted.
+pub data Reasons : Type 1 where
+  no-more : Reasons
+  refused-where : Type 0 → ℕ → Reasons → Reasons
+  accepted-where : Type 0 → Reasons → Reasons
+
+-- the refusal n is due: its reason holds, and nothing before it does
+abbrev pub Due : ℕ → Reasons → Type 0
+Due n no-more = ⊥
+Due n (refused-where P m rest) = (P × (n ≡ m)) ⊎ ((P → ⊥) × Due n rest)
+Due n (accepted-where P rest) = (P → ⊥) × Due n rest
+
+-- no refusal is due
+abbrev pub NoneDue : Reasons → Type 0
+NoneDue no-more = Unit {0}
+NoneDue (refused-where P m rest) = (P → ⊥) × NoneDue rest
+NoneDue (accepted-where P rest) = P ⊎ NoneDue rest
+
+-- nothing before the reason of n holds
+abbrev pub NoneBefore : ℕ → Reasons → Type 0
+NoneBefore n no-more = ⊥
+NoneBefore n (refused-where P m rest) = (n ≡ m) ⊎ ((P → ⊥) × NoneBefore n rest)
+NoneBefore n (accepted-where P rest) = (P → ⊥) × NoneBefore n rest
+
+-- "12 tally over the used rows, a made vertex's status outside 1 to 4, or a held edge's end not a made vertex"
+abbrev pub TallyOver : Lent → Type 0
+TallyOver s = (vertexRows (s .vertices) < s .made) ⊎ (edgeRows (s .edges) < s .held)
+
+abbrev pub StatusOutside : Lent → Type 0
+StatusOutside s = (x : ℕ) × (x < s .made) × ((status (s .vertices) x < NEW) ⊎ (FINISHED < status (s .vertices) x))
+
+abbrev pub EndNotMade : Lent → Type 0
+EndNotMade s = (i : ℕ) × (i < s .held) × ((s .made ≤ source (s .edges) i) ⊎ (s .made ≤ target (s .edges) i))
+
+abbrev pub Unsound : Lent → Type 0
+Unsound s = TallyOver s ⊎ StatusOutside s ⊎ EndNotMade s
+
+-- "20 no such vertex", of the caller and every vertex named
+abbrev pub NoSuchVertex : Lent → Command → Type 0
+NoSuchVertex s (NewTd t place scope) = s .made ≤ t
+NoSuchVertex s (NewEdge t t1 t2) = (s .made ≤ t) ⊎ (s .made ≤ t1) ⊎ (s .made ≤ t2)
+NoSuchVertex s (Release t t') = (s .made ≤ t) ⊎ (s .made ≤ t')
+NoSuchVertex s (Transfer t t') = (s .made ≤ t) ⊎ (s .made ≤ t')
+NoSuchVertex s (Start t) = s .made ≤ t
+NoSuchVertex s (Stop t) = s .made ≤ t
+
+abbrev pub HasStatus : Lent → ℕ → ℕ → Type 0
+HasStatus s t x = status (s .vertices) t ≡ x
+
+-- an edge is held: out of a, into b, from a to b
+abbrev pub EdgeOutOf : Lent → ℕ → Type 0
+EdgeOutOf s a = (i : ℕ) × (i < s .held) × (source (s .edges) i ≡ a)
+
+abbrev pub EdgeInto : Lent → ℕ → Type 0
+EdgeInto s b = (i : ℕ) × (i < s .held) × (target (s .edges) i ≡ b)
+
+abbrev pub EdgeHeld : Lent → ℕ → ℕ → Type 0
+EdgeHeld s a b = (i : ℕ) × (i < s .held) × ((source (s .edges) i ≡ a) × (target (s .edges) i ≡ b))
+
+-- a path of held edges leads from a to b
+abbrev pub Reaches : Lent → ℕ → ℕ → Type 0
+Reaches s a b = Leads (holds (s .edges) (s .held)) a b
+
+-- "Cycle for newEdge: t1 is t2 or t2 reaches t1. For transfer: some target of t is t' or reaches t'."
+abbrev pub NewEdgeCycle : Lent → ℕ → ℕ → Type 0
+NewEdgeCycle s t1 t2 = (t1 ≡ t2) ⊎ Reaches s t2 t1
+
+abbrev pub TransferCycle : Lent → ℕ → ℕ → Type 0
+TransferCycle s t t' =
+    (i : ℕ) × (i < s .held) × ((source (s .edges) i ≡ t) × ((target (s .edges) i ≡ t') ⊎ Reaches s (target (s .edges) i) t'))
+
+-- "newTd 30, 31; newEdge 30, 33, (finished source accepted), 34, 35, 32; release 30, 36; transfer 30, 37, 38, 35; start 22, 39, 23, 21;
+-- stop 30"
+abbrev pub ownReasons : Command → Lent → Reasons
+ownReasons (NewTd t place scope) s =
+    refused-where (HasStatus s t EXECUTING → ⊥) caller-not-executing
+    (refused-where (vertexRows (s .vertices) ≤ s .made) no-vertex-row no-more)
+ownReasons (NewEdge t t1 t2) s =
+    refused-where (HasStatus s t EXECUTING → ⊥) caller-not-executing
+    (refused-where (HasStatus s t2 EXECUTING ⊎ HasStatus s t2 FINISHED) target-not-waiting
+    (accepted-where (HasStatus s t1 FINISHED)
+    (refused-where (EdgeHeld s t1 t2) edge-held
+    (refused-where (NewEdgeCycle s t1 t2) closes-cycle
+    (refused-where (edgeRows (s .edges) ≤ s .held) no-edge-row no-more)))))
+ownReasons (Release t t') s =
+    refused-where (HasStatus s t EXECUTING → ⊥) caller-not-executing
+    (refused-where (HasStatus s t' NEW → ⊥) release-not-new no-more)
+ownReasons (Transfer t t') s =
+    refused-where (HasStatus s t EXECUTING → ⊥) caller-not-executing
+    (refused-where (HasStatus s t' NEW → ⊥) transfer-not-new
+    (refused-where (EdgeOutOf s t') transfer-has-edge-out
+    (refused-where (TransferCycle s t t') closes-cycle no-more)))
+ownReasons (Start t) s =
+    refused-where (HasStatus s t NEW) vertex-new
+    (refused-where (HasStatus s t EXECUTING) vertex-executing
+    (refused-where (HasStatus s t FINISHED) vertex-finished
+    (refused-where (EdgeInto s t) edge-leads-in no-more)))
+ownReasons (Stop t) s = refused-where (HasStatus s t EXECUTING → ⊥) caller-not-executing no-more
+
+-- "Commands: 12, 20, then" its own
+abbrev pub reasons : Command → Lent → Reasons
+reasons c s = refused-where (Unsound s) unsound-tables (refused-where (NoSuchVertex s c) no-such-vertex (ownReasons c s))

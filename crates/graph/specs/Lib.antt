@@ -6,7 +6,7 @@
 --     Paths      paths of held edges, and the test that decides them
 --     Commands   the opening and the six commands
 --     Rules      the rules of document 002, as its slides print them
---     Demand2    the words in which demand 2 is stated of a single command
+--     Demand2    the words in which demand 2 is stated of a single command, and the reasons of its refusals
 -- Nobody has to believe these two, which the contracts of private functions cite:
 --     Gather     the edges that a stop keeps, brought together
 --     Search     the path search under way
