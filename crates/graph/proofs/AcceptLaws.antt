@@ -54,7 +54,8 @@ shown-runs s t known h =
     let (made, runs) = shown-some (s .vertices) (s .made) t EXECUTING h in
     record { known = known; is-made = made; executing = runs }
 
-newEdge-taken : (s : Lent) (t t1 t2 : ℕ) (G' : Graph) → sound s ≡ true → NEWEDGE CycleFree (graph s) t t1 t2 G' → RowFree (NewEdge t t1 t2) s → TakenNewEdge s t1 t2
+newEdge-taken :
+    (s : Lent) (t t1 t2 : ℕ) (G' : Graph) → sound s ≡ true → NEWEDGE CycleFree (graph s) t t1 t2 G' → RowFree (NewEdge t t1 t2) s → TakenNewEdge s t1 t2
 newEdge-taken s t t1 t2 G' known r row =
     record {
       source-made = made;

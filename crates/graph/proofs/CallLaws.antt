@@ -12,11 +12,13 @@ use Rattle.graph.specs.declared.Command.{Command}
 use Rattle.graph.specs.declared.Command.the-variants.{NewTd, NewEdge, Release, Transfer, Start, Stop}
 use Rattle.graph.specs.declared.Done.{Done}
 use Rattle.graph.specs.declared.Tally.{Tally}
-use Rattle.graph.specs.Tables.{Lent, lent, usableLimit, vertexWords, statusWord, edgeWords, vertexRows, edgeRows, RELEASED, FINISHED, status, setStatus, clear}
+use Rattle.graph.specs.Tables.{Lent, lent, usableLimit, vertexWords, statusWord, edgeWords, vertexRows, edgeRows, RELEASED, FINISHED}
+use Rattle.graph.specs.Tables.{status, setStatus, clear}
 use Rattle.graph.specs.Answers.{Said, said, Outcome, outcome, unless, decided, no-vertex-rows, unsound-tables}
 use Rattle.graph.specs.Sound.{sound}
 use Rattle.graph.specs.Search.{Searchable}
-use Rattle.graph.specs.Commands.{openingRefusal, openedTables, callerRefusal, newTdRefusal, newEdgeRefusal, releaseRefusal, transferRefusal, startRefusal, stopRefusal, command}
+use Rattle.graph.specs.Commands.{openingRefusal, openedTables, callerRefusal, newTdRefusal, newEdgeRefusal, releaseRefusal}
+use Rattle.graph.specs.Commands.{transferRefusal, startRefusal, stopRefusal, command}
 use Rattle.graph.proofs.SoundChecks.{sound-rows, searchable}
 use Rattle.graph.proofs.TestLaws.{both-true, both-false-left, both-false-right, not-of-true, not-of-false}
 use Rattle.graph.proofs.TakenLaws.{Runs, taken, taken-caller, unsound}
@@ -28,7 +30,9 @@ due s zero a s' z = absurd (z refl)
 due s (suc k) a s' z = refl
 
 -- a refused call
-pub refused-outcome : (r : Done) (v e : List ℕ) (t : Tally) {m n : ℕ} (a : Said) (s' : Lent) → m ≡ n → (m ≡ 0 → ⊥) → (said (r .answer) ≡ Said.refused m 0) × (r .tally ≡ t) → outcome r v e ≡ decided (lent v e t) n a s'
+pub refused-outcome :
+    (r : Done) (v e : List ℕ) (t : Tally) {m n : ℕ} (a : Said) (s' : Lent) → m ≡ n → (m ≡ 0 → ⊥)
+    → (said (r .answer) ≡ Said.refused m 0) × (r .tally ≡ t) → outcome r v e ≡ decided (lent v e t) n a s'
 refused-outcome r v e t {m} {n} a s' p q h =
     (λ i. record { answer = h .0 i; after = lent v e (h .1 i) }) ∙ due (lent v e t) m a s' q ∙ ap (λ (k : ℕ). decided (lent v e t) k a s') p
 
@@ -74,7 +78,9 @@ pub edges-there : (v e : List ℕ) (t : Tally) → sound (lent v e t) ≡ true �
 edges-there v e t p = sound-rows (lent v e t) p .1 .0
 
 -- the refusals that begin the chain of a caller: one of them is due, or none is and the command's own follow
-due-first : (b c d : Bool) (l n k : ℕ) (own : ℕ) → (unless b l (unless c n (unless d k 0)) ≡ 0 → ⊥) → unless b l (unless c n (unless d k 0)) ≡ unless b l (unless c n (unless d k own))
+due-first :
+    (b c d : Bool) (l n k : ℕ) (own : ℕ) → (unless b l (unless c n (unless d k 0)) ≡ 0 → ⊥)
+    → unless b l (unless c n (unless d k 0)) ≡ unless b l (unless c n (unless d k own))
 unfolding unless
 due-first true true true l n k own h = absurd (h refl)
 due-first true true false l n k own h = refl
@@ -87,7 +93,10 @@ caller-due s t a b own p q = p ∙ due-first _ _ _ _ _ _ own (λ z. q (p ∙ z))
 
 pub caller-free : (s : Lent) (t a b : ℕ) {m r own : ℕ} → m ≡ callerRefusal s t a b 0 → m ≡ 0 → r ≡ own → r ≡ callerRefusal s t a b own
 unfolding callerRefusal
-caller-free s t a b p q h = let k = taken-caller s t a b 0 .0 (sym p ∙ q) in pass _ (k .0 .known) (pass _ (both-true (lt-ltb _ _ (k .0 .is-made)) (both-true (lt-ltb _ _ (k .1)) (lt-ltb _ _ (k .2)))) (pass _ (eq-eqb _ _ (k .0 .executing)) h))
+caller-free s t a b p q h =
+    let k = taken-caller s t a b 0 .0 (sym p ∙ q) in
+    pass _ (k .0 .known)
+    (pass _ (both-true (lt-ltb _ _ (k .0 .is-made)) (both-true (lt-ltb _ _ (k .1)) (lt-ltb _ _ (k .2)))) (pass _ (eq-eqb _ _ (k .0 .executing)) h))
 
 -- what can be read once none of the refusals that begin the chain of a caller is due
 module _ (v e : List ℕ) (s : Tally) (t a b : ℕ) {m : ℕ} (p : m ≡ callerRefusal (lent v e s) t a b 0) (q : m ≡ 0) where
@@ -111,7 +120,35 @@ module _ (v e : List ℕ) (s : Tally) (t a b : ℕ) {m : ℕ} (p : m ≡ callerR
 
 -- The code asks the definition's tests in the definition's order. So from the tests that it has passed `search chain` proves each answer
 -- of a refusal, and that what it reads next is there. Behind four tests and more it may take `depth 12`.
-pub ruleset chain = (pass, halt, pass-over, settle, both-true, both-false-left, both-false-right, not-of-true, not-of-false, lt-ltb, le-ltb, eq-eqb, ne-eqb, answered-yes, answered, answered-no, answered-full, answered-free, caller-due, caller-free, first-there, second-there, rows-there, path-back, status-there, edges-there, refl)
+pub ruleset chain = (
+  pass,
+  halt,
+  pass-over,
+  settle,
+  both-true,
+  both-false-left,
+  both-false-right,
+  not-of-true,
+  not-of-false,
+  lt-ltb,
+  le-ltb,
+  eq-eqb,
+  ne-eqb,
+  answered-yes,
+  answered,
+  answered-no,
+  answered-full,
+  answered-free,
+  caller-due,
+  caller-free,
+  first-there,
+  second-there,
+  rows-there,
+  path-back,
+  status-there,
+  edges-there,
+  refl,
+)
 
 -- the room that an accepted command has for what it stores
 pub row-room : (s : Lent) (t : ℕ) → sound s ≡ true → t < s .made → vertexWords * t + vertexWords ≤ length (s .vertices)
@@ -125,7 +162,9 @@ newTd-room s t h =
 pub newEdge-source : (s : Lent) (t t1 t2 : ℕ) → newEdgeRefusal s t t1 t2 ≡ 0 → vertexWords * t1 + vertexWords ≤ length (s .vertices)
 newEdge-source s t t1 t2 h = let k = taken (NewEdge t t1 t2) s .0 h in row-room s t1 (k .0 .known) (k .1 .source-made)
 
-pub newEdge-room : (s : Lent) (t t1 t2 : ℕ) → newEdgeRefusal s t t1 t2 ≡ 0 → (status (s .vertices) t1 ≡ FINISHED → ⊥) → (edgeWords * s .held + edgeWords ≤ length (s .edges)) × (s .held < usableLimit)
+pub newEdge-room :
+    (s : Lent) (t t1 t2 : ℕ) → newEdgeRefusal s t t1 t2 ≡ 0 → (status (s .vertices) t1 ≡ FINISHED → ⊥)
+    → (edgeWords * s .held + edgeWords ≤ length (s .edges)) × (s .held < usableLimit)
 newEdge-room s t t1 t2 h p =
     let free : s .held < edgeRows (s .edges) = ⊎-elim (λ q. absurd (p q)) (λ q. q .row-free) (taken (NewEdge t t1 t2) s .0 h .1 .adds) in
     omega arith
@@ -139,7 +178,9 @@ release-room s t t' h = let k = taken (Release t t') s .0 h in row-room s t' (k 
 pub start-room : (s : Lent) (t : ℕ) → startRefusal s t ≡ 0 → vertexWords * t + vertexWords ≤ length (s .vertices)
 start-room s t h = let k = taken (Start t) s .0 h in row-room s t (k .0) (k .1)
 
-pub stop-room : (s : Lent) (t : ℕ) → stopRefusal s t ≡ 0 → (vertexWords * t + vertexWords ≤ length (s .vertices)) × ((edgeWords * s .held ≤ length (s .edges)) × (s .held ≤ usableLimit))
+pub stop-room :
+    (s : Lent) (t : ℕ) → stopRefusal s t ≡ 0
+    → (vertexWords * t + vertexWords ≤ length (s .vertices)) × ((edgeWords * s .held ≤ length (s .edges)) × (s .held ≤ usableLimit))
 stop-room s t h =
     let k = taken (Stop t) s .0 h in
     (row-room s t (k .known) (k .is-made), let r = sound-rows s (k .known) in (r .1 .0, r .1 .1 .1))
@@ -153,7 +194,11 @@ pub opening-accepted : (s : Lent) {rows : ℕ} → rows ≡ vertexRows (s .verti
 unfolding openingRefusal
 opening-accepted s p q = pass _ (lt-ltb 0 (vertexRows (s .vertices)) (omega arith)) refl
 
-pub opened-is : (s : Lent) {v v' e : List ℕ} {rows rows' : ℕ} → rows ≡ vertexRows (s .vertices) → rows' ≡ edgeRows (s .edges) → v ≡ clear (s .vertices) 0 (vertexWords * rows) → v' ≡ setStatus v 0 RELEASED → e ≡ clear (s .edges) 0 (edgeWords * rows') → _≡_ {A = Outcome} (record { answer = Said.opened; after = record { vertices = v'; edges = e; made = 1; held = 0; steps = 0 } }) (record { answer = Said.opened; after = openedTables s })
+pub opened-is :
+    (s : Lent) {v v' e : List ℕ} {rows rows' : ℕ} → rows ≡ vertexRows (s .vertices) → rows' ≡ edgeRows (s .edges)
+    → v ≡ clear (s .vertices) 0 (vertexWords * rows) → v' ≡ setStatus v 0 RELEASED → e ≡ clear (s .edges) 0 (edgeWords * rows')
+    → _≡_ {A = Outcome} (record { answer = Said.opened; after = record { vertices = v'; edges = e; made = 1; held = 0; steps = 0 } })
+    (record { answer = Said.opened; after = openedTables s })
 unfolding openedTables
 opened-is s p q h h' k = rw (h', h, k, p, q) refl
 
@@ -162,5 +207,7 @@ pub command-case : {o : Outcome} (s : Lent) {given c : Command} → given ≡ c 
 command-case s p h = h ∙ ap (λ (x : Command). command x s) (sym p)
 
 -- a command that is refused at the door
-pub unsound-outcome : (r : Done) (v e : List ℕ) (t : Tally) (c : Command) → sound (lent v e t) ≡ false → (said (r .answer) ≡ Said.refused unsound-tables 0) × (r .tally ≡ t) → outcome r v e ≡ command c (lent v e t)
+pub unsound-outcome :
+    (r : Done) (v e : List ℕ) (t : Tally) (c : Command) → sound (lent v e t) ≡ false
+    → (said (r .answer) ≡ Said.refused unsound-tables 0) × (r .tally ≡ t) → outcome r v e ≡ command c (lent v e t)
 unsound-outcome r v e t c p h = (λ i. record { answer = h .0 i; after = lent v e (h .1 i) }) ∙ sym (unsound c (lent v e t) p)

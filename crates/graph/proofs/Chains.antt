@@ -68,7 +68,9 @@ chain-none e next =
     }
 
 -- row i is put in front of its chain
-pub chain-more : (e : List ℕ) (i : ℕ) (first next : List ℕ) → Chained e i first next → target e i < usableLimit → i < length next → Chained e (i + 1) (set first (target e i) (i + 1)) (set next i (getD first (target e i) 0))
+pub chain-more :
+    (e : List ℕ) (i : ℕ) (first next : List ℕ) → Chained e i first next → target e i < usableLimit → i < length next
+    → Chained e (i + 1) (set first (target e i) (i + 1)) (set next i (getD first (target e i) 0))
 chain-more e i first next h lt in-next =
     rw (add-one i)
     (record {

@@ -44,7 +44,9 @@ effect c s h =
 
 -- On a graph without a cycle a command is accepted exactly where its rule, as it is printed, has a step and any row that it needs is
 -- free.
-pub acceptance : (c : Command) (s : Lent) → sound s ≡ true → CycleFree (graph s .edge) → (accepted (command c s .answer) ≡ true) ↔ (((G' : Graph) × Printed c (graph s) G') × RowFree c s)
+pub acceptance :
+    (c : Command) (s : Lent) → sound s ≡ true → CycleFree (graph s .edge)
+    → (accepted (command c s .answer) ≡ true) ↔ (((G' : Graph) × Printed c (graph s) G') × RowFree c s)
 acceptance c s known free = (
   λ h.
       let t = taken-of c s h in
@@ -53,7 +55,8 @@ acceptance c s known free = (
 )
 
 -- There the accepted command's step is the rule's.
-pub by-the-rule : (c : Command) (s : Lent) → CycleFree (graph s .edge) → accepted (command c s .answer) ≡ true → Printed c (graph s) (graph (command c s .after))
+pub by-the-rule :
+    (c : Command) (s : Lent) → CycleFree (graph s .edge) → accepted (command c s .answer) ≡ true → Printed c (graph s) (graph (command c s .after))
 by-the-rule c s free h =
     let t = taken-of c s h in
     subst (λ (s' : Lent). Printed c (graph s) (graph s')) (sym (after-is c s (not-refused c s h)))

@@ -14,7 +14,8 @@ use Rattle.graph.specs.Commands.{appended, moved, keptRows, kept, withou
 use Rattle.graph.specs.Demand2.{NoneTwice}
 use Rattle.graph.proofs.TestLaws.{true-false, not-so, same, equal?, below-suc, any-at, any-none}
 use Rattle.graph.proofs.PathLaws.{holds-at, held-row, holds-less, holds-more}
-use Rattle.graph.proofs.TableLaws.{keptRows-le, appended-other, appended-source, appended-target, moved-from, moved-rest, moved-target, keptRows-drop, keptRows-keep, kept-front, kept-source, kept-target, without-kept}
+use Rattle.graph.proofs.TableLaws.{keptRows-le, appended-other, appended-source, appended-target, moved-from, moved-rest}
+use Rattle.graph.proofs.TableLaws.{moved-target, keptRows-drop, keptRows-keep, kept-front, kept-source, kept-target, without-kept}
 
 -- E has exactly the edges of P
 abbrev pub Is : (ℕ → ℕ → Bool) → (ℕ → ℕ → Type 0) → Type 0
@@ -115,11 +116,14 @@ moved-is e n t t' le a b = (there, back)
         row-holds (moved t t' e n) n a b i lt (moved-from t t' e n i le lt p ∙ sym (h .0)) (moved-target t t' e n i ∙ q)
 
 -- stop: a row out of t adds nothing to the rows kept, any other adds its edge
-kept-drop-holds : (t : ℕ) (e : List ℕ) (n a b : ℕ) → source e n ≡ t → holds (kept t e (suc n)) (keptRows t e (suc n)) a b ≡ holds (kept t e n) (keptRows t e n) a b
+kept-drop-holds :
+    (t : ℕ) (e : List ℕ) (n a b : ℕ) → source e n ≡ t → holds (kept t e (suc n)) (keptRows t e (suc n)) a b ≡ holds (kept t e n) (keptRows t e n) a b
 kept-drop-holds t e n a b r =
     rw (keptRows-drop t e n r) (same-holds (kept t e n) (kept t e (suc n)) (keptRows t e n) (kept-front t e n) a b)
 
-kept-keep-is : (t : ℕ) (e : List ℕ) (n : ℕ) → (source e n ≡ t → ⊥) → Is (holds (kept t e (suc n)) (keptRows t e (suc n))) (OneMore (holds (kept t e n) (keptRows t e n)) (source e n) (target e n))
+kept-keep-is :
+    (t : ℕ) (e : List ℕ) (n : ℕ) → (source e n ≡ t → ⊥)
+    → Is (holds (kept t e (suc n)) (keptRows t e (suc n))) (OneMore (holds (kept t e n) (keptRows t e n)) (source e n) (target e n))
 kept-keep-is t e n ne =
     rw (keptRows-keep t e n ne)
     (next-is (kept t e n) (kept t e (suc n)) (keptRows t e n) (source e n) (target e n) (kept-front t e n) (kept-source t e n ne) (kept-target t e n ne))
@@ -133,14 +137,18 @@ kept-is : (t : ℕ) (e : List ℕ) (n : ℕ) → Is (holds (kept t e n) (keptRow
 kept-is t e zero a b = (λ h. absurd (kept-none t e a b h), λ h. absurd (holds-none e a b (h .0)))
 kept-is t e (suc n) a b = ⊎-elim (drops (kept-is t e n a b)) (keeps (kept-is t e n a b)) (equal? (source e n) t)
   where
-    drops : (holds (kept t e n) (keptRows t e n) a b ≡ true) ↔ NotFrom (holds e n) t a b → source e n ≡ t → (holds (kept t e (suc n)) (keptRows t e (suc n)) a b ≡ true) ↔ NotFrom (holds e (suc n)) t a b
+    drops :
+        (holds (kept t e n) (keptRows t e n) a b ≡ true) ↔ NotFrom (holds e n) t a b → source e n ≡ t
+        → (holds (kept t e (suc n)) (keptRows t e (suc n)) a b ≡ true) ↔ NotFrom (holds e (suc n)) t a b
     drops ih r =
         rw (kept-drop-holds t e n a b r) (
           λ h. (holds-more e n a b (ih .0 h .0), ih .0 h .1),
           λ h. ⊎-elim (λ q. ih .1 (q, h .1)) (λ q. absurd (h .1 (q .0 ∙ r))) (holds-less e n a b (h .0)),
         )
 
-    keeps : (holds (kept t e n) (keptRows t e n) a b ≡ true) ↔ NotFrom (holds e n) t a b → (source e n ≡ t → ⊥) → (holds (kept t e (suc n)) (keptRows t e (suc n)) a b ≡ true) ↔ NotFrom (holds e (suc n)) t a b
+    keeps :
+        (holds (kept t e n) (keptRows t e n) a b ≡ true) ↔ NotFrom (holds e n) t a b → (source e n ≡ t → ⊥)
+        → (holds (kept t e (suc n)) (keptRows t e (suc n)) a b ≡ true) ↔ NotFrom (holds e (suc n)) t a b
     keeps ih ne = (
       λ h.
           ⊎-elim
@@ -157,7 +165,8 @@ without-is t e n a b =
     rw (same-holds (kept t e n) (withoutEdgesOf t e n) (keptRows t e n) (without-kept t e n) a b) (kept-is t e n a b)
 
 -- No edge held twice: one more row keeps that, if its edge was not held.
-pub twice-next : (e e' : List ℕ) (n t1 t2 : ℕ) → SameRows e e' n → source e' n ≡ t1 → target e' n ≡ t2 → (holds e n t1 t2 ≡ true → ⊥) → NoneTwice e n → NoneTwice e' (suc n)
+pub twice-next :
+    (e e' : List ℕ) (n t1 t2 : ℕ) → SameRows e e' n → source e' n ≡ t1 → target e' n ≡ t2 → (holds e n t1 t2 ≡ true → ⊥) → NoneTwice e n → NoneTwice e' (suc n)
 twice-next e e' n t1 t2 s p q new none i j lt lj r u =
     let ps = s i sourceWord (omega arith) (omega arith) in
     let pt = s i targetWord (omega arith) (omega arith) in
@@ -187,7 +196,8 @@ appended-once e n t1 t2 lt new none =
 pub moved-once : (e : List ℕ) (n t t' : ℕ) → n ≤ edgeRows e → ((b : ℕ) → holds e n t' b ≡ true → ⊥) → NoneTwice e n → NoneTwice (moved t t' e n) n
 moved-once e n t t' le free none i j lt lj p q =
     ⊎-elim
-    (λ x. ⊎-elim (λ y. none i j lt lj (x ∙ sym y) targets) (λ y. out j lj (sym (moved-rest t t' e n j le lj y) ∙ sym p ∙ moved-from t t' e n i le li x)) (equal? (source e j) t))
+    (λ x. ⊎-elim (λ y. none i j lt lj (x ∙ sym y) targets)
+    (λ y. out j lj (sym (moved-rest t t' e n j le lj y) ∙ sym p ∙ moved-from t t' e n i le li x)) (equal? (source e j) t))
     (λ x.
     ⊎-elim
     (λ y. out i li (sym (moved-rest t t' e n i le li x) ∙ p ∙ moved-from t t' e n j le lj y))

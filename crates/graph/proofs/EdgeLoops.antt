@@ -67,7 +67,9 @@ rest-more t e {e'} i h =
     let split : edgeWords * (i + 1) ≡ edgeWords * i + edgeWords = omega arith in
     rw split (sym (drop-drop edgeWords (edgeWords * i) e') ∙ ap (drop edgeWords) (h .rest) ∙ drop-drop edgeWords (edgeWords * i) e)
 
-pub gathered-skips : (t : ℕ) (e : List ℕ) {e' : List ℕ} {k : ℕ} (i : ℕ) → k ≡ keptRows t e i → Gathered t e e' i → source e' i ≡ t → (k ≡ keptRows t e (i + 1)) × Gathered t e e' (i + 1)
+pub gathered-skips :
+    (t : ℕ) (e : List ℕ) {e' : List ℕ} {k : ℕ} (i : ℕ) → k ≡ keptRows t e i → Gathered t e e' i → source e' i ≡ t
+    → (k ≡ keptRows t e (i + 1)) × Gathered t e e' (i + 1)
 gathered-skips t e {e'} i r h p =
     let q : source e i ≡ t = sym (row-kept t e i sourceWord h) ∙ p in
     let n : keptRows t e (i + 1) ≡ keptRows t e i = ap (keptRows t e) (add-one i) ∙ keptRows-drop t e i q in (
@@ -80,7 +82,9 @@ gathered-skips t e {e'} i r h p =
       },
     )
 
-take-two : (l : List ℕ) (k a b : ℕ) → edgeWords * k + edgeWords ≤ length l → take (edgeWords * (k + 1)) (set (set l (edgeWords * k + sourceWord) a) (edgeWords * k + targetWord) b) ≡ take (edgeWords * k) l ++ (a ∷ b ∷ [])
+take-two :
+    (l : List ℕ) (k a b : ℕ) → edgeWords * k + edgeWords ≤ length l
+    → take (edgeWords * (k + 1)) (set (set l (edgeWords * k + sourceWord) a) (edgeWords * k + targetWord) b) ≡ take (edgeWords * k) l ++ (a ∷ b ∷ [])
 take-two l k a b h =
     let n : edgeWords * (k + 1) ≡ suc (edgeWords * k + targetWord) = omega arith in
     let m : edgeWords * k + targetWord ≡ suc (edgeWords * k + sourceWord) = omega arith in
@@ -92,7 +96,10 @@ take-two l k a b h =
     ∙ append-assoc (take (edgeWords * k + sourceWord) l) (a ∷ []) (b ∷ [])
     ∙ ap (λ (x : ℕ). take x l ++ (a ∷ b ∷ [])) z
 
-pub gathered-keeps : (t : ℕ) (e : List ℕ) {e' : List ℕ} {k : ℕ} (i : ℕ) → k ≡ keptRows t e i → Gathered t e e' i → edgeWords * i + edgeWords ≤ length e' → (source e' i ≡ t → ⊥) → (k + 1 ≡ keptRows t e (i + 1)) × Gathered t e (set (set e' (edgeWords * k + sourceWord) (source e' i)) (edgeWords * k + targetWord) (target e' i)) (i + 1)
+pub gathered-keeps :
+    (t : ℕ) (e : List ℕ) {e' : List ℕ} {k : ℕ} (i : ℕ) → k ≡ keptRows t e i → Gathered t e e' i → edgeWords * i + edgeWords ≤ length e'
+    → (source e' i ≡ t → ⊥)
+    → (k + 1 ≡ keptRows t e (i + 1)) × Gathered t e (set (set e' (edgeWords * k + sourceWord) (source e' i)) (edgeWords * k + targetWord) (target e' i)) (i + 1)
 gathered-keeps t e {e'} {k} i r h room p =
     let q : source e i ≡ t → ⊥ = λ eq. p (row-kept t e i sourceWord h ∙ eq) in
     let n : keptRows t e (i + 1) ≡ keptRows t e i + 1 = ap (keptRows t e) (add-one i) ∙ keptRows-keep t e i q ∙ sym (add-one (keptRows t e i)) in
@@ -112,23 +119,29 @@ gathered-keeps t e {e'} {k} i r h room p =
             drop-set-lt (edgeWords * (i + 1)) (set e' (edgeWords * k + sourceWord) (source e' i)) (edgeWords * k + targetWord) (target e' i) (omega arith)
             ∙ drop-set-lt (edgeWords * (i + 1)) e' (edgeWords * k + sourceWord) (source e' i) (omega arith)
             ∙ rest-more t e i h;
-        same-length = length-set (set e' (edgeWords * k + sourceWord) (source e' i)) (edgeWords * k + targetWord) (target e' i) ∙ length-set e' (edgeWords * k + sourceWord) (source e' i) ∙ h .same-length;
+        same-length =
+            length-set (set e' (edgeWords * k + sourceWord) (source e' i)) (edgeWords * k + targetWord) (target e' i)
+            ∙ length-set e' (edgeWords * k + sourceWord) (source e' i) ∙ h .same-length;
         within = rw m (omega arith);
       },
     )
 
-pub gathered-all : (t : ℕ) (e : List ℕ) {e' : List ℕ} {k : ℕ} (n i : ℕ) → i ≤ n → n ≤ i → (k ≡ keptRows t e i) × Gathered t e e' i → (k ≡ keptRows t e n) × Gathered t e e' n
+pub gathered-all :
+    (t : ℕ) (e : List ℕ) {e' : List ℕ} {k : ℕ} (n i : ℕ) → i ≤ n → n ≤ i → (k ≡ keptRows t e i) × Gathered t e e' i → (k ≡ keptRows t e n) × Gathered t e e' n
 gathered-all t e {e'} {k} n i p q h = at-end (λ j. (k ≡ keptRows t e j) × Gathered t e e' j) p q h
 
 -- with the freed rows cleared, the gathered table is what a stop leaves
-pub gathered-cleared : (t : ℕ) (e : List ℕ) {e' : List ℕ} {k : ℕ} (n : ℕ) → edgeWords * n ≤ length e → k ≡ keptRows t e n → Gathered t e e' n → clear e' (edgeWords * k) (edgeWords * n - edgeWords * k) ≡ withoutEdgesOf t e n
+pub gathered-cleared :
+    (t : ℕ) (e : List ℕ) {e' : List ℕ} {k : ℕ} (n : ℕ) → edgeWords * n ≤ length e → k ≡ keptRows t e n → Gathered t e e' n
+    → clear e' (edgeWords * k) (edgeWords * n - edgeWords * k) ≡ withoutEdgesOf t e n
 unfolding withoutEdgesOf
 gathered-cleared t e {e'} {k} n room r h =
     let w : k ≤ n = subst (λ (x : ℕ). x ≤ n) (sym r) (h .within) in
     let l = h .same-length in
     let back : edgeWords * k + (edgeWords * n - edgeWords * k) ≡ edgeWords * n = omega arith in
     clear-is e' (edgeWords * k) (edgeWords * n - edgeWords * k) (omega arith)
-    ∙ ap (λ (x : List ℕ). x ++ (replicate (edgeWords * n - edgeWords * k) 0 ++ drop (edgeWords * k + (edgeWords * n - edgeWords * k)) e')) (ap (λ (x : ℕ). take (edgeWords * x) e') r ∙ h .front)
+    ∙ ap (λ (x : List ℕ). x ++ (replicate (edgeWords * n - edgeWords * k) 0 ++ drop (edgeWords * k + (edgeWords * n - edgeWords * k)) e'))
+    (ap (λ (x : ℕ). take (edgeWords * x) e') r ∙ h .front)
     ∙ ap (λ (x : ℕ). kept t e n ++ (replicate (edgeWords * n - edgeWords * k) 0 ++ drop x e')) back
     ∙ ap (λ (x : List ℕ). kept t e n ++ (replicate (edgeWords * n - edgeWords * k) 0 ++ x)) (h .rest)
     ∙ ap (λ (x : ℕ). kept t e n ++ (replicate (edgeWords * n - edgeWords * x) 0 ++ drop (edgeWords * n) e)) r

@@ -56,7 +56,9 @@ stop-rule s t h =
     let f = sound-fits s (h .known) in
     record {
       caller = runs-shown s t h;
-      after = same-graph (shown-set (s .vertices) (s .made) t FINISHED (h .is-made) (f .vertices-fit)) (is-same (without-is t (s .edges) (s .held)) (minus-is (graph s) t (inside s t f)));
+      after =
+          same-graph (shown-set (s .vertices) (s .made) t FINISHED (h .is-made) (f .vertices-fit))
+          (is-same (without-is t (s .edges) (s .held)) (minus-is (graph s) t (inside s t f)));
     }
 
 -- newEdge out of a finished vertex leaves everything, any other appends its edge
@@ -75,7 +77,9 @@ unfolding withMoved
 withMoved-is s t t' f = moved-is (s .edges) (s .held) t t' (f .edges-fit)
 
 -- the edges that newEdge leaves are the rule's
-newEdge-after : (s : Lent) (t t1 t2 : ℕ) → TakenNewEdge s t1 t2 → graph (leaves (NewEdge t t1 t2) s) ≡ record { status = graph s .status; edge = graph s .edge ∪ added (graph s) t1 t2 }
+newEdge-after :
+    (s : Lent) (t t1 t2 : ℕ) → TakenNewEdge s t1 t2
+    → graph (leaves (NewEdge t t1 t2) s) ≡ record { status = graph s .status; edge = graph s .edge ∪ added (graph s) t1 t2 }
 unfolding withEdge
 newEdge-after s t t1 t2 h =
     ⊎-elim
@@ -84,7 +88,8 @@ newEdge-after s t t1 t2 h =
     ∙ same-graph (λ x. refl) (λ a b. sym (added-none (graph s) t1 t2 (shown-over (s .vertices) (s .made) t1 (h .source-made) p) a b)))
     (λ p.
     ap graph (leaves-edge s t t1 t2 (p .not-finished))
-    ∙ same-graph (λ x. refl) (is-same (withEdge-is s t1 t2 (p .row-free)) (added-is (graph s) t1 t2 (shown-live (s .vertices) (s .made) t1 (h .source-made) (p .not-finished)))))
+    ∙ same-graph (λ x. refl)
+    (is-same (withEdge-is s t1 t2 (p .row-free)) (added-is (graph s) t1 t2 (shown-live (s .vertices) (s .made) t1 (h .source-made) (p .not-finished)))))
     (h .adds)
 
 newEdge-disjoint : (s : Lent) (t1 t2 : ℕ) → TakenNewEdge s t1 t2 → Disjoint (graph s .edge) (added (graph s) t1 t2)
@@ -96,7 +101,9 @@ newEdge-disjoint s t1 t2 h =
     (h .adds))
 
 module _ (Free : (ℕ → ℕ → Bool) → Type 0) where
-  newEdge-rule : (s : Lent) (t t1 t2 : ℕ) → Taken (NewEdge t t1 t2) s → Free (graph (leaves (NewEdge t t1 t2) s) .edge) → NEWEDGE Free (graph s) t t1 t2 (graph (leaves (NewEdge t t1 t2) s))
+  newEdge-rule :
+      (s : Lent) (t t1 t2 : ℕ) → Taken (NewEdge t t1 t2) s → Free (graph (leaves (NewEdge t t1 t2) s) .edge)
+      → NEWEDGE Free (graph s) t t1 t2 (graph (leaves (NewEdge t t1 t2) s))
   newEdge-rule s t t1 t2 h free =
       record {
         caller = runs-shown s t (h .0);
@@ -112,7 +119,8 @@ module _ (Free : (ℕ → ℕ → Bool) → Type 0) where
         cycle-free = free;
       }
 
-  transfer-rule : (s : Lent) (t t' : ℕ) → Taken (Transfer t t') s → Free (graph (withMoved s t t') .edge) → TRANSFER Free (graph s) t t' (graph (withMoved s t t'))
+  transfer-rule :
+      (s : Lent) (t t' : ℕ) → Taken (Transfer t t') s → Free (graph (withMoved s t t') .edge) → TRANSFER Free (graph s) t t' (graph (withMoved s t t'))
   unfolding withMoved
   transfer-rule s t t' h free =
       let f = sound-fits s (h .0 .known) in

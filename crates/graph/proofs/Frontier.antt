@@ -161,7 +161,8 @@ module _ {e : List ℕ} {n to v head c : ℕ} {m q : List ℕ} {tail : ℕ} (f :
       path : Leads (holds e n) (source e i) to
       path =
           let (held, here) = f .row i p in
-          go-on (holds-at e n i held) (⊎-elim (λ a. inl (here ∙ a)) (λ a. inr (subst (λ (y : ℕ). Leads (holds e n) y to) (sym here) (f .leads v a))) (f .counts))
+          go-on (holds-at e n i held)
+          (⊎-elim (λ a. inl (here ∙ a)) (λ a. inr (subst (λ (y : ℕ). Leads (holds e n) y to) (sym here) (f .leads v a))) (f .counts))
 
       wider : (k : ℕ) → Covered e v head c m q tail k → Covered e v head c (set m s 1) (set q tail s) (tail + 1) k
       wider k =
@@ -172,7 +173,9 @@ module _ {e : List ℕ} {n to v head c : ℕ} {m q : List ℕ} {tail : ℕ} (f :
           (λ a. inr (inr (record { place = a .place; from = a .from; below = omega arith; there = stays (a .place) (a .below) ∙ a .there }))))
 
 -- row i is followed, and its source is marked now
-pub found : {e : List ℕ} {n to v head c : ℕ} {m q : List ℕ} {tail : ℕ} → Frontier e n to v head c m q tail → (i d : ℕ) → c ≡ suc i → d ≡ last e (target e i) i → source e i < length m → tail < length q → Frontier e n to v head d (set m (source e i) 1) (set q tail (source e i)) (tail + 1)
+pub found :
+    {e : List ℕ} {n to v head c : ℕ} {m q : List ℕ} {tail : ℕ} → Frontier e n to v head c m q tail → (i d : ℕ) → c ≡ suc i
+    → d ≡ last e (target e i) i → source e i < length m → tail < length q → Frontier e n to v head d (set m (source e i) 1) (set q tail (source e i)) (tail + 1)
 found {e} {m = m} f i d p h lt room = seen (grown f i (source e i) p refl lt room) i d p h (mark-new m (source e i) lt)
 
 -- where no row of v is left

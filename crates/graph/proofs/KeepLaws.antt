@@ -11,21 +11,26 @@ use Rattle.graph.specs.Tables.{Lent, RELEASED, EXECUTING, FINISHED, stat
 use Rattle.graph.specs.Commands.{withStatus, withVertex, withEdge, withMoved, stopped, newRow}
 use Rattle.graph.specs.Demand2.{NoneTwice}
 use Rattle.graph.proofs.TestLaws.{equal?, true-false}
-use Rattle.graph.proofs.TableLaws.{status-same, status-other, length-newRow, newRow-status, newRow-other, length-appended, length-moved, keptRows-le, length-without}
+use Rattle.graph.proofs.TableLaws.{status-same, status-other, length-newRow, newRow-status, newRow-other, length-appended}
+use Rattle.graph.proofs.TableLaws.{length-moved, keptRows-le, length-without}
 use Rattle.graph.proofs.EdgeLaws.{none-out-of, appended-is, moved-is, without-is, appended-once, moved-once, without-once}
 use Rattle.graph.proofs.SoundLaws.{Known, Fits, sound-fits}
 use Rattle.graph.proofs.TakenLaws.{leaves, Taken}
 use Rattle.graph.proofs.EffectLaws.{leaves-all, leaves-edge}
 
 -- statuses stay known where a known one is set
-set-known : (v : List ℕ) (n k x : ℕ) → k < n → n ≤ vertexRows v → Known x → ((j : ℕ) → j < n → Known (status v j)) → (j : ℕ) → j < n → Known (status (setStatus v k x) j)
+set-known :
+    (v : List ℕ) (n k x : ℕ) → k < n → n ≤ vertexRows v → Known x → ((j : ℕ) → j < n → Known (status v j)) → (j : ℕ) → j < n
+    → Known (status (setStatus v k x) j)
 set-known v n k x lt le p q j lj =
     ⊎-elim
     (λ z. rw (z, status-same v k x (omega arith)) p)
     (λ ne. rw (status-other v k x j ne) (q j lj))
     (equal? j k)
 
-new-known : (v : List ℕ) (n place scope : ℕ) → n < vertexRows v → ((j : ℕ) → j < n → Known (status v j)) → (j : ℕ) → j < n + 1 → Known (status (newRow v n place scope) j)
+new-known :
+    (v : List ℕ) (n place scope : ℕ) → n < vertexRows v → ((j : ℕ) → j < n → Known (status v j)) → (j : ℕ) → j < n + 1
+    → Known (status (newRow v n place scope) j)
 new-known v n place scope lt q j lj =
     ⊎-elim
     (λ z. rw z (omega (arith, newRow-status v n place scope lt)))
@@ -97,7 +102,8 @@ leaves-fits (NewTd t place scope) s h = withVertex-fits s place scope (h .1) (so
 leaves-fits (NewEdge t t1 t2) s h =
     ⊎-elim
     (λ p. rw (leaves-all s t t1 t2 p) (sound-fits s (h .0 .known)))
-    (λ p. rw (leaves-edge s t t1 t2 (p .not-finished)) (withEdge-fits s t1 t2 (h .1 .source-made) (h .1 .target-made) (p .row-free) (sound-fits s (h .0 .known))))
+    (λ p. rw (leaves-edge s t t1 t2 (p .not-finished))
+    (withEdge-fits s t1 t2 (h .1 .source-made) (h .1 .target-made) (p .row-free) (sound-fits s (h .0 .known))))
     (h .1 .adds)
 leaves-fits (Release t t') s h = withStatus-fits s t' RELEASED (h .1) (omega arith) (sound-fits s (h .0 .known))
 leaves-fits (Transfer t t') s h = withMoved-fits s t t' (h .1 .is-made) (sound-fits s (h .0 .known))

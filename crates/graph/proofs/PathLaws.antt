@@ -36,7 +36,9 @@ arrive {E} {c = c} (inl q) p = subst (λ (x : ℕ). Leads E x c) (sym q) p
 arrive (inr q) p = join q p
 
 -- F has the edges of E and the one from s to t besides
-pub cut : {E F : ℕ → ℕ → Bool} {s t : ℕ} → ((a b : ℕ) → F a b ≡ true → (E a b ≡ true) ⊎ ((a ≡ s) × (b ≡ t))) → {a b : ℕ} → Leads F a b → Leads E a b ⊎ (Stays E a s × Stays E t b)
+pub cut :
+    {E F : ℕ → ℕ → Bool} {s t : ℕ} → ((a b : ℕ) → F a b ≡ true → (E a b ≡ true) ⊎ ((a ≡ s) × (b ≡ t))) → {a b : ℕ} → Leads F a b
+    → Leads E a b ⊎ (Stays E a s × Stays E t b)
 cut h (one {a = a} {b = b} e) = ⊎-elim (λ q. inl (one q)) (λ q. inr (inl (q .0), inl (sym (q .1)))) (h a b e)
 cut {E} {t = t} h (more {a = a} {b = b} {c = c} e p) =
     ⊎-elim
@@ -112,7 +114,8 @@ pub reaches-decides : (e : List ℕ) (n a b : ℕ) → (reaches e n a b ≡ true
 reaches-decides e n a b = (reaches-path e n a b, path-reaches e n a b)
 
 -- a test that decides paths too is the same test
-pub reaches-is : (e : List ℕ) (n a b : ℕ) (found : Bool) → (found ≡ true → Leads (holds e n) a b) → (Leads (holds e n) a b → found ≡ true) → found ≡ reaches e n a b
+pub reaches-is :
+    (e : List ℕ) (n a b : ℕ) (found : Bool) → (found ≡ true → Leads (holds e n) a b) → (Leads (holds e n) a b → found ≡ true) → found ≡ reaches e n a b
 reaches-is e n a b found f g = same found (reaches e n a b) (λ h. path-reaches e n a b (f h)) (λ h. g (reaches-path e n a b h))
 
 -- a path begins with a held edge out of its first vertex

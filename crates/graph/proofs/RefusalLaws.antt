@@ -42,7 +42,9 @@ decided-is s zero said after p = refl
 decided-is s (suc r) said after p = absurd (omega arith)
 
 -- with a refusal due it leaves what was lent
-pub decided-keeps : (s : Lent) (r : ℕ) (said : Said) (after : Lent) → accepted said ≡ true → accepted (decided s r said after .answer) ≡ false → decided s r said after .after ≡ s
+pub decided-keeps :
+    (s : Lent) (r : ℕ) (said : Said) (after : Lent) → accepted said ≡ true → accepted (decided s r said after .answer) ≡ false
+    → decided s r said after .after ≡ s
 unfolding decided
 decided-keeps s zero said after p h = true-false p h
 decided-keeps s (suc r) said after p h = refl

@@ -8,10 +8,13 @@ use lib.Dec.{eqb}
 use borrow.Author.Tests.{eq-eqb, ne-eqb, eqb-true, not-true}
 use Rattle.graph.specs.Tests.{both, either}
 use Rattle.graph.specs.Rules.{Graph, inDomain, isFinished, outOf, resourced, added, _∖_, _∪_, Disjoint}
-use Rattle.graph.proofs.TestLaws.{true-false, decide, not-so, both-true, both-left, both-right, both-false-left, both-false-right, either-cases, either-left, either-right, either-none, not-of-false}
+use Rattle.graph.proofs.TestLaws.{true-false, decide, not-so, both-true, both-left, both-right, both-false-left, both-false-right}
+use Rattle.graph.proofs.TestLaws.{either-cases, either-left, either-right, either-none, not-of-false}
 use Rattle.graph.proofs.EdgeLaws.{Is, OneMore, NotFrom, Moved}
 
-pub same-graph : {σ τ : ℕ → Option ℕ} {E F : ℕ → ℕ → Bool} → ((x : ℕ) → σ x ≡ τ x) → ((a b : ℕ) → E a b ≡ F a b) → _≡_ {A = Graph} (record { status = σ; edge = E }) (record { status = τ; edge = F })
+pub same-graph :
+    {σ τ : ℕ → Option ℕ} {E F : ℕ → ℕ → Bool} → ((x : ℕ) → σ x ≡ τ x) → ((a b : ℕ) → E a b ≡ F a b)
+    → _≡_ {A = Graph} (record { status = σ; edge = E }) (record { status = τ; edge = F })
 same-graph p q = λ i. record { status = λ x. p x i; edge = λ a b. q a b i }
 
 -- edges out of t lead into dom(V)
@@ -47,8 +50,10 @@ added-is G t1 t2 p a b =
 -- E \ {(t, t'') | t'' ∈ dom(V)}
 pub minus-is : (G : Graph) (t : ℕ) → Inside G t → Is (G .edge ∖ outOf G t) (NotFrom (G .edge) t)
 minus-is G t inside a b = (
-  λ h.
-      (both-left _ _ h, λ q. true-false (both-true (eq-eqb a t q) (inside b (subst (λ (x : ℕ). G .edge x b ≡ true) q (both-left _ _ h)))) (not-true _ (both-right _ _ h))),
+  λ h. (
+    both-left _ _ h,
+    λ q. true-false (both-true (eq-eqb a t q) (inside b (subst (λ (x : ℕ). G .edge x b ≡ true) q (both-left _ _ h)))) (not-true _ (both-right _ _ h)),
+  ),
   λ h. both-true (h .0) (not-of-false (both-false-left _ (ne-eqb a t (h .1)))),
 )
 

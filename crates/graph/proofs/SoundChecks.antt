@@ -74,7 +74,9 @@ pub unsound-statuses : (s : Lent) → statusesKnown (s .vertices) (s .made) ≡ 
 unfolding sound
 unsound-statuses s h = sym (both-false-right _ (both-false-left _ h))
 
-pub sound-by-edges : (s : Lent) {b : Bool} → tallyFits (s .vertices) (s .edges) (s .made) (s .held) ≡ true → statusesKnown (s .vertices) (s .made) ≡ true → b ≡ edgesMade (s .edges) (s .made) (s .held) → b ≡ sound s
+pub sound-by-edges :
+    (s : Lent) {b : Bool} → tallyFits (s .vertices) (s .edges) (s .made) (s .held) ≡ true → statusesKnown (s .vertices) (s .made) ≡ true
+    → b ≡ edgesMade (s .edges) (s .made) (s .held) → b ≡ sound s
 unfolding sound both
 sound-by-edges s p q r = rw (p, q) r
 
@@ -83,7 +85,9 @@ pub fits-rows : (v e : List ℕ) (made held : ℕ) → tallyFits v e made held �
 unfolding tallyFits
 fits-rows v e made held h = (leb-true made (vertexRows v) (both-left _ _ h), leb-true held (edgeRows e) (both-right _ _ h))
 
-pub sound-rows : (s : Lent) → sound s ≡ true → (vertexWords * s .made ≤ length (s .vertices)) × ((edgeWords * s .held ≤ length (s .edges)) × ((s .made ≤ usableLimit) × (s .held ≤ usableLimit)))
+pub sound-rows :
+    (s : Lent) → sound s ≡ true
+    → (vertexWords * s .made ≤ length (s .vertices)) × ((edgeWords * s .held ≤ length (s .edges)) × ((s .made ≤ usableLimit) × (s .held ≤ usableLimit)))
 sound-rows s h =
     let p : s .made ≤ vertexRows (s .vertices) = sound-fits s h .vertices-fit in
     let q : s .held ≤ edgeRows (s .edges) = sound-fits s h .edges-fit in

@@ -10,7 +10,8 @@ use lib.ListN.{length, getD, set, drop, replicate, length-set, length-append, le
 use lib.Seq.{getD-set-same, getD-set-other, getD-append-add, getD-drop}
 use lib.Dec.{eqb, ltb}
 use borrow.Author.Tests.{eq-eqb, ne-eqb, ltb-true, ltb-false}
-use Rattle.graph.specs.Tables.{NEW, vertexWords, edgeWords, statusWord, placeWord, scopeWord, sourceWord, targetWord, vertexRows, edgeRows, vertexWord, edgeWord, status, setStatus, setVertexWord, setEdgeWord, source, target, clear}
+use Rattle.graph.specs.Tables.{NEW, vertexWords, edgeWords, statusWord, placeWord, scopeWord, sourceWord, targetWord, vertexRows}
+use Rattle.graph.specs.Tables.{edgeRows, vertexWord, edgeWord, status, setStatus, setVertexWord, setEdgeWord, source, target, clear}
 use Rattle.graph.specs.Commands.{newRow, appended, movedRow, moved, keptRows, kept, withoutEdgesOf}
 use Rattle.graph.proofs.TestLaws.{decide, equal?}
 
@@ -33,7 +34,8 @@ pub status-same : (v : List ℕ) (k x : ℕ) → k < vertexRows v → status (se
 status-same v k x lt = getD-set-same v (vertexWords * k + statusWord) x 0 (vertex-in v k statusWord lt (omega arith))
 
 pub status-other : (v : List ℕ) (k x y : ℕ) → (y ≡ k → ⊥) → status (setStatus v k x) y ≡ status v y
-status-other v k x y ne = getD-set-other v (vertexWords * k + statusWord) (vertexWords * y + statusWord) x 0 (vertex-apart y k statusWord statusWord (omega arith) (omega arith) ne)
+status-other v k x y ne =
+    getD-set-other v (vertexWords * k + statusWord) (vertexWords * y + statusWord) x 0 (vertex-apart y k statusWord statusWord (omega arith) (omega arith) ne)
 
 -- clearing
 pub length-clear : (l : List ℕ) (from n : ℕ) → length (clear l from n) ≡ length l
@@ -80,7 +82,9 @@ module _ (v : List ℕ) (k place scope : ℕ) where
   length-newRow = simp (length-set, length-clear)
 
   -- a word of the row that is set by none of the three
-  newRow-word : (i : ℕ) → (i ≡ vertexWords * k + statusWord → ⊥) → (i ≡ vertexWords * k + placeWord → ⊥) → (i ≡ vertexWords * k + scopeWord → ⊥) → getD (newRow v k place scope) i 0 ≡ getD (cleared v k) i 0
+  newRow-word :
+      (i : ℕ) → (i ≡ vertexWords * k + statusWord → ⊥) → (i ≡ vertexWords * k + placeWord → ⊥) → (i ≡ vertexWords * k + scopeWord → ⊥)
+      → getD (newRow v k place scope) i 0 ≡ getD (cleared v k) i 0
   unfolding newRow
   newRow-word i ns np nc =
       getD-set-other (placed v k place) (vertexWords * k + scopeWord) i scope 0 nc
@@ -112,7 +116,8 @@ module _ (v : List ℕ) (k place scope : ℕ) where
 
   pub newRow-scope : k < vertexRows v → vertexWord (newRow v k place scope) k scopeWord ≡ scope
   unfolding newRow
-  newRow-scope lt = getD-set-same (placed v k place) (vertexWords * k + scopeWord) scope 0 (simp (length-set, length-clear) (vertex-in v k scopeWord lt (omega arith)))
+  newRow-scope lt =
+      getD-set-same (placed v k place) (vertexWords * k + scopeWord) scope 0 (simp (length-set, length-clear) (vertex-in v k scopeWord lt (omega arith)))
 
   pub newRow-zero : (w : ℕ) → w < vertexWords → (w ≡ statusWord → ⊥) → (w ≡ placeWord → ⊥) → (w ≡ scopeWord → ⊥) → vertexWord (newRow v k place scope) k w ≡ 0
   newRow-zero w lw ns np nc =
@@ -198,7 +203,8 @@ module _ (t t' : ℕ) where
       rw q
       (movedRow-source (moved t t' e n) n (rw length-moved le)
       ∙ ap (λ (x : ℕ). cond (eqb x t) t' x) (moved-later e n n (omega arith))))
-      (λ ne. movedRow-out (moved t t' e n) n (edgeWords * i + sourceWord) (edge-apart i n sourceWord sourceWord (omega arith) (omega arith) ne) ∙ moved-source e n i (omega arith) (omega arith))
+      (λ ne. movedRow-out (moved t t' e n) n (edgeWords * i + sourceWord) (edge-apart i n sourceWord sourceWord (omega arith) (omega arith) ne)
+      ∙ moved-source e n i (omega arith) (omega arith))
       (equal? i n)
 
   pub moved-from : (e : List ℕ) (n i : ℕ) → n ≤ edgeRows e → i < n → source e i ≡ t → source (moved t t' e n) i ≡ t'
@@ -289,7 +295,9 @@ module _ (t : ℕ) (e : List ℕ) where
   unfolding withoutEdgesOf
   without-later n i le =
       let h = keptRows-le n in
-      back-part (kept t e n) (replicate (edgeWords * n - edgeWords * keptRows t e n) 0 ++ drop (edgeWords * n) e) i (i - edgeWords * keptRows t e n) (omega (arith, length-kept n))
-      ∙ back-part (replicate (edgeWords * n - edgeWords * keptRows t e n) 0) (drop (edgeWords * n) e) (i - edgeWords * keptRows t e n) (i - edgeWords * n) (rw length-replicate (omega arith))
+      back-part (kept t e n) (replicate (edgeWords * n - edgeWords * keptRows t e n) 0 ++ drop (edgeWords * n) e) i (i - edgeWords * keptRows t e n)
+      (omega (arith, length-kept n))
+      ∙ back-part (replicate (edgeWords * n - edgeWords * keptRows t e n) 0) (drop (edgeWords * n) e) (i - edgeWords * keptRows t e n)
+      (i - edgeWords * n) (rw length-replicate (omega arith))
       ∙ getD-drop (edgeWords * n) e (i - edgeWords * n) 0
       ∙ ap (λ (x : ℕ). getD e x 0) (omega arith)

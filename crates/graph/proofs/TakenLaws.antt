@@ -13,9 +13,12 @@ use Rattle.graph.specs.Tables.{Lent, NEW, RELEASED, EXECUTING, FINISHED,
 use Rattle.graph.specs.Answers.{Said, accepted, decided, unsound-tables}
 use Rattle.graph.specs.Sound.{sound}
 use Rattle.graph.specs.Paths.{holds, leadsInto, leadsOutOf, reaches}
-use Rattle.graph.specs.Commands.{hasStatus, withStatus, withVertex, withEdge, withMoved, stopped, callerRefusal, newTdRefusal, newEdgeRefusal, releaseRefusal, transferRefusal, startRefusal, stopRefusal, targetReaches, newTd, newEdge, release, transfer, start, stop, command}
+use Rattle.graph.specs.Commands.{hasStatus, withStatus, withVertex, withEdge, withMoved, stopped, callerRefusal, newTdRefusal}
+use Rattle.graph.specs.Commands.{newEdgeRefusal, releaseRefusal, transferRefusal, startRefusal, stopRefusal, targetReaches, newTd}
+use Rattle.graph.specs.Commands.{newEdge, release, transfer, start, stop, command}
 use Rattle.graph.specs.Demand2.{RowFree}
-use Rattle.graph.proofs.TestLaws.{both-true, both-left, both-right, either-cases, either-left, either-right, either-false, either-false-left, either-false-right, not-of-false}
+use Rattle.graph.proofs.TestLaws.{both-true, both-left, both-right, either-cases, either-left, either-right, either-false}
+use Rattle.graph.proofs.TestLaws.{either-false-left, either-false-right, not-of-false}
 use Rattle.graph.proofs.SoundLaws.{Known, sound-fits}
 use Rattle.graph.proofs.RefusalLaws.{unless-stop, unless-none, unless-all, decided-taken, decided-is, decided-keeps, decided-refused, decided-either}
 
@@ -249,7 +252,9 @@ taken-transfer s t t' = (
 only-released : (x : ℕ) → Known x → eqb x NEW ≡ false → eqb x EXECUTING ≡ false → eqb x FINISHED ≡ false → x ≡ RELEASED
 only-released x known new runs over = omega (arith, eqb-false x NEW new, eqb-false x EXECUTING runs, eqb-false x FINISHED over)
 
-taken-start : (s : Lent) (t : ℕ) → (startRefusal s t ≡ 0) ↔ ((sound s ≡ true) × (t < s .made) × (status (s .vertices) t ≡ RELEASED) × (leadsInto (s .edges) (s .held) t ≡ false))
+taken-start :
+    (s : Lent) (t : ℕ)
+    → (startRefusal s t ≡ 0) ↔ ((sound s ≡ true) × (t < s .made) × (status (s .vertices) t ≡ RELEASED) × (leadsInto (s .edges) (s .held) t ≡ false))
 unfolding startRefusal
 taken-start s t = (
   λ h.

@@ -1,6 +1,7 @@
 -- A thin entry: it lends the two tables and, as a struct by `&mut`, the tally, to a core that takes the tally by value:
 --     let before = *tally; let done = core(.., vertices, edges, before, ..); *tally = done.tally; done.answer
--- The borrow checker does not cover a `&mut` to a struct, so such an entry is proved by a walk of its MIR. The walk is done once, here, and an entry's proof cites `Passing` at its list of parameters.
+-- The borrow checker does not cover a `&mut` to a struct, so such an entry is proved by a walk of its MIR. The walk is done once, here, and an
+-- entry's proof cites `Passing` at its list of parameters.
 --     Results      the types of what the core returns and of what the entry answers
 --     Code         the MIR of a thin entry
 --     Has          what can be taken out of a context and put back, so that it can be read

@@ -15,7 +15,8 @@ use Rattle.graph.specs.Tables.{Lent, RELEASED, EXECUTING, FINISHED, vert
 use Rattle.graph.specs.Commands.{hasStatus, withVertex, withEdge, withMoved, moved, stopped}
 use Rattle.graph.specs.Demand2.{VertexWordOf, EdgeWordOf, SameBut, NewRowOf}
 use Rattle.graph.proofs.TestLaws.{decide, equal?}
-use Rattle.graph.proofs.TableLaws.{length-newRow, newRow-out, newRow-status, newRow-place, newRow-scope, newRow-zero, length-appended, appended-out, length-moved, moved-out, moved-rest, length-without, without-later}
+use Rattle.graph.proofs.TableLaws.{length-newRow, newRow-out, newRow-status, newRow-place, newRow-scope, newRow-zero}
+use Rattle.graph.proofs.TableLaws.{length-appended, appended-out, length-moved, moved-out, moved-rest, length-without, without-later}
 use Rattle.graph.proofs.TakenLaws.{leaves, Taken}
 
 same-all : (P : ℕ → Type 0) (l : List ℕ) → SameBut P l l
@@ -25,7 +26,9 @@ same-but-status : (v : List ℕ) (k x : ℕ) → SameBut (λ i. i ≡ vertexWord
 same-but-status v k x = (length-set v (vertexWords * k + statusWord) x, λ i f. getD-set-other v (vertexWords * k + statusWord) i x 0 f)
 
 -- a word that is not the source of a held edge out of t: it may stand in a held row all the same
-moved-else : (t t' : ℕ) (e : List ℕ) (n i : ℕ) → n ≤ edgeRows e → ((j : ℕ) × (j < n) × (source e j ≡ t) × (i ≡ edgeWords * j + sourceWord) → ⊥) → getD (moved t t' e n) i 0 ≡ getD e i 0
+moved-else :
+    (t t' : ℕ) (e : List ℕ) (n i : ℕ) → n ≤ edgeRows e → ((j : ℕ) × (j < n) × (source e j ≡ t) × (i ≡ edgeWords * j + sourceWord) → ⊥)
+    → getD (moved t t' e n) i 0 ≡ getD e i 0
 moved-else t t' e n i le f =
     ⊎-elim
     (λ q.

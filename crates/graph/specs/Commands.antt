@@ -7,8 +7,11 @@ use lib.Dec.{eqb, ltb}
 use Rattle.graph.specs.declared.Command.{Command}
 use Rattle.graph.specs.declared.Command.the-variants.{NewTd, NewEdge, Release, Transfer, Start, Stop}
 use Rattle.graph.specs.Tests.{both, either, any}
-use Rattle.graph.specs.Tables.{Lent, NEW, RELEASED, EXECUTING, FINISHED, vertexWords, edgeWords, placeWord, scopeWord, sourceWord, targetWord, vertexRows, edgeRows, status, setStatus, setVertexWord, setEdgeWord, source, target, clear}
-use Rattle.graph.specs.Answers.{Said, Outcome, unless, decided, no-vertex-rows, unsound-tables, no-such-vertex, edge-leads-in, vertex-new, vertex-finished, vertex-executing, caller-not-executing, no-vertex-row, no-edge-row, target-not-waiting, edge-held, closes-cycle, release-not-new, transfer-not-new, transfer-has-edge-out}
+use Rattle.graph.specs.Tables.{Lent, NEW, RELEASED, EXECUTING, FINISHED, vertexWords, edgeWords, placeWord, scopeWord, sourceWord}
+use Rattle.graph.specs.Tables.{targetWord, vertexRows, edgeRows, status, setStatus, setVertexWord, setEdgeWord, source, target, clear}
+use Rattle.graph.specs.Answers.{Said, Outcome, unless, decided, no-vertex-rows, unsound-tables, no-such-vertex, edge-leads-in}
+use Rattle.graph.specs.Answers.{vertex-new, vertex-finished, vertex-executing, caller-not-executing, no-vertex-row, no-edge-row}
+use Rattle.graph.specs.Answers.{target-not-waiting, edge-held, closes-cycle, release-not-new, transfer-not-new, transfer-has-edge-out}
 use Rattle.graph.specs.Sound.{sound}
 use Rattle.graph.specs.Paths.{holds, leadsInto, leadsOutOf, reaches}
 

@@ -1,12 +1,15 @@
 -- The MIR of a thin entry, with any parameters before the tables and behind the tally: they are passed on as they are.
---     Locals               a number for each local of its own: the parameters v, e and t, the tally `before`, the record `done`, and for each table a pointer and a slice, by which it is lent on
---     beyond τs k          the number of a local that stands k behind those of τs.        copies τs s      the operands that pass those of τs on, s k being the number of the k-th
+--     Locals               a number for each local of its own: the parameters v, e and t, the tally `before`, the record `done`, and for each table a
+--                          pointer and a slice, by which it is lent on
+--     beyond τs k          the number of a local that stands k behind those of τs
+--     copies τs s          the operands that pass those of τs on, s k being the number of the k-th
 --     body ι g xs₀ xs₁     the statements, at the numbers ι, the core g, and the operands before the tables and behind the tally
 --     thin ρ n ℓv ℓe ℓt τs₀ τs₁ g      the function, of n lifetimes. At types that are written out it is the function that `Code` of an entry has
 -- Assumes nothing: these are definitions.
 use Prim.Native.Nat.{ℕ, zero, suc}
 use mathlib.Core.List.{List, [], _∷_, _++_}
-use mir.Syntax.{Fn, Local, local, valueLocal, Name, Lifetime, Ty, tyInt, tyRef, mut, erased, w32, deref, field, place, Opd, copy, rvOpd, addrOf, aggregate, Body, seq, assign, call, return}
+use mir.Syntax.{Fn, Local, local, valueLocal, Name, Lifetime, Ty, tyInt, tyRef, mut, erased, w32, deref, field, place, Opd, copy, rvOpd}
+use mir.Syntax.{addrOf, aggregate, Body, seq, assign, call, return}
 use denote.Memory.{pointee}
 use denote.Slice.{sliceTy}
 use Rattle.graph.proofs.Tally as T
@@ -55,7 +58,9 @@ copies (τ ∷ τs) s = whole-of (s zero) ∷ copies τs (λ k. s (suc k))
 
 -- the slice i is lent on in s, by its pointer p
 abbrev pub slice-of : ℕ → ℕ → ℕ → Body → Body
-slice-of i p s rest = seq (assign (place p []) (addrOf (place i (field 0 ∷ deref (tyInt w32) ∷ [])))) (seq (assign (place s []) (aggregate (whole-of p ∷ copy (place i (field 1 ∷ [])) ∷ []))) rest)
+slice-of i p s rest =
+    seq (assign (place p []) (addrOf (place i (field 0 ∷ deref (tyInt w32) ∷ []))))
+    (seq (assign (place s []) (aggregate (whole-of p ∷ copy (place i (field 1 ∷ [])) ∷ []))) rest)
 
 abbrev pub body : Locals → Name → List Opd → List Opd → Body
 body ι g xs₀ xs₁ =

@@ -21,7 +21,9 @@ use types.Run.{Reads, Walks, Finds, from}
 
 module _ {M : Type 1} {𝓤 : URA M} {H : Heap 𝓤} {A : Atoms 𝓤} {K : Type 0} {W : Given 𝓤 H A} {Γ : List (Item 𝓤)} {E : Env 𝓤 H} where
   -- a place in a local, where it is known where the local stands
-  pub from-at : K → {i : ℕ} {st : List PStep} {sp : Spot 𝓤 H} {τ : Ty} {b : ℕ} → spotOf 𝓤 H E i ≡ (τ, b, zero) → Walks K W Γ E (τ, b, zero) st sp → Finds K W Γ E (place i st) sp
+  pub from-at :
+      K → {i : ℕ} {st : List PStep} {sp : Spot 𝓤 H} {τ : Ty} {b : ℕ} → spotOf 𝓤 H E i ≡ (τ, b, zero) → Walks K W Γ E (τ, b, zero) st sp
+      → Finds K W Γ E (place i st) sp
   from-at t {i} {st} {sp} e w = from t (subst (λ (at : Spot 𝓤 H). Walks K W Γ E at st sp) (sym e) w)
 
 swap : {M : Type 1} (𝓤 : URA M) (P Q R : SProp 𝓤) → ent 𝓤 (sep 𝓤 P (sep 𝓤 Q R)) (sep 𝓤 Q (sep 𝓤 P R))
@@ -41,7 +43,8 @@ module _ {M : Type 1} (𝓤 : URA M) (H : Heap 𝓤) (A : Atoms 𝓤) where
   past (suc n) (i ∷ Δ) = past n Δ
 
   has-all : (Δ : List (Item 𝓤)) → Has Δ (⋆ 𝓤 H A Δ)
-  has-all Δ = record { rest = emp 𝓤; out = via 𝓤 (sep 𝓤 (emp 𝓤) (⋆ 𝓤 H A Δ)) (emp∗ 𝓤 (⋆ 𝓤 H A Δ)) (comm∗ 𝓤 (emp 𝓤) (⋆ 𝓤 H A Δ)); back = fst∗ 𝓤 (⋆ 𝓤 H A Δ) (emp 𝓤) }
+  has-all Δ =
+      record { rest = emp 𝓤; out = via 𝓤 (sep 𝓤 (emp 𝓤) (⋆ 𝓤 H A Δ)) (emp∗ 𝓤 (⋆ 𝓤 H A Δ)) (comm∗ 𝓤 (emp 𝓤) (⋆ 𝓤 H A Δ)); back = fst∗ 𝓤 (⋆ 𝓤 H A Δ) (emp 𝓤) }
 
   pub has-past : (n : ℕ) (Δ : List (Item 𝓤)) → Has Δ (⋆ 𝓤 H A (past n Δ))
   has-past zero Δ = has-all Δ
@@ -51,15 +54,24 @@ module _ {M : Type 1} (𝓤 : URA M) (H : Heap 𝓤) (A : Atoms 𝓤) where
       let hs : Has Δ P = has-past n Δ in
       record {
         rest = sep 𝓤 (mean 𝓤 H A i) (hs .rest);
-        out = via 𝓤 (sep 𝓤 (mean 𝓤 H A i) (⋆ 𝓤 H A Δ)) (pop 𝓤 H A i Δ) (via 𝓤 (sep 𝓤 (mean 𝓤 H A i) (sep 𝓤 P (hs .rest))) (monoR 𝓤 (mean 𝓤 H A i) (hs .out)) (swap 𝓤 (mean 𝓤 H A i) P (hs .rest)));
-        back = via 𝓤 (sep 𝓤 (mean 𝓤 H A i) (sep 𝓤 P (hs .rest))) (swap 𝓤 P (mean 𝓤 H A i) (hs .rest)) (via 𝓤 (sep 𝓤 (mean 𝓤 H A i) (⋆ 𝓤 H A Δ)) (monoR 𝓤 (mean 𝓤 H A i) (hs .back)) (push 𝓤 H A i Δ));
+        out =
+            via 𝓤 (sep 𝓤 (mean 𝓤 H A i) (⋆ 𝓤 H A Δ)) (pop 𝓤 H A i Δ)
+            (via 𝓤 (sep 𝓤 (mean 𝓤 H A i) (sep 𝓤 P (hs .rest))) (monoR 𝓤 (mean 𝓤 H A i) (hs .out)) (swap 𝓤 (mean 𝓤 H A i) P (hs .rest)));
+        back =
+            via 𝓤 (sep 𝓤 (mean 𝓤 H A i) (sep 𝓤 P (hs .rest))) (swap 𝓤 P (mean 𝓤 H A i) (hs .rest))
+            (via 𝓤 (sep 𝓤 (mean 𝓤 H A i) (⋆ 𝓤 H A Δ)) (monoR 𝓤 (mean 𝓤 H A i) (hs .back)) (push 𝓤 H A i Δ));
       }
 
 module _ {M : Type 1} (𝓤 : URA M) (H : Heap 𝓤) (A : Atoms 𝓤) (W : Given 𝓤 H A) where
   -- of a context that has P: what is read of it
   module _ (Δ : List (Item 𝓤)) where
     pub has-left : (P Q : SProp 𝓤) → Has 𝓤 H A Δ (sep 𝓤 P Q) → Has 𝓤 H A Δ P
-    has-left P Q h = record { rest = sep 𝓤 Q (h .rest); out = via 𝓤 (sep 𝓤 (sep 𝓤 P Q) (h .rest)) (h .out) (assoc∗ 𝓤 P Q (h .rest)); back = via 𝓤 (sep 𝓤 (sep 𝓤 P Q) (h .rest)) (assoc′ 𝓤 P Q (h .rest)) (h .back) }
+    has-left P Q h =
+        record {
+          rest = sep 𝓤 Q (h .rest);
+          out = via 𝓤 (sep 𝓤 (sep 𝓤 P Q) (h .rest)) (h .out) (assoc∗ 𝓤 P Q (h .rest));
+          back = via 𝓤 (sep 𝓤 (sep 𝓤 P Q) (h .rest)) (assoc′ 𝓤 P Q (h .rest)) (h .back);
+        }
 
     pub has-right : (P Q : SProp 𝓤) → Has 𝓤 H A Δ (sep 𝓤 P Q) → Has 𝓤 H A Δ Q
     has-right P Q h = record {
@@ -80,7 +92,9 @@ module _ {M : Type 1} (𝓤 : URA M) (H : Heap 𝓤) (A : Atoms 𝓤) (W : Given
       go = λ Kt k.
           let P : SProp 𝓤 = H .at fullShare τ b zero v in
           via 𝓤 (sep 𝓤 P (h .rest)) (h .out)
-          (via 𝓤 (sep 𝓤 P (wand 𝓤 P (Kt v))) (monoR 𝓤 P (wandI 𝓤 (h .rest) P (Kt v) (via 𝓤 (sep 𝓤 P (h .rest)) (comm∗ 𝓤 (h .rest) P) (via 𝓤 (⋆ 𝓤 H A Δ) (h .back) k))))
-          (via 𝓤 (ex 𝓤 (λ (u : Val). sep 𝓤 (H .at fullShare τ b zero u) (wand 𝓤 (H .at fullShare τ b zero u) (Kt u)))) (exI 𝓤 (λ (u : Val). sep 𝓤 (H .at fullShare τ b zero u) (wand 𝓤 (H .at fullShare τ b zero u) (Kt u))) v)
+          (via 𝓤 (sep 𝓤 P (wand 𝓤 P (Kt v)))
+          (monoR 𝓤 P (wandI 𝓤 (h .rest) P (Kt v) (via 𝓤 (sep 𝓤 P (h .rest)) (comm∗ 𝓤 (h .rest) P) (via 𝓤 (⋆ 𝓤 H A Δ) (h .back) k))))
+          (via 𝓤 (ex 𝓤 (λ (u : Val). sep 𝓤 (H .at fullShare τ b zero u) (wand 𝓤 (H .at fullShare τ b zero u) (Kt u))))
+          (exI 𝓤 (λ (u : Val). sep 𝓤 (H .at fullShare τ b zero u) (wand 𝓤 (H .at fullShare τ b zero u) (Kt u))) v)
           (exI 𝓤 (λ (s : Share). ex 𝓤 (λ (u : Val). sep 𝓤 (H .at s τ b zero u) (wand 𝓤 (H .at s τ b zero u) (Kt u)))) fullShare)));
     }

@@ -1,4 +1,5 @@
--- What a signature's tokens, parameters and last values come to, where a list of them goes first and something follows. Each list is taken off as a whole, and put back as a whole: so the law of thin entries is over any parameters before the tables and behind the tally.
+-- What a signature's tokens, parameters and last values come to, where a list of them goes first and something follows. Each list is taken off
+-- as a whole, and put back as a whole: so the law of thin entries is over any parameters before the tables and behind the tally.
 --     Passed               a further parameter that is passed on as it is: its type, its value, its one machine value, and that this is of its MIR type
 --     toksThen m κs qs P       the tokens of m lifetimes, and then P.        toks-out, toks-in       as the tokens, and P beside them
 --     ownsThen ps P        what the parameters ps own, and then P.        owns-out, owns-in
@@ -73,16 +74,20 @@ module _ {M : Type 1} (𝓤 : URA M) (H : Heap 𝓤) (A : Atoms 𝓤) where
 
     pub toks-in : (m : ℕ) (κs : Lfts m) (qs : Shares m) (P : SProp 𝓤) → ent 𝓤 (sep 𝓤 (toksThen m κs qs (emp 𝓤)) P) (toksThen m κs qs P)
     toks-in zero κs qs P = qed W (‵ ftrue ∷ raw P ∷ []) ∵ drop ! $ done !
-    toks-in (suc m) κs qs P = qed W ((‵ (flft (κs .0) (qs .0)) ⊛ raw (toksThen m (κs .1) (qs .1) (emp 𝓤))) ∷ raw P ∷ []) ∵ split ! $ frame ! $ by ! (toks-in m (κs .1) (qs .1) P)
+    toks-in (suc m) κs qs P =
+        qed W ((‵ (flft (κs .0) (qs .0)) ⊛ raw (toksThen m (κs .1) (qs .1) (emp 𝓤))) ∷ raw P ∷ []) ∵ split ! $ frame ! $ by ! (toks-in m (κs .1) (qs .1) P)
 
     pub owns-out : (ps : List Passed) (P : Fml) → ent 𝓤 (sem 𝓤 H A (ownsThen ps P)) (sep 𝓤 (sem 𝓤 H A (ownsThen ps ftrue)) (sem 𝓤 H A P))
     owns-out [] P = qed W (‵ P ∷ []) ∵ nothing ! $ done !
     owns-out (p ∷ ps) P =
-        qed W (‵ (ownsThen (p ∷ ps) P) ∷ []) ∵ fsplit ! $ move ! (1 ∷ []) $ use1 W (‵ (ownsThen ps ftrue) ⊛ ‵ P) (owns-out ps P) $ split ! $ move ! (2 ∷ 0 ∷ []) $ fjoin ! $ done !
+        qed W (‵ (ownsThen (p ∷ ps) P) ∷ []) ∵ fsplit ! $ move ! (1 ∷ []) $ use1 W (‵ (ownsThen ps ftrue) ⊛ ‵ P) (owns-out ps P) $ split ! $
+        move ! (2 ∷ 0 ∷ []) $ fjoin ! $ done !
 
     pub owns-in : (ps : List Passed) (P : Fml) → ent 𝓤 (sep 𝓤 (sem 𝓤 H A (ownsThen ps ftrue)) (sem 𝓤 H A P)) (sem 𝓤 H A (ownsThen ps P))
     owns-in [] P = qed W (‵ ftrue ∷ ‵ P ∷ []) ∵ drop ! $ done !
-    owns-in (p ∷ ps) P = qed W (‵ (ownsThen (p ∷ ps) ftrue) ∷ ‵ P ∷ []) ∵ fsplit ! $ move ! (1 ∷ 2 ∷ []) $ use2 W (‵ (ownsThen ps P)) (owns-in ps P) $ move ! (1 ∷ 0 ∷ []) $ fjoin ! $ done !
+    owns-in (p ∷ ps) P =
+        qed W (‵ (ownsThen (p ∷ ps) ftrue) ∷ ‵ P ∷ []) ∵ fsplit ! $ move ! (1 ∷ 2 ∷ []) $ use2 W (‵ (ownsThen ps P)) (owns-in ps P) $
+        move ! (1 ∷ 0 ∷ []) $ fjoin ! $ done !
 
     pub unsaid : (ps : List Passed) (P : Fml) → ent 𝓤 (sem 𝓤 H A (silentThen ps P)) (sem 𝓤 H A P)
     unsaid [] P = id⊢ 𝓤 _

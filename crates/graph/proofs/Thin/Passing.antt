@@ -1,12 +1,21 @@
--- The law of thin entries (`Entry.antt`) at five parameter lists. Each entry lends the tables on, has the tally behind a reference, and passes everything else on as it is: a program before the tables, numbers or a value of a plain type behind the tally.
---     bytes, table, tally, number      the parameters' places in a signature.        passed-program, passed-number      a program and a number, as parameters that are passed on
---     Plain                a plain type, whose values are passed on: its MIR type, the machine value of each value, which is of that type, and that whoever is handed a value has that machine value.        still      its row
---     Thin                 an entry and its core: their signatures, what each ensures of the parameters, the result and the parameters at exit, what is had of the entry's parameters at exit, and its code
+-- The law of thin entries (`Entry.antt`) at five parameter lists. Each entry lends the tables on, has the tally behind a reference, and passes
+-- everything else on as it is: a program before the tables, numbers or a value of a plain type behind the tally.
+--     bytes, table, tally, number      the parameters' places in a signature
+--     passed-program, passed-number    a program and a number, as parameters that are passed on
+--     Plain                a plain type, whose values are passed on: its MIR type, the machine value of each value, which is of that type, and that
+--                          whoever is handed a value has that machine value
+--     still                its row
+--     Thin                 an entry and its core: their signatures, what each ensures of the parameters, the result and the parameters at exit, what is
+--                          had of the entry's parameters at exit, and its code
 --     Core                 the core's contract.        Walk      from the core, the entry's code does what is asked
 --     thin-meets           an entry's routine meets its contract, from such a walk and from its core, which does
---     tables-meets, value-meets, numbers-meets, program-meets, program-number-meets     so it does with these parameters beside the tally: the tables; the tables and a value of a plain type; the tables and four numbers; a program and the tables; a program, the tables and a number.
---                          They are told the types of the results and a relation Q between the program, what is lent, the value or the numbers, the answer and what is lent afterwards, which both ensure
--- At an entry, what they conclude is its statement, and what they ask of the code and of the core is what `rattle check` makes of both. antt sees that by computing, so an entry's proof says none of it.
+--     tables-meets, value-meets, numbers-meets, program-meets, program-number-meets
+--                          so it does with these parameters beside the tally: the tables; the tables and a value of a plain type; the tables and
+--                          four numbers; a program and the tables; a program, the tables and a number. They are told the types of the results and
+--                          a relation Q between the program, what is lent, the value or the numbers, the answer and what is lent afterwards, which
+--                          both ensure
+-- At an entry, what they conclude is its statement, and what they ask of the code and of the core is what `rattle check` makes of both. antt
+-- sees that by computing, so an entry's proof says none of it.
 -- Assumes nothing.
 use mathlib.Core.Path.{_≡_, refl}
 use Prim.Native.Nat.{ℕ}
@@ -90,7 +99,14 @@ numberTy = tyInt w32
 
 module _ {M : Type 1} (𝓤 : URA M) (H : Heap 𝓤) (A : Atoms 𝓤) (W : Given 𝓤 H A) where
   abbrev passed-program : (κ : Lft) (x : RefT (List ℕ)) → Is (ShrSlice (named 0) κ u8) x (slice-vals x) → Passed
-  passed-program κ x is = record { row = ShrSlice (named 0) κ u8; value = x; word = sliceVal (x .ptr) (length (x .now)); type = programTy; typed = shr-slice-lawful 𝓤 H A W (named 0) κ u8 .typed x _ is .0 }
+  passed-program κ x is =
+      record {
+        row = ShrSlice (named 0) κ u8;
+        value = x;
+        word = sliceVal (x .ptr) (length (x .now));
+        type = programTy;
+        typed = shr-slice-lawful 𝓤 H A W (named 0) κ u8 .typed x _ is .0;
+      }
 
   abbrev passed-number : (x : ℕ) → Is u32 x (uint-vals w32 x) → Passed
   passed-number x is = record { row = u32; value = x; word = vint w32 x; type = numberTy; typed = uint-lawful 𝓤 H A W w32 .typed x _ is .0 }
@@ -106,7 +122,16 @@ pub record Plain : Type 2 where
 
 -- the row with that exit, which at a type that is written out is the row itself
 abbrev still : Plain → RattleType
-still ν = record { Denot = ν .row .Denot; mir = ν .row .mir; written = ν .row .written; reaches = ν .row .reaches; own = ν .row .own; exit = λ k. unchanged; coded = ν .row .coded }
+still ν =
+    record {
+      Denot = ν .row .Denot;
+      mir = ν .row .mir;
+      written = ν .row .written;
+      reaches = ν .row .reaches;
+      own = ν .row .own;
+      exit = λ k. unchanged;
+      coded = ν .row .coded;
+    }
 
 -- FROM A WALK OF THE CODE TO THE CONTRACT
 -- what is ensured of the parameters, the result and the parameters at exit
@@ -135,7 +160,8 @@ module _ {M : Type 1} (𝓤 : URA M) (H : Heap 𝓤) where
     Core A = tripleOf 𝓤 H A (X .core .signature) (closing 𝓤 H A (X .core) (clauses (X .core) (X .knows)))
 
     abbrev Walk : (A : Atoms 𝓤) → Given 𝓤 H A → Name → Type 2
-    Walk A W g = (C : Calls 𝓤 H) (Λ : Loops 𝓤 H) → FmC 𝓤 H (W .laws) C → Triple 𝓤 (C g) (Core A) → Walks 𝓤 H A (X .entry) (X .stayed) (WpFn 𝓤 H C Λ (X .code g)) asked
+    Walk A W g =
+        (C : Calls 𝓤 H) (Λ : Loops 𝓤 H) → FmC 𝓤 H (W .laws) C → Triple 𝓤 (C g) (Core A) → Walks 𝓤 H A (X .entry) (X .stayed) (WpFn 𝓤 H C Λ (X .code g)) asked
 
     -- what is had of its parameters at exit gives what is said of them
     abbrev Go : (A : Atoms 𝓤) → Given 𝓤 H A → Type 1
@@ -144,14 +170,17 @@ module _ {M : Type 1} (𝓤 : URA M) (H : Heap 𝓤) where
     module _ (𝓜 : Model 𝓤 H) (𝓖 : GhostRules 𝓤 H) (𝓡 : Running 𝓤 H 𝓜) (γ : Env) (k g : Name) (core : Routine) where
       -- the routine k runs the entry's code, in which g is the core; the core meets its contract; then so does the entry
       abbrev Calling : Type 2
-      Calling = Closed 𝓤 H (tables 𝓤 H 𝓜 𝓡 γ .C) (tables 𝓤 H 𝓜 𝓡 γ .Λ) k (X .code g) → γ g ≡ core → Triple 𝓤 (𝓡 .run core) (Core (𝓖 .A)) → Meets 𝓤 H (𝓖 .A) (X .entry .signature) (𝓡 .run (γ k)) (closing 𝓤 H (𝓖 .A) (X .entry) asked)
+      Calling =
+          Closed 𝓤 H (tables 𝓤 H 𝓜 𝓡 γ .C) (tables 𝓤 H 𝓜 𝓡 γ .Λ) k (X .code g) → γ g ≡ core → Triple 𝓤 (𝓡 .run core) (Core (𝓖 .A))
+          → Meets 𝓤 H (𝓖 .A) (X .entry .signature) (𝓡 .run (γ k)) (closing 𝓤 H (𝓖 .A) (X .entry) asked)
 
       thin-meets : Go (𝓖 .A) (givenOf 𝓤 H 𝓜 𝓖) → Walk (𝓖 .A) (givenOf 𝓤 H 𝓜 𝓖) g → Calling
       unfolding tablesOf
       thin-meets go walk closed is met =
           let W : Given 𝓤 H (𝓖 .A) = givenOf 𝓤 H 𝓜 𝓖 in
           let 𝓣 : Tables 𝓤 H = tablesOf 𝓤 H 𝓜 (tables 𝓤 H 𝓜 𝓡 γ) in
-          entered 𝓤 H (tripleOf 𝓤 H (𝓖 .A) (X .entry .signature) (closing 𝓤 H (𝓖 .A) (X .entry) asked)) (tables 𝓤 H 𝓜 𝓡 γ .C) (tables 𝓤 H 𝓜 𝓡 γ .Λ) k (X .code g) closed
+          entered 𝓤 H (tripleOf 𝓤 H (𝓖 .A) (X .entry .signature) (closing 𝓤 H (𝓖 .A) (X .entry) asked)) (tables 𝓤 H 𝓜 𝓡 γ .C) (tables 𝓤 H 𝓜 𝓡 γ .Λ) k
+          (X .code g) closed
           (walk-meets 𝓤 H (𝓖 .A) (X .entry) (X .stayed) W go asked (WpFn 𝓤 H (𝓣 .C) (𝓣 .Λ) (X .code g)) (WpFn-mono 𝓤 H (W .laws) 𝓣 (X .code g))
           (walk (𝓣 .C) (𝓣 .Λ) (fmOf 𝓤 H (W .laws) 𝓣) (cited 𝓤 H (Core (𝓖 .A)) 𝓜 𝓡 γ g core is met)))
 
@@ -184,13 +213,24 @@ module _ (ρ : Results) (Q : Lent → ρ .Answer .Denot → Lent → Type 0) whe
           [] (named 0) (named 1) (named 2) (κs .0) (κs .1 .0) (a .0) (a .1 .0) (a .1 .1 .0) (are .0 .0 .1) (are .1 .0 .0 .1) []
           -- what the core ensures, and the core
           (λ r v e. Q (lent (a .0 .now) (a .1 .0 .now) (a .1 .1 .0 .now)) (ρ .answer r) (lent v e (ρ .tally r))) 3 g _
-          (known (((κs .0, (κs .1 .0, tt)), (qs .0, (qs .1 .0, tt)), tt, (a .0, (a .1 .0, (a .1 .1 .0 .now, tt))), (slice-vals (a .0), (slice-vals (a .1 .0), (tallyVal (a .1 .1 .0 .now) ∷ [], tt)))), tt))
+          (known (
+            (
+              (κs .0, (κs .1 .0, tt)),
+              (qs .0, (qs .1 .0, tt)),
+              tt,
+              (a .0, (a .1 .0, (a .1 .1 .0 .now, tt))),
+              (slice-vals (a .0), (slice-vals (a .1 .0), (tallyVal (a .1 .1 .0 .now) ∷ [], tt))),
+            ),
+            tt,
+          ))
           -- the exit: what the core ensures is what is to be ensured
           (λ r v e φ lv le. via 𝓤 _ (beside 𝓤 H A W _ φ)
-          (ends-at 𝓤 H A (with-tables .entry) (with-tables .stayed) (asked 𝓤 H with-tables) W ((κs, qs, bounds, a, (slice-vals (a .0), (slice-vals (a .1 .0), (ptr-vals (a .1 .1 .0), tt)))), u)
+          (ends-at 𝓤 H A (with-tables .entry) (with-tables .stayed) (asked 𝓤 H with-tables) W
+          ((κs, qs, bounds, a, (slice-vals (a .0), (slice-vals (a .1 .0), (ptr-vals (a .1 .1 .0), tt)))), u)
           (ρ .answerVal (ρ .answer r)) (ρ .answer r) (v, (e, (ρ .tally r, tt))) (lv, (le, (tt, tt)))))))
 
-    pub tables-meets : (𝓜 : Model 𝓤 H) (𝓖 : GhostRules 𝓤 H) (𝓡 : Running 𝓤 H 𝓜) (γ : Env) (k g : Name) (core : Routine) → Calling 𝓤 H with-tables 𝓜 𝓖 𝓡 γ k g core
+    pub tables-meets :
+        (𝓜 : Model 𝓤 H) (𝓖 : GhostRules 𝓤 H) (𝓡 : Running 𝓤 H 𝓜) (γ : Env) (k g : Name) (core : Routine) → Calling 𝓤 H with-tables 𝓜 𝓖 𝓡 γ k g core
     tables-meets 𝓜 𝓖 𝓡 γ k g core = thin-meets 𝓤 H with-tables 𝓜 𝓖 𝓡 γ k g core (tables-go (𝓖 .A) (givenOf 𝓤 H 𝓜 𝓖)) (tables-walk (𝓖 .A) (givenOf 𝓤 H 𝓜 𝓖) g)
 
 -- THE TABLES AND A VALUE OF A PLAIN TYPE
@@ -211,7 +251,10 @@ module _ (ρ : Results) (ν : Plain) (Q : Lent → ν .row .Denot → ρ .Answer
   module _ {M : Type 1} (𝓤 : URA M) (H : Heap 𝓤) where
     module _ (A : Atoms 𝓤) (W : Given 𝓤 H A) where
       value-go : Go 𝓤 H with-value A W
-      value-go = (goes-gave-slice 𝓤 H A W 3 0 tt number, (goes-gave-slice 𝓤 H A W 3 1 tt number, (goes-ref 𝓤 H A W 3 2 tt tally-itself, (goes-dropped 𝓤 H A W 3 value yes (λ κs x f. refl), tt))))
+      value-go = (
+        goes-gave-slice 𝓤 H A W 3 0 tt number,
+        (goes-gave-slice 𝓤 H A W 3 1 tt number, (goes-ref 𝓤 H A W 3 2 tt tally-itself, (goes-dropped 𝓤 H A W 3 value yes (λ κs x f. refl), tt))),
+      )
 
       abbrev passed-value : (x : ν .row .Denot) → Is (ν .row) x (ν .word x ∷ []) → Passed
       passed-value x is = record { row = still ν; value = x; word = ν .word x; type = ν .type; typed = ν .typed 𝓤 H A W x is .0 }
@@ -220,18 +263,30 @@ module _ (ρ : Results) (ν : Plain) (Q : Lent → ν .row .Denot → ρ .Answer
       value-walk g C Λ fm known =
           walked 𝓤 H A (with-value .entry) (with-value .stayed) (asked 𝓤 H with-value) (WpFn 𝓤 H C Λ (with-value .code g))
           (λ κs. (slice-vals, (slice-vals, (ptr-vals, ((λ x. ν .word x ∷ []), tt)))))
-          (λ κs. (mut-slice-tells (named 0) (κs .0) u32, (mut-slice-tells (named 1) (κs .1 .0) u32, (mut-tells (named 2) (κs .1 .1 .0) T.the-row, (ν .tells, tt)))))
+          (λ κs.
+          (mut-slice-tells (named 0) (κs .0) u32, (mut-slice-tells (named 1) (κs .1 .0) u32, (mut-tells (named 2) (κs .1 .1 .0) T.the-row, (ν .tells, tt)))))
           (λ κs qs bounds a u are. via 𝓤 _ (fst∗ 𝓤 _ (emp 𝓤)) (entry-walk 𝓤 H A ρ W C Λ fm
           -- the lifetimes, with the tally's apart
           2 (κs .0, (κs .1 .0, tt)) (qs .0, (qs .1 .0, tt)) (κs .1 .1 .0) (qs .1 .1 .0)
           -- the parameters
-          [] (named 0) (named 1) (named 2) (κs .0) (κs .1 .0) (a .0) (a .1 .0) (a .1 .1 .0) (are .0 .0 .1) (are .1 .0 .0 .1) (passed-value (a .1 .1 .1 .0) (are .1 .1 .1 .0) ∷ [])
+          [] (named 0) (named 1) (named 2) (κs .0) (κs .1 .0) (a .0) (a .1 .0) (a .1 .1 .0) (are .0 .0 .1) (are .1 .0 .0 .1)
+          (passed-value (a .1 .1 .1 .0) (are .1 .1 .1 .0) ∷ [])
           -- what the core ensures, and the core
           (λ r v e. Q (lent (a .0 .now) (a .1 .0 .now) (a .1 .1 .0 .now)) (a .1 .1 .1 .0) (ρ .answer r) (lent v e (ρ .tally r))) 3 g _
-          (known (((κs .0, (κs .1 .0, tt)), (qs .0, (qs .1 .0, tt)), tt, (a .0, (a .1 .0, (a .1 .1 .0 .now, (a .1 .1 .1 .0, tt)))), (slice-vals (a .0), (slice-vals (a .1 .0), (tallyVal (a .1 .1 .0 .now) ∷ [], (ν .word (a .1 .1 .1 .0) ∷ [], tt))))), tt))
+          (known (
+            (
+              (κs .0, (κs .1 .0, tt)),
+              (qs .0, (qs .1 .0, tt)),
+              tt,
+              (a .0, (a .1 .0, (a .1 .1 .0 .now, (a .1 .1 .1 .0, tt)))),
+              (slice-vals (a .0), (slice-vals (a .1 .0), (tallyVal (a .1 .1 .0 .now) ∷ [], (ν .word (a .1 .1 .1 .0) ∷ [], tt)))),
+            ),
+            tt,
+          ))
           -- the exit: what the core ensures is what is to be ensured
           (λ r v e φ lv le. via 𝓤 _ (beside 𝓤 H A W _ φ)
-          (ends-at 𝓤 H A (with-value .entry) (with-value .stayed) (asked 𝓤 H with-value) W ((κs, qs, bounds, a, (slice-vals (a .0), (slice-vals (a .1 .0), (ptr-vals (a .1 .1 .0), (ν .word (a .1 .1 .1 .0) ∷ [], tt))))), u)
+          (ends-at 𝓤 H A (with-value .entry) (with-value .stayed) (asked 𝓤 H with-value) W
+          ((κs, qs, bounds, a, (slice-vals (a .0), (slice-vals (a .1 .0), (ptr-vals (a .1 .1 .0), (ν .word (a .1 .1 .1 .0) ∷ [], tt))))), u)
           (ρ .answerVal (ρ .answer r)) (ρ .answer r) (v, (e, (ρ .tally r, (tt, tt)))) (lv, (le, (tt, (tt, tt))))))))
 
     pub value-meets : (𝓜 : Model 𝓤 H) (𝓖 : GhostRules 𝓤 H) (𝓡 : Running 𝓤 H 𝓜) (γ : Env) (k g : Name) (core : Routine) → Calling 𝓤 H with-value 𝓜 𝓖 𝓡 γ k g core
@@ -242,111 +297,245 @@ module _ (ρ : Results) (Q : Lent → ℕ → ℕ → ℕ → ℕ → ρ .Answer
   abbrev with-numbers : Thin
   with-numbers = record {
     entry = takes 3 (table 0 tt ∷ table 1 tt ∷ tally 2 tt ∷ number ∷ number ∷ number ∷ number ∷ []) (ρ .Answer);
-    ensures = λ κs a r e. Q (lent (a .0 .now) (a .1 .0 .now) (a .1 .1 .0 .now)) (a .1 .1 .1 .0) (a .1 .1 .1 .1 .0) (a .1 .1 .1 .1 .1 .0) (a .1 .1 .1 .1 .1 .1 .0) r (lent (e .0 .now) (e .1 .0 .now) (e .1 .1 .0 .now));
+    ensures =
+        λ κs a r e. Q (lent (a .0 .now) (a .1 .0 .now) (a .1 .1 .0 .now)) (a .1 .1 .1 .0) (a .1 .1 .1 .1 .0) (a .1 .1 .1 .1 .1 .0)
+        (a .1 .1 .1 .1 .1 .1 .0) r (lent (e .0 .now) (e .1 .0 .now) (e .1 .1 .0 .now));
     stayed = (gave 0 tt, (gave 1 tt, (kept 2 tt, (dropped number, (dropped number, (dropped number, (dropped number, tt)))))));
     core = takes 2 (table 0 tt ∷ table 1 tt ∷ tally-itself ∷ number ∷ number ∷ number ∷ number ∷ []) (ρ .Done);
-    knows = λ κs a r e. Q (lent (a .0 .now) (a .1 .0 .now) (a .1 .1 .0)) (a .1 .1 .1 .0) (a .1 .1 .1 .1 .0) (a .1 .1 .1 .1 .1 .0) (a .1 .1 .1 .1 .1 .1 .0) (ρ .answer r) (lent (e .0 .now) (e .1 .0 .now) (ρ .tally r));
+    knows =
+        λ κs a r e. Q (lent (a .0 .now) (a .1 .0 .now) (a .1 .1 .0)) (a .1 .1 .1 .0) (a .1 .1 .1 .1 .0) (a .1 .1 .1 .1 .1 .0)
+        (a .1 .1 .1 .1 .1 .1 .0) (ρ .answer r) (lent (e .0 .now) (e .1 .0 .now) (ρ .tally r));
     code = thin ρ 3 (named 0) (named 1) (named 2) [] (numberTy ∷ numberTy ∷ numberTy ∷ numberTy ∷ []);
   }
 
   module _ {M : Type 1} (𝓤 : URA M) (H : Heap 𝓤) where
     module _ (A : Atoms 𝓤) (W : Given 𝓤 H A) where
       numbers-go : Go 𝓤 H with-numbers A W
-      numbers-go = (goes-gave-slice 𝓤 H A W 3 0 tt number, (goes-gave-slice 𝓤 H A W 3 1 tt number, (goes-ref 𝓤 H A W 3 2 tt tally-itself, (goes-dropped 𝓤 H A W 3 number yes (λ κs x f. refl), (goes-dropped 𝓤 H A W 3 number yes (λ κs x f. refl), (goes-dropped 𝓤 H A W 3 number yes (λ κs x f. refl), (goes-dropped 𝓤 H A W 3 number yes (λ κs x f. refl), tt)))))))
+      numbers-go = (
+        goes-gave-slice 𝓤 H A W 3 0 tt number,
+        (
+          goes-gave-slice 𝓤 H A W 3 1 tt number,
+          (
+            goes-ref 𝓤 H A W 3 2 tt tally-itself,
+            (
+              goes-dropped 𝓤 H A W 3 number yes (λ κs x f. refl),
+              (
+                goes-dropped 𝓤 H A W 3 number yes (λ κs x f. refl),
+                (goes-dropped 𝓤 H A W 3 number yes (λ κs x f. refl), (goes-dropped 𝓤 H A W 3 number yes (λ κs x f. refl), tt)),
+              ),
+            ),
+          ),
+        ),
+      )
 
       numbers-walk : (g : Name) → Walk 𝓤 H with-numbers A W g
       numbers-walk g C Λ fm known =
           walked 𝓤 H A (with-numbers .entry) (with-numbers .stayed) (asked 𝓤 H with-numbers) (WpFn 𝓤 H C Λ (with-numbers .code g))
           (λ κs. (slice-vals, (slice-vals, (ptr-vals, (uint-vals w32, (uint-vals w32, (uint-vals w32, (uint-vals w32, tt))))))))
-          (λ κs. (mut-slice-tells (named 0) (κs .0) u32, (mut-slice-tells (named 1) (κs .1 .0) u32, (mut-tells (named 2) (κs .1 .1 .0) T.the-row, (uint-tells w32, (uint-tells w32, (uint-tells w32, (uint-tells w32, tt))))))))
+          (λ κs. (
+            mut-slice-tells (named 0) (κs .0) u32,
+            (
+              mut-slice-tells (named 1) (κs .1 .0) u32,
+              (mut-tells (named 2) (κs .1 .1 .0) T.the-row, (uint-tells w32, (uint-tells w32, (uint-tells w32, (uint-tells w32, tt))))),
+            ),
+          ))
           (λ κs qs bounds a u are. via 𝓤 _ (fst∗ 𝓤 _ (emp 𝓤)) (entry-walk 𝓤 H A ρ W C Λ fm
           -- the lifetimes, with the tally's apart
           2 (κs .0, (κs .1 .0, tt)) (qs .0, (qs .1 .0, tt)) (κs .1 .1 .0) (qs .1 .1 .0)
           -- the parameters
-          [] (named 0) (named 1) (named 2) (κs .0) (κs .1 .0) (a .0) (a .1 .0) (a .1 .1 .0) (are .0 .0 .1) (are .1 .0 .0 .1) (passed-number 𝓤 H A W (a .1 .1 .1 .0) (are .1 .1 .1 .0) ∷ passed-number 𝓤 H A W (a .1 .1 .1 .1 .0) (are .1 .1 .1 .1 .0) ∷ passed-number 𝓤 H A W (a .1 .1 .1 .1 .1 .0) (are .1 .1 .1 .1 .1 .0) ∷ passed-number 𝓤 H A W (a .1 .1 .1 .1 .1 .1 .0) (are .1 .1 .1 .1 .1 .1 .0) ∷ [])
+          [] (named 0) (named 1) (named 2) (κs .0) (κs .1 .0) (a .0) (a .1 .0) (a .1 .1 .0) (are .0 .0 .1) (are .1 .0 .0 .1)
+          (passed-number 𝓤 H A W (a .1 .1 .1 .0) (are .1 .1 .1 .0) ∷ passed-number 𝓤 H A W (a .1 .1 .1 .1 .0) (are .1 .1 .1 .1 .0) ∷
+          passed-number 𝓤 H A W (a .1 .1 .1 .1 .1 .0) (are .1 .1 .1 .1 .1 .0) ∷ passed-number 𝓤 H A W (a .1 .1 .1 .1 .1 .1 .0) (are .1 .1 .1 .1 .1 .1 .0) ∷ [])
           -- what the core ensures, and the core
-          (λ r v e. Q (lent (a .0 .now) (a .1 .0 .now) (a .1 .1 .0 .now)) (a .1 .1 .1 .0) (a .1 .1 .1 .1 .0) (a .1 .1 .1 .1 .1 .0) (a .1 .1 .1 .1 .1 .1 .0) (ρ .answer r) (lent v e (ρ .tally r))) 3 g _
-          (known (((κs .0, (κs .1 .0, tt)), (qs .0, (qs .1 .0, tt)), tt, (a .0, (a .1 .0, (a .1 .1 .0 .now, (a .1 .1 .1 .0, (a .1 .1 .1 .1 .0, (a .1 .1 .1 .1 .1 .0, (a .1 .1 .1 .1 .1 .1 .0, tt))))))), (slice-vals (a .0), (slice-vals (a .1 .0), (tallyVal (a .1 .1 .0 .now) ∷ [], (uint-vals w32 (a .1 .1 .1 .0), (uint-vals w32 (a .1 .1 .1 .1 .0), (uint-vals w32 (a .1 .1 .1 .1 .1 .0), (uint-vals w32 (a .1 .1 .1 .1 .1 .1 .0), tt)))))))), tt))
+          (λ r v e. Q (lent (a .0 .now) (a .1 .0 .now) (a .1 .1 .0 .now)) (a .1 .1 .1 .0) (a .1 .1 .1 .1 .0) (a .1 .1 .1 .1 .1 .0)
+          (a .1 .1 .1 .1 .1 .1 .0) (ρ .answer r) (lent v e (ρ .tally r)))
+          3 g _
+          (known (
+            (
+              (κs .0, (κs .1 .0, tt)),
+              (qs .0, (qs .1 .0, tt)),
+              tt,
+              (a .0, (a .1 .0, (a .1 .1 .0 .now, (a .1 .1 .1 .0, (a .1 .1 .1 .1 .0, (a .1 .1 .1 .1 .1 .0, (a .1 .1 .1 .1 .1 .1 .0, tt))))))),
+              (
+                slice-vals (a .0),
+                (
+                  slice-vals (a .1 .0),
+                  (
+                    tallyVal (a .1 .1 .0 .now) ∷ [],
+                    (
+                      uint-vals w32 (a .1 .1 .1 .0),
+                      (uint-vals w32 (a .1 .1 .1 .1 .0), (uint-vals w32 (a .1 .1 .1 .1 .1 .0), (uint-vals w32 (a .1 .1 .1 .1 .1 .1 .0), tt))),
+                    ),
+                  ),
+                ),
+              ),
+            ),
+            tt,
+          ))
           -- the exit: what the core ensures is what is to be ensured
           (λ r v e φ lv le. via 𝓤 _ (beside 𝓤 H A W _ φ)
-          (ends-at 𝓤 H A (with-numbers .entry) (with-numbers .stayed) (asked 𝓤 H with-numbers) W ((κs, qs, bounds, a, (slice-vals (a .0), (slice-vals (a .1 .0), (ptr-vals (a .1 .1 .0), (uint-vals w32 (a .1 .1 .1 .0), (uint-vals w32 (a .1 .1 .1 .1 .0), (uint-vals w32 (a .1 .1 .1 .1 .1 .0), (uint-vals w32 (a .1 .1 .1 .1 .1 .1 .0), tt)))))))), u)
+          (ends-at 𝓤 H A (with-numbers .entry) (with-numbers .stayed) (asked 𝓤 H with-numbers) W (
+            (
+              κs,
+              qs,
+              bounds,
+              a,
+              (
+                slice-vals (a .0),
+                (
+                  slice-vals (a .1 .0),
+                  (
+                    ptr-vals (a .1 .1 .0),
+                    (
+                      uint-vals w32 (a .1 .1 .1 .0),
+                      (uint-vals w32 (a .1 .1 .1 .1 .0), (uint-vals w32 (a .1 .1 .1 .1 .1 .0), (uint-vals w32 (a .1 .1 .1 .1 .1 .1 .0), tt))),
+                    ),
+                  ),
+                ),
+              ),
+            ),
+            u,
+          )
           (ρ .answerVal (ρ .answer r)) (ρ .answer r) (v, (e, (ρ .tally r, (tt, (tt, (tt, (tt, tt))))))) (lv, (le, (tt, (tt, (tt, (tt, (tt, tt)))))))))))
 
-    pub numbers-meets : (𝓜 : Model 𝓤 H) (𝓖 : GhostRules 𝓤 H) (𝓡 : Running 𝓤 H 𝓜) (γ : Env) (k g : Name) (core : Routine) → Calling 𝓤 H with-numbers 𝓜 𝓖 𝓡 γ k g core
-    numbers-meets 𝓜 𝓖 𝓡 γ k g core = thin-meets 𝓤 H with-numbers 𝓜 𝓖 𝓡 γ k g core (numbers-go (𝓖 .A) (givenOf 𝓤 H 𝓜 𝓖)) (numbers-walk (𝓖 .A) (givenOf 𝓤 H 𝓜 𝓖) g)
+    pub numbers-meets :
+        (𝓜 : Model 𝓤 H) (𝓖 : GhostRules 𝓤 H) (𝓡 : Running 𝓤 H 𝓜) (γ : Env) (k g : Name) (core : Routine) → Calling 𝓤 H with-numbers 𝓜 𝓖 𝓡 γ k g core
+    numbers-meets 𝓜 𝓖 𝓡 γ k g core =
+        thin-meets 𝓤 H with-numbers 𝓜 𝓖 𝓡 γ k g core (numbers-go (𝓖 .A) (givenOf 𝓤 H 𝓜 𝓖)) (numbers-walk (𝓖 .A) (givenOf 𝓤 H 𝓜 𝓖) g)
 
 -- A PROGRAM AND THE TABLES
 module _ (ρ : Results) (Q : List ℕ → Lent → ρ .Answer .Denot → Lent → Type 0) where
   abbrev with-program : Thin
   with-program = record {
     entry = takes 4 (bytes 0 tt ∷ table 1 tt ∷ table 2 tt ∷ tally 3 tt ∷ []) (ρ .Answer);
-    ensures = λ κs a r e. Q (a .0 .now) (lent (a .1 .0 .now) (a .1 .1 .0 .now) (a .1 .1 .1 .0 .now)) r (lent (e .1 .0 .now) (e .1 .1 .0 .now) (e .1 .1 .1 .0 .now));
+    ensures =
+        λ κs a r e. Q (a .0 .now) (lent (a .1 .0 .now) (a .1 .1 .0 .now) (a .1 .1 .1 .0 .now)) r (lent (e .1 .0 .now) (e .1 .1 .0 .now) (e .1 .1 .1 .0 .now));
     stayed = (dropped (bytes 0 tt), (gave 1 tt, (gave 2 tt, (kept 3 tt, tt))));
     core = takes 3 (bytes 0 tt ∷ table 1 tt ∷ table 2 tt ∷ tally-itself ∷ []) (ρ .Done);
-    knows = λ κs a r e. Q (a .0 .now) (lent (a .1 .0 .now) (a .1 .1 .0 .now) (a .1 .1 .1 .0)) (ρ .answer r) (lent (e .1 .0 .now) (e .1 .1 .0 .now) (ρ .tally r));
+    knows =
+        λ κs a r e. Q (a .0 .now) (lent (a .1 .0 .now) (a .1 .1 .0 .now) (a .1 .1 .1 .0)) (ρ .answer r) (lent (e .1 .0 .now) (e .1 .1 .0 .now) (ρ .tally r));
     code = thin ρ 4 (named 1) (named 2) (named 3) (programTy ∷ []) [];
   }
 
   module _ {M : Type 1} (𝓤 : URA M) (H : Heap 𝓤) where
     module _ (A : Atoms 𝓤) (W : Given 𝓤 H A) where
       program-go : Go 𝓤 H with-program A W
-      program-go = (goes-dropped 𝓤 H A W 4 (bytes 0 tt) yes (λ κs x f. refl), (goes-gave-slice 𝓤 H A W 4 1 tt number, (goes-gave-slice 𝓤 H A W 4 2 tt number, (goes-ref 𝓤 H A W 4 3 tt tally-itself, tt))))
+      program-go = (
+        goes-dropped 𝓤 H A W 4 (bytes 0 tt) yes (λ κs x f. refl),
+        (goes-gave-slice 𝓤 H A W 4 1 tt number, (goes-gave-slice 𝓤 H A W 4 2 tt number, (goes-ref 𝓤 H A W 4 3 tt tally-itself, tt))),
+      )
 
       program-walk : (g : Name) → Walk 𝓤 H with-program A W g
       program-walk g C Λ fm known =
           walked 𝓤 H A (with-program .entry) (with-program .stayed) (asked 𝓤 H with-program) (WpFn 𝓤 H C Λ (with-program .code g))
           (λ κs. (slice-vals, (slice-vals, (slice-vals, (ptr-vals, tt)))))
-          (λ κs. (shr-slice-tells (named 0) (κs .0) u8, (mut-slice-tells (named 1) (κs .1 .0) u32, (mut-slice-tells (named 2) (κs .1 .1 .0) u32, (mut-tells (named 3) (κs .1 .1 .1 .0) T.the-row, tt)))))
+          (λ κs. (
+            shr-slice-tells (named 0) (κs .0) u8,
+            (mut-slice-tells (named 1) (κs .1 .0) u32, (mut-slice-tells (named 2) (κs .1 .1 .0) u32, (mut-tells (named 3) (κs .1 .1 .1 .0) T.the-row, tt))),
+          ))
           (λ κs qs bounds a u are. via 𝓤 _ (fst∗ 𝓤 _ (emp 𝓤)) (entry-walk 𝓤 H A ρ W C Λ fm
           -- the lifetimes, with the tally's apart
           3 (κs .0, (κs .1 .0, (κs .1 .1 .0, tt))) (qs .0, (qs .1 .0, (qs .1 .1 .0, tt))) (κs .1 .1 .1 .0) (qs .1 .1 .1 .0)
           -- the parameters
-          (passed-program 𝓤 H A W (κs .0) (a .0) (are .0) ∷ []) (named 1) (named 2) (named 3) (κs .1 .0) (κs .1 .1 .0) (a .1 .0) (a .1 .1 .0) (a .1 .1 .1 .0) (are .1 .0 .0 .1) (are .1 .1 .0 .0 .1) []
+          (passed-program 𝓤 H A W (κs .0) (a .0) (are .0) ∷ []) (named 1) (named 2) (named 3) (κs .1 .0) (κs .1 .1 .0) (a .1 .0) (a .1 .1 .0)
+          (a .1 .1 .1 .0) (are .1 .0 .0 .1) (are .1 .1 .0 .0 .1) []
           -- what the core ensures, and the core
           (λ r v e. Q (a .0 .now) (lent (a .1 .0 .now) (a .1 .1 .0 .now) (a .1 .1 .1 .0 .now)) (ρ .answer r) (lent v e (ρ .tally r))) 4 g _
-          (known (((κs .0, (κs .1 .0, (κs .1 .1 .0, tt))), (qs .0, (qs .1 .0, (qs .1 .1 .0, tt))), tt, (a .0, (a .1 .0, (a .1 .1 .0, (a .1 .1 .1 .0 .now, tt)))), (slice-vals (a .0), (slice-vals (a .1 .0), (slice-vals (a .1 .1 .0), (tallyVal (a .1 .1 .1 .0 .now) ∷ [], tt))))), tt))
+          (known (
+            (
+              (κs .0, (κs .1 .0, (κs .1 .1 .0, tt))),
+              (qs .0, (qs .1 .0, (qs .1 .1 .0, tt))),
+              tt,
+              (a .0, (a .1 .0, (a .1 .1 .0, (a .1 .1 .1 .0 .now, tt)))),
+              (slice-vals (a .0), (slice-vals (a .1 .0), (slice-vals (a .1 .1 .0), (tallyVal (a .1 .1 .1 .0 .now) ∷ [], tt)))),
+            ),
+            tt,
+          ))
           -- the exit: what the core ensures is what is to be ensured
           (λ r v e φ lv le. via 𝓤 _ (beside 𝓤 H A W _ φ)
-          (ends-at 𝓤 H A (with-program .entry) (with-program .stayed) (asked 𝓤 H with-program) W ((κs, qs, bounds, a, (slice-vals (a .0), (slice-vals (a .1 .0), (slice-vals (a .1 .1 .0), (ptr-vals (a .1 .1 .1 .0), tt))))), u)
+          (ends-at 𝓤 H A (with-program .entry) (with-program .stayed) (asked 𝓤 H with-program) W
+          ((κs, qs, bounds, a, (slice-vals (a .0), (slice-vals (a .1 .0), (slice-vals (a .1 .1 .0), (ptr-vals (a .1 .1 .1 .0), tt))))), u)
           (ρ .answerVal (ρ .answer r)) (ρ .answer r) (tt, (v, (e, (ρ .tally r, tt)))) (tt, (lv, (le, (tt, tt))))))))
 
-    pub program-meets : (𝓜 : Model 𝓤 H) (𝓖 : GhostRules 𝓤 H) (𝓡 : Running 𝓤 H 𝓜) (γ : Env) (k g : Name) (core : Routine) → Calling 𝓤 H with-program 𝓜 𝓖 𝓡 γ k g core
-    program-meets 𝓜 𝓖 𝓡 γ k g core = thin-meets 𝓤 H with-program 𝓜 𝓖 𝓡 γ k g core (program-go (𝓖 .A) (givenOf 𝓤 H 𝓜 𝓖)) (program-walk (𝓖 .A) (givenOf 𝓤 H 𝓜 𝓖) g)
+    pub program-meets :
+        (𝓜 : Model 𝓤 H) (𝓖 : GhostRules 𝓤 H) (𝓡 : Running 𝓤 H 𝓜) (γ : Env) (k g : Name) (core : Routine) → Calling 𝓤 H with-program 𝓜 𝓖 𝓡 γ k g core
+    program-meets 𝓜 𝓖 𝓡 γ k g core =
+        thin-meets 𝓤 H with-program 𝓜 𝓖 𝓡 γ k g core (program-go (𝓖 .A) (givenOf 𝓤 H 𝓜 𝓖)) (program-walk (𝓖 .A) (givenOf 𝓤 H 𝓜 𝓖) g)
 
 -- A PROGRAM, THE TABLES AND A NUMBER
 module _ (ρ : Results) (Q : List ℕ → Lent → ℕ → ρ .Answer .Denot → Lent → Type 0) where
   abbrev with-program-number : Thin
   with-program-number = record {
     entry = takes 4 (bytes 0 tt ∷ table 1 tt ∷ table 2 tt ∷ tally 3 tt ∷ number ∷ []) (ρ .Answer);
-    ensures = λ κs a r e. Q (a .0 .now) (lent (a .1 .0 .now) (a .1 .1 .0 .now) (a .1 .1 .1 .0 .now)) (a .1 .1 .1 .1 .0) r (lent (e .1 .0 .now) (e .1 .1 .0 .now) (e .1 .1 .1 .0 .now));
+    ensures =
+        λ κs a r e. Q (a .0 .now) (lent (a .1 .0 .now) (a .1 .1 .0 .now) (a .1 .1 .1 .0 .now)) (a .1 .1 .1 .1 .0) r
+        (lent (e .1 .0 .now) (e .1 .1 .0 .now) (e .1 .1 .1 .0 .now));
     stayed = (dropped (bytes 0 tt), (gave 1 tt, (gave 2 tt, (kept 3 tt, (dropped number, tt)))));
     core = takes 3 (bytes 0 tt ∷ table 1 tt ∷ table 2 tt ∷ tally-itself ∷ number ∷ []) (ρ .Done);
-    knows = λ κs a r e. Q (a .0 .now) (lent (a .1 .0 .now) (a .1 .1 .0 .now) (a .1 .1 .1 .0)) (a .1 .1 .1 .1 .0) (ρ .answer r) (lent (e .1 .0 .now) (e .1 .1 .0 .now) (ρ .tally r));
+    knows =
+        λ κs a r e. Q (a .0 .now) (lent (a .1 .0 .now) (a .1 .1 .0 .now) (a .1 .1 .1 .0)) (a .1 .1 .1 .1 .0) (ρ .answer r)
+        (lent (e .1 .0 .now) (e .1 .1 .0 .now) (ρ .tally r));
     code = thin ρ 4 (named 1) (named 2) (named 3) (programTy ∷ []) (numberTy ∷ []);
   }
 
   module _ {M : Type 1} (𝓤 : URA M) (H : Heap 𝓤) where
     module _ (A : Atoms 𝓤) (W : Given 𝓤 H A) where
       program-number-go : Go 𝓤 H with-program-number A W
-      program-number-go = (goes-dropped 𝓤 H A W 4 (bytes 0 tt) yes (λ κs x f. refl), (goes-gave-slice 𝓤 H A W 4 1 tt number, (goes-gave-slice 𝓤 H A W 4 2 tt number, (goes-ref 𝓤 H A W 4 3 tt tally-itself, (goes-dropped 𝓤 H A W 4 number yes (λ κs x f. refl), tt)))))
+      program-number-go = (
+        goes-dropped 𝓤 H A W 4 (bytes 0 tt) yes (λ κs x f. refl),
+        (
+          goes-gave-slice 𝓤 H A W 4 1 tt number,
+          (goes-gave-slice 𝓤 H A W 4 2 tt number, (goes-ref 𝓤 H A W 4 3 tt tally-itself, (goes-dropped 𝓤 H A W 4 number yes (λ κs x f. refl), tt))),
+        ),
+      )
 
       program-number-walk : (g : Name) → Walk 𝓤 H with-program-number A W g
       program-number-walk g C Λ fm known =
           walked 𝓤 H A (with-program-number .entry) (with-program-number .stayed) (asked 𝓤 H with-program-number) (WpFn 𝓤 H C Λ (with-program-number .code g))
           (λ κs. (slice-vals, (slice-vals, (slice-vals, (ptr-vals, (uint-vals w32, tt))))))
-          (λ κs. (shr-slice-tells (named 0) (κs .0) u8, (mut-slice-tells (named 1) (κs .1 .0) u32, (mut-slice-tells (named 2) (κs .1 .1 .0) u32, (mut-tells (named 3) (κs .1 .1 .1 .0) T.the-row, (uint-tells w32, tt))))))
+          (λ κs. (
+            shr-slice-tells (named 0) (κs .0) u8,
+            (
+              mut-slice-tells (named 1) (κs .1 .0) u32,
+              (mut-slice-tells (named 2) (κs .1 .1 .0) u32, (mut-tells (named 3) (κs .1 .1 .1 .0) T.the-row, (uint-tells w32, tt))),
+            ),
+          ))
           (λ κs qs bounds a u are. via 𝓤 _ (fst∗ 𝓤 _ (emp 𝓤)) (entry-walk 𝓤 H A ρ W C Λ fm
           -- the lifetimes, with the tally's apart
           3 (κs .0, (κs .1 .0, (κs .1 .1 .0, tt))) (qs .0, (qs .1 .0, (qs .1 .1 .0, tt))) (κs .1 .1 .1 .0) (qs .1 .1 .1 .0)
           -- the parameters
-          (passed-program 𝓤 H A W (κs .0) (a .0) (are .0) ∷ []) (named 1) (named 2) (named 3) (κs .1 .0) (κs .1 .1 .0) (a .1 .0) (a .1 .1 .0) (a .1 .1 .1 .0) (are .1 .0 .0 .1) (are .1 .1 .0 .0 .1) (passed-number 𝓤 H A W (a .1 .1 .1 .1 .0) (are .1 .1 .1 .1 .0) ∷ [])
+          (passed-program 𝓤 H A W (κs .0) (a .0) (are .0) ∷ []) (named 1) (named 2) (named 3) (κs .1 .0) (κs .1 .1 .0) (a .1 .0) (a .1 .1 .0)
+          (a .1 .1 .1 .0) (are .1 .0 .0 .1) (are .1 .1 .0 .0 .1) (passed-number 𝓤 H A W (a .1 .1 .1 .1 .0) (are .1 .1 .1 .1 .0) ∷ [])
           -- what the core ensures, and the core
           (λ r v e. Q (a .0 .now) (lent (a .1 .0 .now) (a .1 .1 .0 .now) (a .1 .1 .1 .0 .now)) (a .1 .1 .1 .1 .0) (ρ .answer r) (lent v e (ρ .tally r))) 4 g _
-          (known (((κs .0, (κs .1 .0, (κs .1 .1 .0, tt))), (qs .0, (qs .1 .0, (qs .1 .1 .0, tt))), tt, (a .0, (a .1 .0, (a .1 .1 .0, (a .1 .1 .1 .0 .now, (a .1 .1 .1 .1 .0, tt))))), (slice-vals (a .0), (slice-vals (a .1 .0), (slice-vals (a .1 .1 .0), (tallyVal (a .1 .1 .1 .0 .now) ∷ [], (uint-vals w32 (a .1 .1 .1 .1 .0), tt)))))), tt))
+          (known (
+            (
+              (κs .0, (κs .1 .0, (κs .1 .1 .0, tt))),
+              (qs .0, (qs .1 .0, (qs .1 .1 .0, tt))),
+              tt,
+              (a .0, (a .1 .0, (a .1 .1 .0, (a .1 .1 .1 .0 .now, (a .1 .1 .1 .1 .0, tt))))),
+              (
+                slice-vals (a .0),
+                (slice-vals (a .1 .0), (slice-vals (a .1 .1 .0), (tallyVal (a .1 .1 .1 .0 .now) ∷ [], (uint-vals w32 (a .1 .1 .1 .1 .0), tt)))),
+              ),
+            ),
+            tt,
+          ))
           -- the exit: what the core ensures is what is to be ensured
           (λ r v e φ lv le. via 𝓤 _ (beside 𝓤 H A W _ φ)
-          (ends-at 𝓤 H A (with-program-number .entry) (with-program-number .stayed) (asked 𝓤 H with-program-number) W ((κs, qs, bounds, a, (slice-vals (a .0), (slice-vals (a .1 .0), (slice-vals (a .1 .1 .0), (ptr-vals (a .1 .1 .1 .0), (uint-vals w32 (a .1 .1 .1 .1 .0), tt)))))), u)
+          (ends-at 𝓤 H A (with-program-number .entry) (with-program-number .stayed) (asked 𝓤 H with-program-number) W (
+            (
+              κs,
+              qs,
+              bounds,
+              a,
+              (slice-vals (a .0), (slice-vals (a .1 .0), (slice-vals (a .1 .1 .0), (ptr-vals (a .1 .1 .1 .0), (uint-vals w32 (a .1 .1 .1 .1 .0), tt))))),
+            ),
+            u,
+          )
           (ρ .answerVal (ρ .answer r)) (ρ .answer r) (tt, (v, (e, (ρ .tally r, (tt, tt))))) (tt, (lv, (le, (tt, (tt, tt)))))))))
 
-    pub program-number-meets : (𝓜 : Model 𝓤 H) (𝓖 : GhostRules 𝓤 H) (𝓡 : Running 𝓤 H 𝓜) (γ : Env) (k g : Name) (core : Routine) → Calling 𝓤 H with-program-number 𝓜 𝓖 𝓡 γ k g core
-    program-number-meets 𝓜 𝓖 𝓡 γ k g core = thin-meets 𝓤 H with-program-number 𝓜 𝓖 𝓡 γ k g core (program-number-go (𝓖 .A) (givenOf 𝓤 H 𝓜 𝓖)) (program-number-walk (𝓖 .A) (givenOf 𝓤 H 𝓜 𝓖) g)
+    pub program-number-meets :
+        (𝓜 : Model 𝓤 H) (𝓖 : GhostRules 𝓤 H) (𝓡 : Running 𝓤 H 𝓜) (γ : Env) (k g : Name) (core : Routine) → Calling 𝓤 H with-program-number 𝓜 𝓖 𝓡 γ k g core
+    program-number-meets 𝓜 𝓖 𝓡 γ k g core =
+        thin-meets 𝓤 H with-program-number 𝓜 𝓖 𝓡 γ k g core (program-number-go (𝓖 .A) (givenOf 𝓤 H 𝓜 𝓖)) (program-number-walk (𝓖 .A) (givenOf 𝓤 H 𝓜 𝓖) g)

@@ -27,7 +27,8 @@ returns-5 c = command-case _ (c .before .before .before .before .before .before 
 
 returns-6 : tie.Need-returns-6
 unfolding command
-returns-6 c = command-case _ (c .before .before .before .before .before .before .before .before .given6 .given .1) (c .before .before .before .before .stop .ensures)
+returns-6 c =
+    command-case _ (c .before .before .before .before .before .before .before .before .given6 .given .1) (c .before .before .before .before .stop .ensures)
 
 pub command-on-sound-spec : {M : Type 1} → statement M
 command-on-sound-spec = tie.close (tie.spec (λ c. search needs)

@@ -17,17 +17,29 @@ shared-slice-read-if2 c = omega (arith, newEdge-source _ _ _ _ (sym (c .before .
 
 returns-2 : tie.Need-returns-2
 unfolding newEdge withEdge
-returns-2 c = accepted-outcome _ _ _ (c .before .before .before .new-edge-refusal .ensures) (c .before .before .if1 .left) (rw (eq-eqb _ _ (c .if2 .taken)) refl)
+returns-2 c =
+    accepted-outcome _ _ _ (c .before .before .before .new-edge-refusal .ensures) (c .before .before .if1 .left) (rw (eq-eqb _ _ (c .if2 .taken)) refl)
 
 append-edge-requires : tie.Need-append-edge-requires
-append-edge-requires c κs = newEdge-room _ _ _ _ (sym (c .before .before .before .before .new-edge-refusal .ensures) ∙ c .before .before .before .if1 .left) (c .before .if2 .left) .0
+append-edge-requires c κs =
+    newEdge-room _ _ _ _ (sym (c .before .before .before .before .new-edge-refusal .ensures) ∙ c .before .before .before .if1 .left) (c .before .if2 .left) .0
 
 add-t17 : tie.Need-add-t17
-add-t17 c = omega (arith, newEdge-room _ _ _ _ (sym (c .before .before .before .before .before .before .before .new-edge-refusal .ensures) ∙ c .before .before .before .before .before .before .if1 .left) (c .before .before .before .before .if2 .left))
+add-t17 c =
+    omega (
+      arith,
+      newEdge-room _ _ _ _
+          (sym (c .before .before .before .before .before .before .before .new-edge-refusal .ensures)
+          ∙ c .before .before .before .before .before .before .if1 .left)
+          (c .before .before .before .before .if2 .left),
+    )
 
 returns-3 : tie.Need-returns-3
 unfolding newEdge withEdge
-returns-3 c = accepted-outcome _ _ _ (c .before .before .before .before .before .before .before .new-edge-refusal .ensures) (c .before .before .before .before .before .before .if1 .left) (rw (ne-eqb _ _ (c .before .before .before .before .if2 .left), c .before .before .append-edge .ensures) refl)
+returns-3 c =
+    accepted-outcome _ _ _ (c .before .before .before .before .before .before .before .new-edge-refusal .ensures)
+    (c .before .before .before .before .before .before .if1 .left)
+    (rw (ne-eqb _ _ (c .before .before .before .before .if2 .left), c .before .before .append-edge .ensures) refl)
 
 pub new-edge-spec : {M : Type 1} → statement M
 new-edge-spec = tie.close (tie.spec (λ c κs. search needs)

@@ -15,11 +15,14 @@ make-row-requires : tie.Need-make-row-requires
 make-row-requires c κs = newTd-room _ _ (sym (c .before .before .new-td-refusal .ensures) ∙ c .before .if1 .left) .0
 
 add-t17 : tie.Need-add-t17
-add-t17 c = omega (arith, newTd-room _ _ (sym (c .before .before .before .before .before .new-td-refusal .ensures) ∙ c .before .before .before .before .if1 .left))
+add-t17 c =
+    omega (arith, newTd-room _ _ (sym (c .before .before .before .before .before .new-td-refusal .ensures) ∙ c .before .before .before .before .if1 .left))
 
 returns-2 : tie.Need-returns-2
 unfolding newTd withVertex
-returns-2 c = accepted-outcome _ _ _ (c .before .before .before .before .before .new-td-refusal .ensures) (c .before .before .before .before .if1 .left) (rw (c .before .before .make-row .ensures) refl)
+returns-2 c =
+    accepted-outcome _ _ _ (c .before .before .before .before .before .new-td-refusal .ensures) (c .before .before .before .before .if1 .left)
+    (rw (c .before .before .make-row .ensures) refl)
 
 pub new-td-spec : {M : Type 1} → statement M
 new-td-spec = tie.close (tie.spec (λ c κs. search needs)

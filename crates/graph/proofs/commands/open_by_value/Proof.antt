@@ -9,11 +9,23 @@ use Rattle.graph.proofs.commands.open_by_value.Tie as tie
 
 returns : tie.Need-returns
 unfolding opening
-returns c = refused-outcome (c .refused .result) _ _ _ _ _ (opening-refused _ (c .before .before .vertex-rows .ensures) (c .before .if1 .taken)) (λ z. omega arith) (c .refused .ensures)
+returns c =
+    refused-outcome (c .refused .result) _ _ _ _ _ (opening-refused _ (c .before .before .vertex-rows .ensures) (c .before .if1 .taken))
+    (λ z. omega arith) (c .refused .ensures)
 
 returns-2 : tie.Need-returns-2
 unfolding opening
-returns-2 c = accepted-outcome _ _ _ (opening-accepted _ (c .before .before .before .before .before .before .before .before .before .before .before .before .before .before .before .vertex-rows .ensures) (c .before .before .before .before .before .before .before .before .before .before .before .before .before .before .if1 .left)) refl (opened-is _ (c .before .before .before .before .before .before .before .before .before .before .before .before .before .before .before .vertex-rows .ensures) (c .before .before .before .before .edge-rows .ensures) (c .before .before .before .before .before .before .before .before .before .before .before .before .clear .ensures) (c .before .before .before .before .before .before .before .before .set-status .ensures) (c .before .before .clear2 .ensures))
+returns-2 c =
+    accepted-outcome _ _ _
+    (opening-accepted _
+    (c .before .before .before .before .before .before .before .before .before .before .before .before .before .before .before .vertex-rows .ensures)
+    (c .before .before .before .before .before .before .before .before .before .before .before .before .before .before .if1 .left))
+    refl
+    (opened-is _
+    (c .before .before .before .before .before .before .before .before .before .before .before .before .before .before .before .vertex-rows .ensures)
+    (c .before .before .before .before .edge-rows .ensures)
+    (c .before .before .before .before .before .before .before .before .before .before .before .before .clear .ensures)
+    (c .before .before .before .before .before .before .before .before .set-status .ensures) (c .before .before .clear2 .ensures))
 
 pub open-by-value-spec : {M : Type 1} → statement M
 open-by-value-spec = tie.close (tie.spec (λ c κs. search needs)

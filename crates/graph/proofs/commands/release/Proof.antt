@@ -15,7 +15,9 @@ set-status-requires c κs = release-room _ _ _ (sym (c .before .before .release-
 
 returns-2 : tie.Need-returns-2
 unfolding release
-returns-2 c = accepted-outcome _ _ _ (c .before .before .before .before .before .release-refusal .ensures) (c .before .before .before .before .if1 .left) (rw (c .before .before .set-status .ensures) refl)
+returns-2 c =
+    accepted-outcome _ _ _ (c .before .before .before .before .before .release-refusal .ensures) (c .before .before .before .before .if1 .left)
+    (rw (c .before .before .set-status .ensures) refl)
 
 pub release-spec : {M : Type 1} → statement M
 release-spec = tie.close (tie.spec (λ c κs. search needs)

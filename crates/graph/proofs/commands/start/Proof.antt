@@ -15,7 +15,9 @@ set-status-requires c κs = start-room _ _ (sym (c .before .before .start-refusa
 
 returns-2 : tie.Need-returns-2
 unfolding start
-returns-2 c = accepted-outcome _ _ _ (c .before .before .before .before .before .start-refusal .ensures) (c .before .before .before .before .if1 .left) (rw (c .before .before .set-status .ensures) refl)
+returns-2 c =
+    accepted-outcome _ _ _ (c .before .before .before .before .before .start-refusal .ensures) (c .before .before .before .before .if1 .left)
+    (rw (c .before .before .set-status .ensures) refl)
 
 pub start-spec : {M : Type 1} → statement M
 start-spec = tie.close (tie.spec (λ c κs. search needs)

@@ -16,14 +16,31 @@ set-status-requires : tie.Need-set-status-requires
 set-status-requires c κs = stop-room _ _ (sym (c .before .before .stop-refusal .ensures) ∙ c .before .if1 .left) .0
 
 drop-edges-requires : tie.Need-drop-edges-requires
-drop-edges-requires c κs = stop-room _ _ (sym (c .before .before .before .before .before .before .before .stop-refusal .ensures) ∙ c .before .before .before .before .before .before .if1 .left) .1 .0
+drop-edges-requires c κs =
+    stop-room _ _
+    (sym (c .before .before .before .before .before .before .before .stop-refusal .ensures)
+    ∙ c .before .before .before .before .before .before .if1 .left) .1 .0
 
 cast-t19 : tie.Need-cast-t19
-cast-t19 c = omega (arith, kept-fits _ _ _ (c .before .before .drop-edges .ensures .0) (stop-room _ _ (sym (c .before .before .before .before .before .before .before .before .before .before .stop-refusal .ensures) ∙ c .before .before .before .before .before .before .before .before .before .if1 .left) .1 .1))
+cast-t19 c =
+    omega (
+      arith,
+      kept-fits _ _ _ (c .before .before .drop-edges .ensures .0)
+          (stop-room _ _
+          (sym (c .before .before .before .before .before .before .before .before .before .before .stop-refusal .ensures)
+          ∙ c .before .before .before .before .before .before .before .before .before .if1 .left) .1 .1),
+    )
 
 returns-2 : tie.Need-returns-2
 unfolding stop stopped
-returns-2 c = accepted-outcome _ _ _ (c .before .before .before .before .before .before .before .before .before .before .stop-refusal .ensures) (c .before .before .before .before .before .before .before .before .before .if1 .left) (rw (c .before .before .before .before .before .before .before .set-status .ensures, c .before .before .drop-edges .ensures .0, c .before .before .drop-edges .ensures .1) refl)
+returns-2 c =
+    accepted-outcome _ _ _ (c .before .before .before .before .before .before .before .before .before .before .stop-refusal .ensures)
+    (c .before .before .before .before .before .before .before .before .before .if1 .left)
+    (rw (
+      c .before .before .before .before .before .before .before .set-status .ensures,
+      c .before .before .drop-edges .ensures .0,
+      c .before .before .drop-edges .ensures .1,
+    ) refl)
 
 pub stop-spec : {M : Type 1} → statement M
 stop-spec = tie.close (tie.spec (λ c κs. search needs)

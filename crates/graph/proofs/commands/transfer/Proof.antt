@@ -15,7 +15,9 @@ move-sources-requires c κs = transfer-room _ _ _ (sym (c .before .before .befor
 
 returns-2 : tie.Need-returns-2
 unfolding transfer withMoved
-returns-2 c = accepted-outcome _ _ _ (c .before .before .before .before .before .before .transfer-refusal .ensures) (c .before .before .before .before .before .if1 .left) (rw (c .before .before .move-sources .ensures) refl)
+returns-2 c =
+    accepted-outcome _ _ _ (c .before .before .before .before .before .before .transfer-refusal .ensures)
+    (c .before .before .before .before .before .if1 .left) (rw (c .before .before .move-sources .ensures) refl)
 
 pub transfer-spec : {M : Type 1} → statement M
 transfer-spec = tie.close (tie.spec (λ c κs. search needs)

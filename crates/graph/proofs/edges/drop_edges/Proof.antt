@@ -6,7 +6,13 @@ use Rattle.graph.proofs.edges.drop_edges.Statement.{statement}
 use Rattle.graph.proofs.edges.drop_edges.Tie as tie
 
 returns : tie.Need-returns
-returns c = (c .before .before .before .before .before .before .gather-others .ensures .0, c .before .before .clear .ensures ∙ gathered-cleared _ _ _ (c .before .before .before .before .before .before .before .before .before .pre) (c .before .before .before .before .before .before .gather-others .ensures .0) (c .before .before .before .before .before .before .gather-others .ensures .1))
+returns c = (
+  c .before .before .before .before .before .before .gather-others .ensures .0,
+  c .before .before .clear .ensures
+      ∙ gathered-cleared _ _ _ (c .before .before .before .before .before .before .before .before .before .pre)
+      (c .before .before .before .before .before .before .gather-others .ensures .0)
+      (c .before .before .before .before .before .before .gather-others .ensures .1),
+)
 
 pub drop-edges-spec : {M : Type 1} → statement M
 drop-edges-spec = tie.close (tie.spec (λ c κs. search needs)

@@ -25,7 +25,11 @@ slice-write-edges-2 : tie.Need-slice-write-edges-2 Inv-loop μ-loop
 slice-write-edges-2 c = simp length-set (omega arith)
 
 loop-again-2 : tie.Need-loop-again-2 Inv-loop μ-loop
-loop-again-2 c = (omega arith, gathered-keeps _ _ _ (c .before .before .before .before .loop .inv .1 .0) (c .before .before .before .before .loop .inv .1 .1) (omega arith) (c .before .if1 .left))
+loop-again-2 c = (
+  omega arith,
+  gathered-keeps _ _ _ (c .before .before .before .before .loop .inv .1 .0) (c .before .before .before .before .loop .inv .1 .1) (omega arith)
+      (c .before .if1 .left),
+)
 
 returns : tie.Need-returns Inv-loop μ-loop
 returns c = gathered-all _ _ _ _ (c .before .loop .inv .0) (c .loop-test .left) (c .before .loop .inv .1)

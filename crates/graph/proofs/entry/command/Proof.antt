@@ -1,4 +1,5 @@
--- `command` meets its contract, by the law of thin entries over `command_by_value`, with the tables and a value of a plain type, the command (`Thin/Passing.antt`). What the law is told: the types of the results and of commands, and the relation that both contracts ensure.
+-- `command` meets its contract, by the law of thin entries over `command_by_value`, with the tables and a value of a plain type, the command
+-- (`Thin/Passing.antt`). What the law is told: the types of the results and of commands, and the relation that both contracts ensure.
 -- Assumes nothing.
 use mathlib.Core.Path.{_≡_}
 use denote.Enum.Laws as EL
@@ -28,4 +29,6 @@ commands = record {
 pub command-spec : {M : Type 1} → stated.statement M
 unfolding code.routine
 command-spec 𝓤 H 𝓜 𝓖 𝓡 =
-    value-meets results commands (λ s given answer after. record { answer = said answer; after = after } ≡ command given s) 𝓤 H 𝓜 𝓖 𝓡 code.env #command #core core-def.routine (code.unfolded 𝓤 H 𝓜 𝓡) code.calls-graph·commands·command-by-value (core-thm.met 𝓤 H 𝓜 𝓖 𝓡)
+    value-meets results commands
+    (λ s given answer after. record { answer = said answer; after = after } ≡ command given s) 𝓤 H 𝓜 𝓖 𝓡 code.env #command #core core-def.routine
+    (code.unfolded 𝓤 H 𝓜 𝓡) code.calls-graph·commands·command-by-value (core-thm.met 𝓤 H 𝓜 𝓖 𝓡)

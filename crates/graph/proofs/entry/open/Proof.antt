@@ -1,4 +1,5 @@
--- `open` meets its contract, by the law of thin entries over `open_by_value`, with the tables (`Thin/Passing.antt`). What the law is told: the types of the results, and the relation that both contracts ensure.
+-- `open` meets its contract, by the law of thin entries over `open_by_value`, with the tables (`Thin/Passing.antt`). What the law is told: the
+-- types of the results, and the relation that both contracts ensure.
 -- Assumes nothing.
 use mathlib.Core.Path.{_≡_}
 use Rattle.graph.specs.Answers.{said}
@@ -15,4 +16,6 @@ use Rattle.graph.proofs.entry.open.Code as code
 pub open-spec : {M : Type 1} → stated.statement M
 unfolding code.routine
 open-spec 𝓤 H 𝓜 𝓖 𝓡 =
-    tables-meets results (λ s answer after. record { answer = said answer; after = after } ≡ opening s) 𝓤 H 𝓜 𝓖 𝓡 code.env #open #core core-def.routine (code.unfolded 𝓤 H 𝓜 𝓡) code.calls-graph·commands·open-by-value (core-thm.met 𝓤 H 𝓜 𝓖 𝓡)
+    tables-meets results
+    (λ s answer after. record { answer = said answer; after = after } ≡ opening s) 𝓤 H 𝓜 𝓖 𝓡 code.env #open #core core-def.routine
+    (code.unfolded 𝓤 H 𝓜 𝓡) code.calls-graph·commands·open-by-value (core-thm.met 𝓤 H 𝓜 𝓖 𝓡)

@@ -16,11 +16,15 @@ Inv-loop edges next row marked₀ queue₀ tail left₀ end₀ marked queue left
 abbrev μ-loop : tie.MeasureT-loop
 μ-loop edges next row marked₀ queue₀ tail left₀ end₀ marked queue left end = left
 
-row-good : (c : tie.In-loop Inv-loop μ-loop) → (source (c .before .before .args .edges .now) (c .before .loop .left - 1) < usableLimit) × (getD (c .before .before .args .next .now) (c .before .loop .left - 1) 0 ≤ c .before .loop .left - 1)
+row-good :
+    (c : tie.In-loop Inv-loop μ-loop)
+    → (source (c .before .before .args .edges .now) (c .before .loop .left - 1) < usableLimit)
+    × (getD (c .before .before .args .next .now) (c .before .loop .left - 1) 0 ≤ c .before .loop .left - 1)
 row-good c = chain-row _ _ (c .before .before .args .row) _ (c .before .before .pre .0) (omega arith)
 
 slice-write-queue : tie.Need-slice-write-queue Inv-loop μ-loop
-slice-write-queue c = room-left (c .before .before .before .before .before .loop .inv .1 .room) _ (omega (arith, row-good (c .before .before .before .before))) (c .if1 .taken)
+slice-write-queue c =
+    room-left (c .before .before .before .before .before .loop .inv .1 .room) _ (omega (arith, row-good (c .before .before .before .before))) (c .if1 .taken)
 
 loop-again : tie.Need-loop-again Inv-loop μ-loop
 loop-again c =

@@ -65,5 +65,17 @@ search-spec =
     (λ c. sym (part-long (c .before .before .before .before)))
     (λ c. search needs)
     (λ c. search needs)
-    (λ c κs. (part-rows (c .before .before .before .before .before .before), (part-chained (c .before .before .before .before .before .before), ((c .before .before .before .before .before .before .before .before .before .before .pre .from-usable, c .before .before .before .before .before .before .before .before .before .before .pre .to-usable), (refl, blank-long refl)))))
+    (λ c κs. (
+      part-rows (c .before .before .before .before .before .before),
+      (
+        part-chained (c .before .before .before .before .before .before),
+        (
+          (
+            c .before .before .before .before .before .before .before .before .before .before .pre .from-usable,
+            c .before .before .before .before .before .before .before .before .before .before .pre .to-usable,
+          ),
+          (refl, blank-long refl),
+        ),
+      ),
+    ))
     (λ c. rw (part-long (c .before .before .before .before .before .before .before .before .before)) at (c .before .before .search-back .ensures)))

@@ -37,7 +37,9 @@ module _ (c : tie.After-scan Inv-loop μ-loop) where
   abbrev at : tie.At-loop Inv-loop μ-loop
   at = c .before .before .before .before
 
-  looked : Frontier (entry .args .edges .now) (length (entry .args .next .now)) (entry .args .to) (at .loop .vertex) (at .loop .head) 0 (c .scan .last .1 .1 .1 .0) (c .scan .last .1 .1 .1 .1 .0) (c .scan .result)
+  looked :
+      Frontier (entry .args .edges .now) (length (entry .args .next .now)) (entry .args .to) (at .loop .vertex) (at .loop .head) 0
+      (c .scan .last .1 .1 .1 .0) (c .scan .last .1 .1 .1 .1 .0) (c .scan .result)
   looked = c .scan .ensures .frontier _ _ _ _ (at .loop .inv .2)
 
   marks-long : length (entry .args .marked .now) ≡ usableLimit

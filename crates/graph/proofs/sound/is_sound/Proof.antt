@@ -20,7 +20,9 @@ edges-made-requires : tie.Need-edges-made-requires
 edges-made-requires c κs = omega (arith, fits-rows _ _ _ _ (sym (c .before .before .before .tally-fits .ensures) ∙ not-false _ (c .before .before .if1 .left)))
 
 returns-3 : tie.Need-returns-3
-returns-3 c = sound-by-edges _ (sym (c .before .before .before .before .tally-fits .ensures) ∙ not-false _ (c .before .before .before .if1 .left)) (sym (c .before .before .statuses-known .ensures) ∙ not-false _ (c .before .if2 .left)) (c .edges-made .ensures)
+returns-3 c =
+    sound-by-edges _ (sym (c .before .before .before .before .tally-fits .ensures) ∙ not-false _ (c .before .before .before .if1 .left))
+    (sym (c .before .before .statuses-known .ensures) ∙ not-false _ (c .before .if2 .left)) (c .edges-made .ensures)
 
 pub is-sound-spec : {M : Type 1} → statement M
 is-sound-spec = tie.close (tie.spec (λ c κs. search needs)
