@@ -3,16 +3,16 @@
 use Prim.Native.Nat.{ℕ, zero, suc, _+_, _-_, _*_, _/_, _%_, _^_, _<_, _≤_}
 use mathlib.Core.Path.{_≡_, refl, sym, ap, ap₂, _∙_}
 use mathlib.Core.Bool.{Bool, true, false, cond, true≢false, false≢true}
-use mathlib.Core.List.{List, [], _∷_, _++_}
+use mathlib.Core.List.{List, [], _∷_, _++_, append-assoc}
 use native.Mathlib.Nat.{pow-zero, pow-succ', one-le-pow}
 use native.Mathlib.Omega.{arith}
 use lib.Dec.{ltb, leb}
 use lib.ListN.{length}
-use borrow.Author.Tests.{ltb-true, ltb-false, lt-ltb, le-ltb, leb-true, le-leb}
+use borrow.Author.Tests.{ltb-true, ltb-false, lt-ltb, le-ltb, leb-true, le-leb, lt-leb}
 use Rattle.program.specs.Limits.{numberBytes, jobLimit}
 use Rattle.program.specs.Bytes.{topBit, groupBytes, encodeNumber}
 use Rattle.program.specs.Reader.{Read, took, refused, andThen, unless, groups, number, number-malformed, byte-unknown, bytes-run-out, job-too-large}
-use Rattle.program.specs.Claims.{TopBits}
+use Rattle.program.specs.Claims.{TopBits, BadNumber, too-long, not-shortest, too-large}
 use Rattle.program.proofs.ReadLaws.{Outcome, was-took, was-refused, took-bytes, took-fits, behind-shorter, guarded}
 
 -- the largest number has room
@@ -23,7 +23,7 @@ limit-in-room = omega arith
 cut-in-limit : 2 * topBit ^ numberBytes ≤ topBit * suc jobLimit
 cut-in-limit = omega arith
 
-pub cut-small : (n : ℕ) → topBit * suc n ≤ 2 * topBit ^ numberBytes → n ≤ jobLimit
+cut-small : (n : ℕ) → topBit * suc n ≤ 2 * topBit ^ numberBytes → n ≤ jobLimit
 cut-small n h = let c = cut-in-limit in omega arith
 
 -- a number's bytes, one at a time: its only or last group
@@ -62,23 +62,17 @@ groups-none start only room b left le =
     let h : topBit ≤ b = omega arith in
     rw (le-ltb b topBit h, le-ltb b (2 * topBit) le) refl
 
--- Why the groups of a number are refused, from these bytes on and with so much room: the bytes run out, where a group 1 would end the
--- number; there stands what is no byte, likewise; the room is used up; or the last group is 0, and not the only one. What was refused is
--- refused whatever stands behind it.
+-- Why the groups of a number are refused, from these bytes on and with so much room: the bytes run out; there stands what is no byte; the
+-- room is used up; or the last group is 0, and not the only one.
 pub data Halt (start : List ℕ) (only : Bool) (room : ℕ) (xs : List ℕ) : ℕ → List ℕ → Type 0 where
-  cut : (n : ℕ) → 0 < n → topBit * suc n ≤ 2 * topBit ^ room → groupBytes room n ≡ xs ++ (1 ∷ []) → Halt start only room xs bytes-run-out []
+  cut : length xs < room → TopBits xs → Halt start only room xs bytes-run-out []
   no-byte :
-      (before : List ℕ) (x : ℕ) (rest : List ℕ) (n : ℕ) → xs ≡ before ++ (x ∷ rest) → 2 * topBit ≤ x
-      → 0 < n → topBit * suc n ≤ 2 * topBit ^ room → groupBytes room n ≡ before ++ (1 ∷ [])
-      → ((start' zs : List ℕ) → groups start' only room (before ++ (x ∷ zs)) ≡ refused byte-unknown (x ∷ zs))
+      (before : List ℕ) (x : ℕ) (rest : List ℕ) → length before < room → TopBits before → 2 * topBit ≤ x → xs ≡ before ++ (x ∷ rest)
       → Halt start only room xs byte-unknown (x ∷ rest)
   long :
-      (high rest : List ℕ) → length high ≡ room → TopBits high → xs ≡ high ++ rest
-      → ((start' zs : List ℕ) → groups start' only room (high ++ zs) ≡ refused number-malformed start')
-      → Halt start only room xs number-malformed start
+      (high rest : List ℕ) → length high ≡ room → TopBits high → xs ≡ high ++ rest → Halt start only room xs number-malformed start
   padded :
       (high rest : List ℕ) → (only ≡ true → 0 < length high) → TopBits high → xs ≡ high ++ (0 ∷ rest)
-      → ((start' zs : List ℕ) → groups start' only room (high ++ (0 ∷ zs)) ≡ refused number-malformed start')
       → Halt start only room xs number-malformed start
 
 -- What reading a number's groups comes to. A number that was taken has room, and is not 0 unless its group is the only one.
@@ -88,10 +82,13 @@ pub data Grouped (start : List ℕ) (only : Bool) (room : ℕ) (xs : List ℕ) :
       → Grouped start only room xs (took n rest)
   halted : {k : ℕ} {left : List ℕ} → Halt start only room xs k left → Grouped start only room xs (refused k left)
 
--- one more byte with its top bit set
-top-cons : (b : ℕ) (high : List ℕ) → topBit ≤ b → TopBits high → TopBits (b ∷ high)
-top-cons b high le h zero lt = le
-top-cons b high le h (suc i) lt = h i (omega arith)
+-- no bytes, and one more with its top bit set
+top-nil : TopBits []
+top-nil i lt = absurd (omega arith)
+
+top-cons : (b : ℕ) (high : List ℕ) → topBit ≤ b → b < 2 * topBit → TopBits high → TopBits (b ∷ high)
+top-cons b high le l h zero lt = (le, l)
+top-cons b high le l h (suc i) lt = h i (omega arith)
 
 -- a group before those of a number that is not 0
 grow : (room b n : ℕ) → topBit ≤ b → b < 2 * topBit → 0 < n → groupBytes (suc room) ((b - topBit) + topBit * n) ≡ b ∷ groupBytes room n
@@ -115,6 +112,37 @@ again : (start : List ℕ) (only : Bool) (room b : ℕ) (ys : List ℕ) (k : ℕ
 unfolding andThen
 again start only room b ys k left le lt e = groups-more start only room b ys le lt ∙ rw e refl
 
+-- What is no byte is refused behind bytes with their top bit set that leave room for it,
+groups-no-byte : (start : List ℕ) (only : Bool) (room : ℕ) (high : List ℕ) (x : ℕ) (zs : List ℕ) → length high < room → TopBits high
+    → 2 * topBit ≤ x → groups start only room (high ++ (x ∷ zs)) ≡ refused byte-unknown (x ∷ zs)
+groups-no-byte start only zero high x zs l t ge = absurd (omega arith)
+groups-no-byte start only (suc room) [] x zs l t ge = groups-none start only room x zs ge
+groups-no-byte start only (suc room) (b ∷ high) x zs l t ge =
+    let (le, lt) = t 0 (omega arith) in
+    again start only room b _ _ _ le lt (groups-no-byte start false room high x zs (omega arith) (λ i h. t (suc i) (omega arith)) ge)
+
+-- such bytes that use up the room are refused whatever stands behind them,
+groups-long : (start : List ℕ) (only : Bool) (room : ℕ) (high zs : List ℕ) → length high ≡ room → TopBits high
+    → groups start only room (high ++ zs) ≡ refused number-malformed start
+unfolding groups
+groups-long start only zero high zs e t = refl
+groups-long start only (suc room) [] zs e t = absurd (omega arith)
+groups-long start only (suc room) (b ∷ high) zs e t =
+    let (le, lt) = t 0 (omega arith) in
+    again start only room b _ _ _ le lt (groups-long start false room high zs (omega arith) (λ i h. t (suc i) (omega arith)))
+
+-- and so are such bytes before a last group 0
+groups-padded : (start : List ℕ) (only : Bool) (room : ℕ) (high zs : List ℕ) → (only ≡ true → 0 < length high) → TopBits high
+    → groups start only room (high ++ (0 ∷ zs)) ≡ refused number-malformed start
+unfolding groups unless
+groups-padded start only zero high zs o t = refl
+groups-padded start true (suc room) [] zs o t = absurd (let h = o refl in omega arith)
+groups-padded start false (suc room) [] zs o t = refl
+groups-padded start only (suc room) (b ∷ high) zs o t =
+    let (le, lt) = t 0 (omega arith) in
+    again start only room b _ _ _ le lt
+    (groups-padded start false room high zs (λ e. absurd (false≢true e)) (λ i h. t (suc i) (omega arith)))
+
 -- a byte before others, from what the others come to
 step : (start : List ℕ) (only : Bool) (room b : ℕ) (left : List ℕ) → topBit ≤ b → b < 2 * topBit → (o : Read ℕ)
     → Grouped start false room left o
@@ -124,20 +152,13 @@ step start only room b left le lt (took n rest) (grouped bound positive e) =
     let p : 0 < n = positive refl in
     grouped (grow-room room b n lt bound) (λ _. omega arith)
     (ap (λ (r : List ℕ). b ∷ r) e ∙ ap (λ (r : List ℕ). r ++ rest) (sym (grow room b n le lt p)))
-step start only room b left le lt (refused k l) (halted (cut n p q e)) =
-    halted (cut ((b - topBit) + topBit * n) (omega arith) (grow-cut room b n lt q) (grow room b n le lt p ∙ ap (λ (r : List ℕ). b ∷ r) e))
-step start only room b left le lt (refused k l) (halted (no-byte before x rest n e ge p q c s)) =
-    halted
-    (no-byte (b ∷ before) x rest ((b - topBit) + topBit * n) (ap (λ (r : List ℕ). b ∷ r) e) ge (omega arith) (grow-cut room b n lt q)
-    (grow room b n le lt p ∙ ap (λ (r : List ℕ). b ∷ r) c) (λ start' zs. again start' only room b _ _ _ le lt (s start' zs)))
-step start only room b left le lt (refused k l) (halted (long high rest e t f s)) =
-    halted
-    (long (b ∷ high) rest (ap suc e) (top-cons b high le t) (ap (λ (r : List ℕ). b ∷ r) f)
-    (λ start' zs. again start' only room b _ _ _ le lt (s start' zs)))
-step start only room b left le lt (refused k l) (halted (padded high rest o t f s)) =
-    halted
-    (padded (b ∷ high) rest (λ _. omega arith) (top-cons b high le t) (ap (λ (r : List ℕ). b ∷ r) f)
-    (λ start' zs. again start' only room b _ _ _ le lt (s start' zs)))
+step start only room b left le lt (refused k l) (halted (cut h t)) = halted (cut (omega arith) (top-cons b left le lt t))
+step start only room b left le lt (refused k l) (halted (no-byte before x rest h t ge e)) =
+    halted (no-byte (b ∷ before) x rest (omega arith) (top-cons b before le lt t) ge (ap (λ (r : List ℕ). b ∷ r) e))
+step start only room b left le lt (refused k l) (halted (long high rest e t f)) =
+    halted (long (b ∷ high) rest (ap suc e) (top-cons b high le lt t) (ap (λ (r : List ℕ). b ∷ r) f))
+step start only room b left le lt (refused k l) (halted (padded high rest o t f)) =
+    halted (padded (b ∷ high) rest (λ _. omega arith) (top-cons b high le lt t) (ap (λ (r : List ℕ). b ∷ r) f))
 
 -- one group has room
 in-room : (room b : ℕ) → b < topBit → b < topBit ^ suc room
@@ -147,6 +168,20 @@ in-room room b lt = rw (pow-succ' topBit room) (omega (arith, one-le-pow room to
 first-cut : (room : ℕ) → topBit * 2 ≤ 2 * topBit ^ suc room
 first-cut room = rw (pow-succ' topBit room) (omega (arith, one-le-pow room topBit (omega arith)))
 
+-- Bytes with their top bit set that leave room are completed by a group 1.
+completed : (room : ℕ) (high : List ℕ) → length high < room → TopBits high
+    → (n : ℕ) × (0 < n) × (topBit * suc n ≤ 2 * topBit ^ room) × (groupBytes room n ≡ high ++ (1 ∷ []))
+completed zero high l t = absurd (omega arith)
+completed (suc room) [] l t = (1, omega arith, first-cut room, one-byte room 1 (omega arith))
+completed (suc room) (b ∷ high) l t =
+    let (le, lt) = t 0 (omega arith) in
+    let (n, p, q, e) = completed room high (omega arith) (λ i h. t (suc i) (omega arith)) in (
+      (b - topBit) + topBit * n,
+      omega arith,
+      grow-cut room b n lt q,
+      grow room b n le lt p ∙ ap (λ (r : List ℕ). b ∷ r) e,
+    )
+
 -- a last byte
 ends : (start : List ℕ) (only : Bool) (room b : ℕ) (left : List ℕ) → b < topBit
     → Grouped start only (suc room) (b ∷ left) (unless (cond only true (ltb 0 b)) number-malformed start (took b left))
@@ -155,15 +190,12 @@ ends start true room b left lt =
     grouped (in-room room b lt) (λ e. absurd (true≢false e)) (ap (λ (r : List ℕ). r ++ left) (sym (one-byte room b lt)))
 ends start false room b left lt = go (ltb 0 b) refl
   where
-    stays : (start' zs : List ℕ) → groups start' false (suc room) (0 ∷ zs) ≡ refused number-malformed start'
-    stays start' zs = groups-last start' false room 0 zs (omega arith)
-
     go : (t : Bool) → ltb 0 b ≡ t → Grouped start false (suc room) (b ∷ left) (unless t number-malformed start (took b left))
     go true h =
         grouped (in-room room b lt) (λ _. ltb-true 0 b h) (ap (λ (r : List ℕ). r ++ left) (sym (one-byte room b lt)))
     go false h =
         let z : b ≡ 0 = (let l = ltb-false 0 b h in omega arith) in
-        halted (padded [] left (λ e. absurd (false≢true e)) (λ i l. absurd (omega arith)) (ap (λ (d : ℕ). d ∷ left) z) stays)
+        halted (padded [] left (λ e. absurd (false≢true e)) top-nil (ap (λ (d : ℕ). d ∷ left) z))
 
 -- a byte, from what those behind it come to
 byte : (start : List ℕ) (only : Bool) (room b : ℕ) (left : List ℕ) → Grouped start false room left (groups start false room left)
@@ -177,10 +209,7 @@ byte start only room b left h = first (ltb b topBit) refl
         rw (groups-more start only room b left le lt) (step start only room b left le lt _ h)
     second le false p =
         let ge = ltb-false b (2 * topBit) p in
-        rw (groups-none start only room b left ge)
-        (halted
-        (no-byte [] b left 1 refl ge (omega arith) (first-cut room) (one-byte room 1 (omega arith))
-        (λ start' zs. groups-none start' only room b zs ge)))
+        rw (groups-none start only room b left ge) (halted (no-byte [] b left (omega arith) top-nil ge refl))
 
     first : (t : Bool) → ltb b topBit ≡ t → Grouped start only (suc room) (b ∷ left) (groups start only (suc room) (b ∷ left))
     first true p = let lt = ltb-true b topBit p in rw (groups-last start only room b left lt) (ends start only room b left lt)
@@ -189,8 +218,8 @@ byte start only room b left h = first (ltb b topBit) refl
 -- What reading a number's groups comes to, whatever the room.
 pub groups-are : (start : List ℕ) (only : Bool) (room : ℕ) (xs : List ℕ) → Grouped start only room xs (groups start only room xs)
 unfolding groups
-groups-are start only zero xs = halted (long [] xs refl (λ i l. absurd (omega arith)) refl (λ start' zs. refl))
-groups-are start only (suc room) [] = halted (cut 1 (omega arith) (first-cut room) (one-byte room 1 (omega arith)))
+groups-are start only zero xs = halted (long [] xs refl top-nil refl)
+groups-are start only (suc room) [] = halted (cut (omega arith) top-nil)
 groups-are start only (suc room) (b ∷ left) = byte start only room b left (groups-are start false room left)
 
 -- a last group that may stand is taken
@@ -237,7 +266,7 @@ zero-back : (start : List ℕ) (room : ℕ) (rest : List ℕ) → groups start t
 zero-back start room rest = rw (one-byte room 0 (omega arith)) (last-back start true room 0 rest (omega arith) refl)
 
 -- the bytes of a number that has room are read back
-pub encoded-back : (start : List ℕ) (n : ℕ) (rest : List ℕ) → n < topBit ^ numberBytes
+encoded-back : (start : List ℕ) (n : ℕ) (rest : List ℕ) → n < topBit ^ numberBytes
     → groups start true numberBytes (encodeNumber n ++ rest) ≡ took n rest
 unfolding encodeNumber
 encoded-back start zero rest h = zero-back start _ rest
@@ -249,10 +278,10 @@ Small n = n ≤ jobLimit
 
 -- a refusal's place is in the bytes
 halt-left : (only : Bool) (room : ℕ) (xs : List ℕ) {k : ℕ} {left : List ℕ} → Halt xs only room xs k left → length left ≤ length xs
-halt-left only room xs (cut n p q e) = omega arith
-halt-left only room xs (no-byte before x rest n e ge p q c s) = behind-shorter before xs (x ∷ rest) e
-halt-left only room xs (long high rest e t f s) = omega arith
-halt-left only room xs (padded high rest o t f s) = omega arith
+halt-left only room xs (cut l t) = omega arith
+halt-left only room xs (no-byte before x rest l t ge e) = behind-shorter before xs (x ∷ rest) e
+halt-left only room xs (long high rest e t f) = omega arith
+halt-left only room xs (padded high rest o t f) = omega arith
 
 -- what the groups come to, held against the limit
 within-limit : (xs : List ℕ) (o : Read ℕ) → Grouped xs true numberBytes xs o
@@ -279,3 +308,29 @@ unfolding number andThen unless
 number-complete n rest h =
     let room : n < topBit ^ numberBytes = (let l = limit-in-room in omega arith) in
     rw (encoded-back (encodeNumber n ++ rest) n rest room, le-leb n jobLimit h) refl
+
+-- A number whose groups are refused is.
+number-refused : (xs : List ℕ) (k : ℕ) (left : List ℕ) → groups xs true numberBytes xs ≡ refused k left → number xs ≡ refused k left
+unfolding number andThen
+number-refused xs k left e = rw e refl
+
+-- Fewer bytes than a number may have, all with their top bit set, are completed by one more,
+pub number-completed : (high : List ℕ) → length high < numberBytes → TopBits high
+    → (n : ℕ) × Small n × (encodeNumber n ≡ high ++ (1 ∷ []))
+unfolding encodeNumber
+number-completed high l t = let (n, p, q, e) = completed numberBytes high l t in (n, cut-small n q, e)
+
+-- and what is no byte is refused behind them.
+pub number-no-byte : (high : List ℕ) (x : ℕ) (zs : List ℕ) → length high < numberBytes → TopBits high → 2 * topBit ≤ x
+    → number (high ++ (x ∷ zs)) ≡ refused byte-unknown (x ∷ zs)
+number-no-byte high x zs l t ge = number-refused (high ++ (x ∷ zs)) _ _ (groups-no-byte _ true numberBytes high x zs l t ge)
+
+-- A number that offends is refused, whatever stands behind it.
+pub number-bad : (n : ℕ) (bad zs : List ℕ) → BadNumber n bad → number (bad ++ zs) ≡ refused n (bad ++ zs)
+unfolding number andThen unless
+number-bad n bad zs (too-long number e t) = number-refused (number ++ zs) _ _ (groups-long _ true numberBytes number zs e t)
+number-bad n bad zs (not-shortest b high t) =
+    number-refused (b ∷ ((high ++ (0 ∷ [])) ++ zs)) _ _
+    (ap (λ (l : List ℕ). groups (b ∷ ((high ++ (0 ∷ [])) ++ zs)) true numberBytes (b ∷ l)) (append-assoc high (0 ∷ []) zs)
+    ∙ groups-padded _ true numberBytes (b ∷ high) zs (λ _. omega arith) t)
+number-bad n bad zs (too-large m l r) = rw (encoded-back (encodeNumber m ++ zs) m zs r, lt-leb m jobLimit l) refl

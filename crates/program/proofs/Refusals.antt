@@ -1,6 +1,6 @@
 -- The refusals of a program's writer say what the paper says of them. A refusal names bytes that run out exactly if the program is a
--- proper prefix of an encoding, bytes after the end exactly if a proper prefix of it is one, and 2, 3, 4 and 7 blame the first bytes
--- that cannot be completed.
+-- proper prefix of an encoding, bytes after the end exactly if a proper prefix of it is one, and 2, 3, 4 and 7 blame, exactly, the first
+-- bytes that cannot be completed.
 use Prim.Native.Nat.{ℕ, _<_, _≤_}
 use mathlib.Core.Path.{_≡_, refl, sym, ap, _∙_}
 use mathlib.Core.List.{List}
@@ -11,7 +11,8 @@ use Rattle.program.specs.Limits.{programBytes}
 use Rattle.program.specs.Reader.{refusal, whole, reading, length-outside, bytes-run-out, bytes-after-end, too-many-vertices}
 use Rattle.program.specs.Claims.{Unfinished, Overlong, Crowded, ByPlace, Blamed}
 use Rattle.program.proofs.ReadingLaws.{reading-comes, reading-outside, reading-within}
-use Rattle.program.proofs.RefusalLaws.{out-comes, prefix-out, after-comes, overlong-after, blamed-comes, outside-comes, crowded-comes, crowded-reads}
+use Rattle.program.proofs.RefusalLaws.{out-comes, prefix-out, after-comes, overlong-after, blamed-comes, blamed-reads, outside-comes}
+use Rattle.program.proofs.RefusalLaws.{crowded-comes, crowded-reads}
 
 -- "1": exactly where a program has no bytes, or more than the limit; it has no place.
 pub outside-exactly : (bytes : List ℕ) (p : ℕ)
@@ -38,10 +39,21 @@ after-end bytes p l m = (
   λ o. overlong-after bytes p (l, m) o,
 )
 
--- "2, 3, 4 and 7 at p": the bytes before p can be completed to an encoding, the bytes at p offend as the number says, and together they
--- cannot be completed.
-pub blame : (bytes : List ℕ) (n p : ℕ) → ByPlace n → reading bytes ≡ refusal n p → Blamed bytes n p
-blame bytes n p h e = blamed-comes bytes n p h (rw e at (reading-comes bytes))
+-- "2, 3, 4 and 7 at p": exactly where the bytes before p lead to an item that offends at p as the number says. They can be completed to an
+-- encoding, and together with the bytes that offend they cannot.
+pub blame : (bytes : List ℕ) (n p : ℕ) → 0 < length bytes → length bytes ≤ programBytes → ByPlace n
+    → (reading bytes ≡ refusal n p) ↔ Blamed bytes n p
+blame bytes n p l m h = (
+  λ e. blamed-comes bytes n p h (rw e at (reading-comes bytes)),
+  λ b. blamed-reads bytes n p (l, m) b,
+)
+
+-- So bytes are blamed once at most.
+pub blame-unique : (bytes : List ℕ) (n p n' p' : ℕ) → 0 < length bytes → length bytes ≤ programBytes → Blamed bytes n p
+    → Blamed bytes n' p' → (n ≡ n') × (p ≡ p')
+blame-unique bytes n p n' p' l m b c =
+    let e : refusal n p ≡ refusal n' p' = sym (blamed-reads bytes n p (l, m) b) ∙ blamed-reads bytes n' p' (l, m) c in
+    (cc, cc)
 
 -- "8 V above 1,024": exactly where the program is the encoding of a tree that makes too many vertices; it has no place.
 pub crowded-exactly : (bytes : List ℕ) (p : ℕ) → 0 < length bytes → length bytes ≤ programBytes
