@@ -8,7 +8,8 @@ use lib.ListN.{length, take, drop, length-drop, length-append}
 use lib.Seq.{drop-append-seam}
 use borrow.Rule.Slice.PartAt.{part-to-end}
 use Rattle.program.specs.declared.Reader.{Reader}
-use Rattle.program.specs.Trees.{Kind, jobs, asyncs, finishes, forks, Body, end, Item, a-job, an-async, a-finish, a-fork, ahead, total, same, Counts, counts}
+use Rattle.program.specs.Trees.{Kind, jobs, asyncs, finishes, forks, Body, end, Item, a-job, an-async, a-finish, a-fork, ahead, total}
+use Rattle.program.specs.Trees.{same, Counts, counts}
 use Rattle.program.specs.Bytes.{encode, size}
 use Rattle.program.specs.Reader.{Read, took, refused, andThen}
 use Rattle.program.specs.Answers.{itemCounts}

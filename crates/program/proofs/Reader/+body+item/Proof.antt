@@ -11,7 +11,9 @@ use borrow.Fn.Kinds.{In}
 use borrow.Fn.PlainCycle.{Measures, is, falls, and}
 use Rattle.program.specs.Answers.{itemCounts}
 use Rattle.program.proofs.BodyLoop.{Along, along-none, along-ready, along-falls, along-end, along-out, along-stopped, along-more}
-use Rattle.program.proofs.ItemPaths.{path-out, path-low, path-high, path-deep, opened-falls, opened-ready, path-job, path-stopped, path-one, Opened, Held, first-held, first-few, second-at, second-ready, path-second-stopped, second-few, path-two}
+use Rattle.program.proofs.ItemPaths.{path-out, path-low, path-high, path-deep, opened-falls, opened-ready, path-job, path-stopped}
+use Rattle.program.proofs.ItemPaths.{path-one, Opened, Held, first-held, first-few, second-at, second-ready, path-second-stopped}
+use Rattle.program.proofs.ItemPaths.{second-few, path-two}
 use Rattle.program.proofs.Reader.body.Reads as body
 use Rattle.program.proofs.Reader.body.Kinds as body-kinds
 use Rattle.program.proofs.Reader.+body+item.Lts-body as body-lts
