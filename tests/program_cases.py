@@ -124,6 +124,7 @@ def programs():
 
 def limits():
     yield "nested 31", b"\2" * 31 + b"\0" * 32
+    yield "openers 32", b"\2" * 32
     yield "nested 32", b"\2" * 32 + b"\0" * 33
     for count in (1022, 1023):
         yield f"asyncs {count}", b"\2\0" * count + b"\0"

@@ -3,6 +3,7 @@ use crate::show;
 
 pub(crate) fn all() {
     nested(31, 63);
+    openers(32);
     nested(32, 65);
     asyncs(1022, 2045);
     asyncs(1023, 2047);
@@ -16,6 +17,14 @@ fn nested(openers: u32, length: usize) {
     fill(&mut bytes, 0, openers, 1, 2);
     show::number(b"nested ", openers);
     part(&bytes, length);
+}
+
+// Openers of asyncs and nothing else.
+fn openers(count: u32) {
+    let mut bytes = [0u8; 4097];
+    fill(&mut bytes, 0, count, 1, 2);
+    show::number(b"openers ", count);
+    part(&bytes, count as usize);
 }
 
 // Asyncs with an empty body.
