@@ -15,7 +15,7 @@ use Rattle.program.specs.Trees.{Kind, asyncs, finishes, forks}
 use Rattle.program.specs.Located.{Code, job-at, async-at, finish-at, fork-at}
 use Rattle.machine.specs.Ahead.{Behind, job-behind, async-behind, finish-behind, fork-behind, Holds, async-holds, finish-holds}
 use Rattle.machine.specs.Ahead.{fork-holds-left, fork-holds-right, From, start, on, Way, job-itself, down, Within, whole, behind}
-use Rattle.machine.specs.Ahead.{inside, AFinish, this, further, Closed, Ahead, ahead}
+use Rattle.machine.specs.Ahead.{inside, AFinish, this, further, Closed, apart, Ahead, ahead}
 use Rattle.machine.proofs.Order.{Job, InS, Pre}
 
 -- no async is on the way to a job itself
@@ -76,7 +76,7 @@ fork-down : {c b : Code} {p : ℕ} → Holds c forks b → ClosedWays b p → Cl
 fork-down {c} h (c', ks, f, w, k) = (c, forks ∷ ks, start, down h f w, closed-fork k)
 
 -- a job that is there has a way
-job-way : (c : Code) (p : ℕ) → Job c p → Ways c p
+pub job-way : (c : Code) (p : ℕ) → Job c p → Ways c p
 unfolding Job
 job-way (job-at o n r) p (inl e) = (_, [], start, subst (λ (x : ℕ). Way (job-at o n r) x []) (sym e) job-itself)
 job-way (job-at o n r) p (inr j) = ways-behind job-behind (job-way r p j)
@@ -101,7 +101,7 @@ ins-way (fork-at o b c r) p (inr (inl j)) = fork-down fork-holds-right (ins-way 
 ins-way (fork-at o b c r) p (inr (inr j)) = closed-behind fork-behind (ins-way r p j)
 
 -- a job behind the first item is in the body
-behind-job : {c r : Code} (p : ℕ) → Behind c r → Job r p → Job c p
+pub behind-job : {c r : Code} (p : ℕ) → Behind c r → Job r p → Job c p
 unfolding Job
 behind-job p job-behind j = inr j
 behind-job p async-behind j = inr j
@@ -109,7 +109,7 @@ behind-job p finish-behind j = inr j
 behind-job p fork-behind j = inr (inr j)
 
 -- and so is one in a body that this item holds
-held-job : {c b : Code} {k : Kind} (p : ℕ) → Holds c k b → Job b p → Job c p
+pub held-job : {c b : Code} {k : Kind} (p : ℕ) → Holds c k b → Job b p → Job c p
 unfolding Job
 held-job p async-holds j = inl j
 held-job p finish-holds j = inl j
@@ -125,7 +125,7 @@ behind-ins p finish-behind j = inr j
 behind-ins p fork-behind j = inr (inr j)
 
 -- a job from any item on is in the body
-from-job : {c c' : Code} (p : ℕ) → From c c' → Job c' p → Job c p
+pub from-job : {c c' : Code} (p : ℕ) → From c c' → Job c' p → Job c p
 from-job p start j = j
 from-job p (on e f) j = behind-job p e (from-job p f j)
 
@@ -135,7 +135,7 @@ from-ins p start j = j
 from-ins p (on e f) j = behind-ins p e (from-ins p f j)
 
 -- where a way leads, there is a job
-way-job : {c : Code} {p : ℕ} {ks : List Kind} → Way c p ks → Job c p
+pub way-job : {c : Code} {p : ℕ} {ks : List Kind} → Way c p ks → Job c p
 unfolding Job
 way-job job-itself = inl refl
 way-job (down h f w) = held-job _ h (from-job _ f (way-job w))
@@ -159,15 +159,15 @@ ins-is-way c p = (ins-way c p, λ (c', ks, f, w, k). from-ins p f (way-ins w k))
 
 -- what is ahead behind the first item
 ahead-behind : {m r : Code} {p q : ℕ} → Behind m r → Ahead r p q → Ahead m p q
-ahead-behind e (ahead c r c' ks ks' i w k e' f w') = ahead c r c' ks ks' (behind e i) w k e' f w'
+ahead-behind e (ahead c ks (apart r c' ks' i w e' f w') k) = ahead c ks (apart r c' ks' (behind e i) w e' f w') k
 
 -- or in a body that it holds
 ahead-inside : {m b : Code} {k : Kind} {p q : ℕ} → Holds m k b → Ahead b p q → Ahead m p q
-ahead-inside h (ahead c r c' ks ks' i w k e' f w') = ahead c r c' ks ks' (inside h i) w k e' f w'
+ahead-inside h (ahead c ks (apart r c' ks' i w e' f w') k) = ahead c ks (apart r c' ks' (inside h i) w e' f w') k
 
 -- the first item has a closed way to p, and q is behind it
 ahead-first : {m r : Code} {p q : ℕ} (ks : List Kind) → Way m p ks → Closed ks → Behind m r → Ways r q → Ahead m p q
-ahead-first {m} {r} ks w k e (c', ks', f, w') = ahead m r c' ks ks' whole w k e f w'
+ahead-first {m} {r} ks w k e (c', ks', f, w') = ahead m ks (apart r c' ks' whole w e f w') k
 
 -- through a finish
 ahead-finish : {o p q : ℕ} {b r : Code} → Ways b p → Ways r q → Ahead (finish-at o b r) p q
@@ -227,7 +227,7 @@ within-pre p q (inside e i) h = held-pre p q e (within-pre p q i h)
 
 -- the paper's order is in that by recursion
 ahead-pre : (m : Code) (p q : ℕ) → Ahead m p q → Pre m p q
-ahead-pre m p q (ahead c r c' ks ks' i w k e f w') = within-pre p q i (first-pre q w k e (from-job q f (way-job w')))
+ahead-pre m p q (ahead c ks (apart r c' ks' i w e f w') k) = within-pre p q i (first-pre q w k e (from-job q f (way-job w')))
 
 -- so they are the same
 pub ahead-is-pre : (m : Code) (p q : ℕ) → Ahead m p q ↔ Pre m p q

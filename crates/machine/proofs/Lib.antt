@@ -12,6 +12,7 @@
 --     LookLaws        a run turn by turn: which vertex it finds, which cannot step, and what each look comes to
 --     Examples        the starred examples of document 01 hold
 --     AheadIsPre      the paper's order of jobs is the one by recursion on code that the proofs use
+--     AheadUnique     the body that this order looks at is the only one there is, and so the innermost
 --     AheadExamples   this order, on two of document 01's programs
 --     OrderExamples   and in every list of steps of one of them
 --     ReachedLaws     more of whatever is reached: the rows suffice, and an executing vertex can step
@@ -77,6 +78,7 @@ pub mod RunDemand2
 pub mod LookLaws
 pub mod Examples
 pub mod AheadIsPre
+pub mod AheadUnique
 pub mod AheadExamples
 pub mod OrderExamples
 pub mod ReachedLaws

@@ -44,9 +44,12 @@ pub data AFinish : List Kind → Type 0 where
 abbrev pub Closed : List Kind → Type 0
 Closed ks = (above below : List Kind) → ks ≡ above ++ (asyncs ∷ below) → AFinish above
 
--- "Take the innermost body with both jobs in different items, p in the earlier. p is ahead of q if each async on the way from that earlier
--- item (itself counted) down to p has a finish above it on that way." The body is taken from the earlier item on. It is the innermost one: in
--- any body around it both jobs are in one item, and so they are in two branches of a fork.
+-- "Take the innermost body with both jobs in different items, p in the earlier": c is such a body from p's item on, ks are the kinds on the
+-- way from this item down to p, and q is in an item behind it. There is no need to ask for the innermost: proofs/AheadUnique.antt has it that
+-- no other body is such a one (`apart-once`), and that a body around it has both jobs in one item (`around-one`).
+pub data Apart (m : Code) (p q : ℕ) (c : Code) (ks : List Kind) : Type 0 where
+  apart : (r c' : Code) (ks' : List Kind) → Within m c → Way c p ks → Behind c r → From r c' → Way c' q ks' → Apart m p q c ks
+
+-- "p is ahead of q if each async on the way from that earlier item (itself counted) down to p has a finish above it on that way."
 pub data Ahead (m : Code) (p q : ℕ) : Type 0 where
-  ahead :
-      (c r c' : Code) (ks ks' : List Kind) → Within m c → Way c p ks → Closed ks → Behind c r → From r c' → Way c' q ks' → Ahead m p q
+  ahead : (c : Code) (ks : List Kind) → Apart m p q c ks → Closed ks → Ahead m p q
