@@ -7,7 +7,7 @@
 --
 -- Jobs of laid code that are told apart by offset are in one part of it.
 use Prim.Native.Nat.{ℕ, _<_}
-use mathlib.Core.Path.{_≡_, refl, sym, subst}
+use mathlib.Core.Path.{_≡_, refl, subst}
 use mathlib.Core.List.{List, _∷_}
 use native.Mathlib.Omega.{arith}
 use Rattle.program.specs.Trees.{Body, Kind}

@@ -1,14 +1,21 @@
--- A list of calls, runs among them, reaches what its steps reach: a run is the steps that it makes, one after the other.
-use Prim.Native.Nat.{ℕ, zero, suc}
-use mathlib.Core.Path.{sym, subst}
+-- A list of calls, runs among them, reaches what its steps reach: a run is the steps that it makes, one after the other (`calls-reached`). All
+-- of these are accepted, and the run answers with the last of them and their number (`run-stands`).
+use Prim.Native.Nat.{ℕ, zero, suc, _+_}
+use mathlib.Core.Path.{_≡_, refl, sym, subst}
 use mathlib.Core.Bool.{Bool, true, false, cond}
 use mathlib.Core.List.{List, [], _∷_, _++_, append-nil, append-assoc}
 use mathlib.Core.Option.{Option, none, some}
+use native.Mathlib.Omega.{arith}
+use lib.ListN.{length}
 use Rattle.graph.specs.Tables.{Lent}
-use Rattle.machine.specs.Answers.{Said, unsound-tables}
+use Rattle.graph.proofs.TestLaws.{true-false}
+use Rattle.machine.specs.Answers.{Said, accepted, unsound-tables}
 use Rattle.machine.specs.Stepping.{steppable, step}
-use Rattle.machine.specs.Running.{lowest, allFinished, refused, RunOutcome, ended, look, runOn, run}
-use Rattle.machine.specs.Reached.{Reached, stepped, Call, steps, runs, goOn, runAnswers, callAnswers, callLeaves, answersOf, leavesOf}
+use Rattle.machine.specs.Running.{canStep, lowest, allFinished, Ending, refused, RunOutcome, ended, look, runOn, run}
+use Rattle.machine.specs.Demand2.{Looks, Ran, run-refused, run-steps}
+use Rattle.machine.specs.Reached.{Reached, stepped, Call, steps, runs, goOn, runAnswers, lastOr, AllAccepted, StandsAs, callAnswers}
+use Rattle.machine.specs.Reached.{callLeaves, answersOf, leavesOf}
+use Rattle.machine.proofs.RunDemand2.{Finds, lowest-finds, run-ran}
 
 module _ (bytes : List ℕ) (s₀ : Lent) where
   -- nothing more was answered
@@ -88,3 +95,83 @@ module _ (bytes : List ℕ) (s₀ : Lent) where
       subst (λ (l : List Said). Reached bytes s₀ l (leavesOf bytes (callLeaves bytes s c) cs))
       (append-assoc answers (callAnswers bytes s c) (answersOf bytes (callLeaves bytes s c) cs))
       (calls-reached cs (callLeaves bytes s c) (call-reached s c q))
+
+-- the same answers, with the run that makes these steps, from where it has come to
+record Along (before : Option Said) (taken : ℕ) (answers : List Said) (o : RunOutcome) : Type 0 where
+  accepts : AllAccepted answers
+  last-is : o .last ≡ lastOr before answers
+  number-is : o .taken ≡ taken + length answers
+
+-- no step
+along-none : (e : Ending) (before : Option Said) (taken : ℕ) (s : Lent) → Along before taken [] (ended e before taken s)
+unfolding AllAccepted lastOr
+along-none e before taken s = record { accepts = tt; last-is = refl; number-is = omega arith }
+
+-- one step more
+along-more :
+    {before : Option Said} {taken : ℕ} {a : Said} {answers : List Said} {o : RunOutcome} → accepted a ≡ true
+    → Along (some a) (suc taken) answers o → Along before taken (a ∷ answers) o
+unfolding AllAccepted lastOr
+along-more h x = record { accepts = (h, x .accepts); last-is = x .last-is; number-is = omega (arith, x .number-is) }
+
+module _ (bytes : List ℕ) where
+  -- one look when the budget is used
+  spent-along :
+      (again : Lent → Option Said → ℕ → RunOutcome) (s : Lent) (before : Option Said) (taken : ℕ) (b : Bool) (x : Option ℕ)
+      → Along before taken [] (look bytes again 0 s before taken b x)
+  unfolding look
+  spent-along again s before taken true x = along-none _ before taken s
+  spent-along again s before taken false none = along-none _ before taken s
+  spent-along again s before taken false (some v) = along-none _ before taken s
+
+  -- and when some of it is left
+  look-along :
+      (left : ℕ) (again : Lent → Option Said → ℕ → RunOutcome) (tells : Lent → List Said) (s : Lent) (before : Option Said) (taken : ℕ)
+      → ((s' : Lent) (before' : Option Said) (taken' : ℕ) → Along before' taken' (tells s') (again s' before' taken'))
+      → (b : Bool) (x : Option ℕ) → Finds (canStep bytes s) (s .made) x
+      → Along before taken (goOn bytes tells s b x) (look bytes again (suc left) s before taken b x)
+  unfolding look goOn
+  look-along left again tells s before taken on true x finds = along-none _ before taken s
+  look-along left again tells s before taken on false none finds = along-none _ before taken s
+  look-along left again tells s before taken on false (some v) finds = along-more (finds .0) (on _ _ _)
+
+  -- from where a run has come to, with so much of its budget left
+  on-along :
+      (left : ℕ) (s : Lent) (before : Option Said) (taken : ℕ)
+      → Along before taken (runAnswers bytes left s) (runOn bytes left s before taken)
+  unfolding runAnswers runOn
+  on-along zero s before taken = spent-along _ s before taken _ _
+  on-along (suc left) s before taken =
+      look-along left (runOn bytes left) (runAnswers bytes left) s before taken (on-along left) (allFinished s) (lowest bytes s)
+      (lowest-finds bytes s)
+
+-- no step at all
+stands-none : (e : Ending) (s : Lent) → StandsAs [] (ended e none 0 s)
+unfolding AllAccepted lastOr
+stands-none e s = record { all-accepted = tt; last-of-them = refl; their-number = refl; refused-none = λ n p q. refl }
+
+-- "A run lent the same stands in a list as the steps that it makes": all are accepted, and it answers the last of them and their number.
+pub run-stands :
+    (bytes : List ℕ) (s : Lent) (budget : ℕ) → StandsAs (callAnswers bytes s (runs budget)) (run bytes s budget)
+unfolding callAnswers run
+run-stands bytes s budget = go (steppable s) refl (run-ran bytes s budget)
+  where
+    along : Along none 0 (runAnswers bytes budget s) (runOn bytes budget s none 0)
+    along = on-along bytes budget s none 0
+
+    not-refused : {o : RunOutcome} (n p : ℕ) → steppable s ≡ true → Ran bytes s budget o → o .ending ≡ refused n p → ⊥
+    not-refused n p h (run-refused f _) e = true-false h f
+    not-refused {o} n p h (run-steps _ _ _ looks _) e = subst (λ (x : Ending). Looks bytes budget (o .taken) (o .after) x) e looks
+
+    go :
+        (b : Bool) → steppable s ≡ b → Ran bytes s budget (cond b (runOn bytes budget s none 0) (ended (refused unsound-tables 0) none 0 s))
+        → StandsAs (cond b (runAnswers bytes budget s) [])
+        (cond b (runOn bytes budget s none 0) (ended (refused unsound-tables 0) none 0 s))
+    go true h ran =
+        record {
+          all-accepted = along .accepts;
+          last-of-them = along .last-is;
+          their-number = omega (arith, along .number-is);
+          refused-none = λ n p e. absurd (not-refused n p h ran e);
+        }
+    go false h ran = stands-none (refused unsound-tables 0) s

@@ -5,11 +5,12 @@ use mathlib.Core.Path.{_≡_}
 use mathlib.Core.Bool.{Bool, true, false, cond}
 use mathlib.Core.List.{List, [], _∷_, _++_}
 use mathlib.Core.Option.{Option, none, some}
+use lib.ListN.{length}
 use Rattle.graph.specs.Tables.{Lent}
 use Rattle.machine.specs.Answers.{Said, accepted}
 use Rattle.machine.specs.Loading.{load}
 use Rattle.machine.specs.Stepping.{steppable, step}
-use Rattle.machine.specs.Running.{lowest, allFinished, run}
+use Rattle.machine.specs.Running.{lowest, allFinished, refused, RunOutcome, run}
 
 -- From the loading of these bytes onto s₀, by steps with these answers, this is lent.
 pub data Reached (bytes : List ℕ) (s₀ : Lent) : List Said → Lent → Type 0 where
@@ -33,7 +34,25 @@ unfoldable pub runAnswers : List ℕ → ℕ → Lent → List Said
 runAnswers bytes zero s = []
 runAnswers bytes (suc budget) s = goOn bytes (runAnswers bytes budget) s (allFinished s) (lowest bytes s)
 
--- what a call answers, step by step, and what it leaves
+-- the last of a list of answers, or what was answered before, where there is none
+unfoldable pub lastOr : Option Said → List Said → Option Said
+lastOr before [] = before
+lastOr before (a ∷ answers) = lastOr (some a) answers
+
+-- each of them is accepted
+unfoldable pub AllAccepted : List Said → Type 0
+AllAccepted [] = Unit {0}
+AllAccepted (a ∷ answers) = (accepted a ≡ true) × AllAccepted answers
+
+-- These are the answers of the steps that a run makes: the run ends "with the last accepted step and the steps taken, or "none" and 0". A
+-- refused run makes none.
+pub record StandsAs (answers : List Said) (o : RunOutcome) : Type 0 where
+  pub all-accepted : AllAccepted answers
+  pub last-of-them : o .last ≡ lastOr none answers
+  pub their-number : o .taken ≡ length answers
+  pub refused-none : (n p : ℕ) → o .ending ≡ refused n p → answers ≡ []
+
+-- what a call answers, step by step, and what it leaves; `run-stands` in proofs/Calls.antt says what a run answers in a list
 unfoldable pub callAnswers : List ℕ → Lent → Call → List Said
 callAnswers bytes s (steps v) = step bytes s v .answer ∷ []
 callAnswers bytes s (runs budget) = cond (steppable s) (runAnswers bytes budget s) []
