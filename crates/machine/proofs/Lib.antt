@@ -6,7 +6,7 @@
 --     Demand3         demand 3, of whatever is reached from an accepted loading
 --     Traces          demand 3 of every list of calls, and of every trace of an engine, which is the plain machine's
 --     Calls           a list of calls, runs among them, reaches what its steps reach; what a run answers of these steps
---     LoadLaws        demand 2 of loading: what is accepted, and that a refusal changes nothing
+--     LoadLaws        demand 2 of loading: what is accepted, that a refusal changes nothing, and that no word past the usable rows changes
 --     StepDemand2     demand 2 of a step: it is what is due, taken where its command is
 --     RunDemand2      demand 2 of a run: only such steps, and how it ends
 --     LookLaws        a run turn by turn: which vertex it finds, which cannot step, and what each look comes to

@@ -18,7 +18,6 @@ use Rattle.graph.proofs.EdgeLaws.{Is, is-same, holds-none, appended-is}
 use Rattle.graph.proofs.SoundLaws.{fits-sound}
 use Rattle.program.specs.Trees.{Body}
 use Rattle.program.specs.Bytes.{encode, size}
-use Rattle.program.specs.Encodings as needs
 use Rattle.program.specs.Reader.{program, reading}
 use Rattle.program.specs.Located.{Code, end-at, locate}
 use Rattle.program.specs.Located as code
@@ -27,7 +26,7 @@ use Rattle.program.proofs.Exactness.{reading-sound}
 use Rattle.machine.specs.Answers.{accepted}
 use Rattle.machine.specs.Loading.{placed, loadedTables, load}
 use Rattle.machine.specs.Demand2.{Lends}
-use Rattle.machine.proofs.LoadLaws.{load-accepted}
+use Rattle.machine.proofs.LoadLaws.{two-rows, one-edge-row, load-accepted}
 use Rattle.machine.proofs.Ghost.{ready}
 use Rattle.machine.proofs.RoadLaws.{linked-new}
 use Rattle.machine.proofs.Beginning.{beginning, beginning-edge}
@@ -130,15 +129,6 @@ loaded-edge e n lt a b =
 begin-edge : (p : Code) (L : ℕ) → Is (beginning p L .edge) (λ a b. (a ≡ 0) × (b ≡ 1))
 unfolding beginning
 begin-edge p L a b = (beginning-edge p L a b, λ q. rw (q .0, q .1) (linked-new (λ a b. false) 0 1))
-
--- a program needs two vertex rows and one edge row
-two-rows : (t : Body) (s : Lent) → Lends t s → 2 ≤ vertexRows (s .vertices)
-unfolding needs.vertices
-two-rows t s h = omega (arith, h .vertex-rows)
-
-one-edge-row : (t : Body) (s : Lent) → Lends t s → 0 < edgeRows (s .edges)
-unfolding needs.edgeRows
-one-edge-row t s h = omega (arith, h .edge-rows)
 
 module _ (bytes : List ℕ) (s : Lent) (t : Body) (h : Lends t s) where
   -- the offset of the last byte

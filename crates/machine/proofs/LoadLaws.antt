@@ -1,24 +1,40 @@
--- Demand 2 of loading: it accepts exactly the encodings of trees within the limits for which the rows needed are lent, and a refused
--- loading changes nothing.
-use Prim.Native.Nat.{ℕ}
+-- Demand 2 of loading:
+--
+--     load-exact      it accepts exactly the encodings of trees within the limits for which the rows needed are lent
+--     load-refused    why it is refused
+--     load-keeps      a refused loading changes nothing
+--     load-accepted   the tables that an accepted one leaves
+--     load-usable     no word past the usable rows changes
+--     load-place      a refusal has a place from 2 to 7 only
+use Prim.Native.Nat.{ℕ, _+_, _-_, _*_, _<_, _≤_}
 use mathlib.Core.Path.{_≡_, refl, sym, _∙_, ap, subst}
 use mathlib.Core.Bool.{true, false}
-use mathlib.Core.Logic.{⊎-elim, _↔_}
+use mathlib.Core.Logic.{_⊎_, inl, inr, ⊎-elim, _↔_}
 use mathlib.Core.List.{List}
+use native.Mathlib.Omega.{arith}
 use lib.Dec.{leb}
+use lib.ListN.{length, set, length-set}
+use lib.Seq.{getD-set-other}
 use borrow.Author.Tests.{le-leb, lt-leb, leb-true, leb-false}
-use Rattle.graph.specs.Tables.{Lent, vertexRows, edgeRows}
+use Rattle.graph.specs.Tables.{Lent, RELEASED, vertexWords, edgeWords, statusWord, placeWord, scopeWord, sourceWord, targetWord, vertexRows}
+use Rattle.graph.specs.Tables.{edgeRows, clear}
+use Rattle.graph.specs.Commands.{appended}
+use Rattle.graph.specs.Demand2.{SameBut}
 use Rattle.graph.proofs.TestLaws.{decide, true-false}
+use Rattle.graph.proofs.TableLaws.{length-clear, clear-out}
 use Rattle.program.specs.Trees.{Body}
 use Rattle.program.specs.Bytes.{encode}
 use Rattle.program.specs.Encodings as needs
 use Rattle.program.specs.Encodings.{firstEdition}
-use Rattle.program.specs.Reader.{Reading, program, refusal, reading}
-use Rattle.program.specs.Claims.{Loadable}
+use Rattle.program.specs.Reader.{body, Reading, program, refusal, reading}
+use Rattle.program.specs.Claims.{Loadable, Offends, too-long, not-shortest, unknown, opener, too-large}
 use Rattle.program.proofs.Exactness.{reading-sound, reading-complete}
+use Rattle.program.proofs.Soundness.{FitsAt}
+use Rattle.program.proofs.StopLaws.{Stop, ran-out, offended, body-stop}
+use Rattle.program.proofs.ReadingLaws as read
 use Rattle.machine.specs.Answers.{Said, Outcome, accepted, refused, refuse}
-use Rattle.machine.specs.Loading.{loadedTables, loadRead, load}
-use Rattle.machine.specs.Demand2.{Lends, Unloaded, unread, few-vertex-rows, few-edge-rows}
+use Rattle.machine.specs.Loading.{placed, loadedTables, loadRead, load}
+use Rattle.machine.specs.Demand2.{Lends, Unloaded, unread, few-vertex-rows, few-edge-rows, UsableOnly, HasPlace}
 use Rattle.machine.proofs.AnswerLaws.{unless-pass, unless-stop}
 
 -- a program for which the rows are lent is loaded
@@ -113,3 +129,85 @@ load-accepted bytes s t r = there (load-comes bytes s)
         let same : b ≡ t = cc in
         (subst (λ (x : Body). Lends x s) same l, ap (λ (o : Outcome). o .after) e)
     there (refuses n p u e) h = true-false h (ap (λ (o : Outcome). accepted (o .answer)) e)
+
+-- a program needs two vertex rows and one edge row
+pub two-rows : (t : Body) (s : Lent) → Lends t s → 2 ≤ vertexRows (s .vertices)
+unfolding needs.vertices
+two-rows t s h = omega (arith, h .vertex-rows)
+
+pub one-edge-row : (t : Body) (s : Lent) → Lends t s → 0 < edgeRows (s .edges)
+unfolding needs.edgeRows
+one-edge-row t s h = omega (arith, h .edge-rows)
+
+-- the words from n on are what they were
+record Rest (l : List ℕ) (n : ℕ) (l' : List ℕ) : Type 0 where
+  stays : SameBut (λ i. i < n) l l'
+
+-- when the first n are cleared
+rest-cleared : (l : List ℕ) (n : ℕ) → Rest l n (clear l 0 n)
+rest-cleared l n = record { stays = (length-clear l 0 n, λ i out. clear-out l 0 n i (λ q. out (omega (arith, q .1)))) }
+
+-- and when one of these is set
+rest-set : {l l' : List ℕ} {n : ℕ} (i x : ℕ) → i < n → Rest l n l' → Rest l n (set l' i x)
+rest-set {l' = l'} i x lt h =
+    let (len, same) = h .stays in
+    record { stays = (length-set l' i x ∙ len, λ j out. getD-set-other l' i j x 0 (λ e. out (omega arith)) ∙ same j out) }
+
+-- or a vertex is placed among them
+rest-placed : {l l' : List ℕ} {n : ℕ} (k x : ℕ) → vertexWords * k + scopeWord < n → Rest l n l' → Rest l n (placed l' k x)
+rest-placed k x lt h =
+    rest-set (vertexWords * k + scopeWord) 1 lt
+    (rest-set (vertexWords * k + placeWord) x (omega arith) (rest-set (vertexWords * k + statusWord) RELEASED (omega arith) h))
+
+loaded-usable : (bytes : List ℕ) (s : Lent) (t : Body) → Lends t s → UsableOnly s (loadedTables bytes s)
+unfolding loadedTables appended
+loaded-usable bytes s t h =
+    let two : 2 ≤ vertexRows (s .vertices) = two-rows t s h in
+    let one : 0 < edgeRows (s .edges) = one-edge-row t s h in
+    record {
+      vertex-words =
+          rest-placed 1 (length bytes - 1) (omega arith)
+          (rest-placed 0 0 (omega arith) (rest-cleared (s .vertices) (vertexWords * vertexRows (s .vertices))))
+          .stays;
+      edge-words =
+          rest-set (edgeWords * 0 + targetWord) 1 (omega arith)
+          (rest-set (edgeWords * 0 + sourceWord) 0 (omega arith) (rest-cleared (s .edges) (edgeWords * edgeRows (s .edges))))
+          .stays;
+    }
+
+-- Loading, accepted or refused, changes no word past the usable rows, and no table's length.
+pub load-usable : (bytes : List ℕ) (s : Lent) → UsableOnly s (load bytes s .after)
+load-usable bytes s = there (load-comes bytes s)
+  where
+    there : {o : Outcome} → Comes bytes s o → UsableOnly s (o .after)
+    there (loads b r l e) = subst (λ (o : Outcome). UsableOnly s (o .after)) (sym e) (loaded-usable bytes s b l)
+    there (refuses n p u e) =
+        subst (λ (o : Outcome). UsableOnly s (o .after)) (sym e)
+        (record { vertex-words = (refl, λ i out. refl); edge-words = (refl, λ i out. refl) })
+
+-- bytes that offend have a place, and so have bytes that run out
+offends-place : {n : ℕ} {bad : List ℕ} → Offends n bad → HasPlace n
+offends-place (too-long number e t) = omega arith
+offends-place (not-shortest b groups t) = omega arith
+offends-place (unknown x l) = omega arith
+offends-place (opener x p q) = omega arith
+offends-place (too-large m l r) = omega arith
+
+stop-place : {bytes left : List ℕ} {n : ℕ} → Stop encode (FitsAt 1) (body 1) bytes n left → HasPlace n
+stop-place (ran-out b x more f e) = omega arith
+stop-place (offended before bad rest e q o b more f t s) = offends-place o
+
+reading-place : {bytes : List ℕ} {n p : ℕ} → read.Comes bytes (refusal n p) → HasPlace n ⊎ (p ≡ 0)
+reading-place (read.outside o) = inr refl
+reading-place {bytes} (read.stopped n left w e) = inl (stop-place (body-stop 1 bytes n left e))
+reading-place (read.overran b x left w e) = inl (omega arith)
+reading-place (read.crowds b w e v) = inr refl
+
+-- A refused loading has a place from 2 to 7 only.
+pub load-place : (bytes : List ℕ) (s : Lent) (n p : ℕ) → load bytes s .answer ≡ refused n p → HasPlace n ⊎ (p ≡ 0)
+load-place bytes s n p h = there (load-refused bytes s n p .0 h)
+  where
+    there : {n p : ℕ} → Unloaded bytes s n p → HasPlace n ⊎ (p ≡ 0)
+    there (unread r) = reading-place (subst (λ (x : Reading). read.Comes bytes x) r (read.reading-comes bytes))
+    there (few-vertex-rows b r lt) = inr refl
+    there (few-edge-rows b r le lt) = inr refl

@@ -1,6 +1,7 @@
--- Demand 2 of a run: it takes only steps, each of the lowest vertex that can step, counts them, and ends as it finds: done, stuck or spent.
+-- Demand 2 of a run: it takes only steps, each of the lowest vertex that can step, counts them, and ends as it finds: done, stuck or spent
+-- (`run-ran`); its refusal is 12 at no place (`run-place`).
 use Prim.Native.Nat.{ℕ, zero, suc, _+_, _<_, _≤_}
-use mathlib.Core.Path.{_≡_, refl, _∙_, ap, subst}
+use mathlib.Core.Path.{_≡_, refl, sym, _∙_, ap, subst}
 use mathlib.Core.Bool.{Bool, true, false, cond}
 use mathlib.Core.Logic.{⊎-elim}
 use mathlib.Core.List.{List}
@@ -12,7 +13,7 @@ use Rattle.graph.specs.Commands.{isMade, hasStatus}
 use Rattle.graph.proofs.TestLaws.{true-false, not-so, every-at, every-all, below-suc}
 use Rattle.machine.specs.Answers.{Said, unsound-tables}
 use Rattle.machine.specs.Stepping.{steppable, step}
-use Rattle.machine.specs.Running.{canStep, orThis, lowestBelow, lowest, allFinished, refused, RunOutcome, ended, look, runOn, run}
+use Rattle.machine.specs.Running.{canStep, orThis, lowestBelow, lowest, allFinished, Ending, refused, RunOutcome, ended, look, runOn, run}
 use Rattle.machine.specs.Demand2.{Steps, no-step, one-more, AllFinished, Looks, Ran, run-refused, run-steps}
 use Rattle.machine.proofs.StepDemand2.{step-counts}
 use Rattle.machine.proofs.AnswerLaws.{unless-passed}
@@ -126,3 +127,13 @@ run-ran bytes s budget = go (steppable s) refl
         → Ran bytes s budget (cond b (runOn bytes budget s none 0) (ended (refused unsound-tables 0) none 0 s))
     go true h = run-steps h (made .by-steps) (made .within) (made .looks) (steps-counted (made .by-steps))
     go false h = run-refused h refl
+
+-- A refused run is refused by 12, and has no place.
+pub run-place : (bytes : List ℕ) (s : Lent) (budget n p : ℕ) → run bytes s budget .ending ≡ refused n p → (n ≡ unsound-tables) × (p ≡ 0)
+run-place bytes s budget n p h = there (run-ran bytes s budget) h
+  where
+    there : {o : RunOutcome} → Ran bytes s budget o → o .ending ≡ refused n p → (n ≡ unsound-tables) × (p ≡ 0)
+    there (run-refused b e) h =
+        let q : refused n p ≡ refused unsound-tables 0 = sym h ∙ ap (λ (o : RunOutcome). o .ending) e in
+        (cc, cc)
+    there {o} (run-steps b t le looks c) h = absurd (subst (λ (x : Ending). Looks bytes budget (o .taken) (o .after) x) h looks)

@@ -11,6 +11,7 @@
 --     step-acceptance   on a graph without a cycle: accepted exactly where the rule has a step and the row is free
 --     step-refused      refused by 12, 20, 22, 23 or 13 before any command, or as its command is
 --     released-step     a released vertex: started, or refused by 21
+--     step-place        a refusal has the place 0
 use Prim.Native.Nat.{ℕ, zero, suc, _+_, _-_, _<_, _≤_}
 use mathlib.Core.Path.{_≡_, refl, sym, _∙_, ap, subst}
 use mathlib.Core.Bool.{Bool, true, false, not, cond}
@@ -451,3 +452,28 @@ module _ (bytes : List ℕ) (s : Lent) (v : ℕ) (p : steppable s ≡ true) (lt 
       go : (b : Bool) → saidAs (cond b (of-graph.refused edge-leads-in 0) of-graph.start) ≡ cond b (Said.refused edge-leads-in 0) Said.start
       go true = refl
       go false = refl
+
+-- a refused command has no place
+decided-place :
+    (s : Lent) (k : ℕ) (a : of-graph.Said) (after : Lent) (n p : ℕ) → of-graph.accepted a ≡ true
+    → decided s k a after .answer ≡ of-graph.refused n p → p ≡ 0
+unfolding decided
+decided-place s zero a after n p h e = true-false h (ap of-graph.accepted e)
+decided-place s (suc k) a after n p h e = cc
+
+command-place : (c : single.Command) (s : Lent) (n p : ℕ) → command c s .answer ≡ of-graph.refused n p → p ≡ 0
+unfolding command g.newTd g.newEdge g.release g.transfer g.start g.stop
+command-place (NewTd t place scope) s n p = decided-place s _ _ _ n p refl
+command-place (NewEdge t t1 t2) s n p = decided-place s _ _ _ n p refl
+command-place (Release t t') s n p = decided-place s _ _ _ n p refl
+command-place (Transfer t t') s n p = decided-place s _ _ _ n p refl
+command-place (Start t) s n p = decided-place s _ _ _ n p refl
+command-place (Stop t) s n p = decided-place s _ _ _ n p refl
+
+-- A refused step has no place.
+pub step-place : (bytes : List ℕ) (s : Lent) (v n p : ℕ) → step bytes s v .answer ≡ Said.refused n p → p ≡ 0
+step-place bytes s v n p h = there (step-refused bytes s v n p .0 h)
+  where
+    there : {n p : ℕ} → Refused bytes s v n p → p ≡ 0
+    there (before e b) = refl
+    there {n} {p} (by-command c w e q) = command-place c s n p q

@@ -9,7 +9,8 @@ use mathlib.Core.List.{List}
 use mathlib.Core.Option.{Option, none, some}
 use lib.Dec.{eqb}
 use lib.ListN.{length, take}
-use Rattle.graph.specs.Tables.{Lent, NEW, RELEASED, FINISHED, vertexWords, placeWord, phaseWord, vertexRows, edgeRows, status}
+use Rattle.graph.specs.Tables.{Lent, NEW, RELEASED, FINISHED, vertexWords, edgeWords, placeWord, phaseWord, vertexRows, edgeRows}
+use Rattle.graph.specs.Tables.{status}
 use Rattle.graph.specs.Answers.{no-such-vertex, vertex-new, vertex-finished}
 use Rattle.graph.specs.Answers as of-graph
 use Rattle.graph.specs.Commands.{isMade, hasStatus, command}
@@ -19,7 +20,7 @@ use Rattle.graph.specs.declared.Command.the-variants.{NewTd, NewEdge, Release, 
 use Rattle.program.specs.Trees.{Body}
 use Rattle.program.specs.Encodings as needs
 use Rattle.program.specs.Encodings.{Spot, Command, perform, newTd, newEdge, transfer, release, Row, firstEdition, weight, makes}
-use Rattle.program.specs.Reader.{program, refusal, reading}
+use Rattle.program.specs.Reader.{program, refusal, reading, number-malformed, job-too-large}
 use Rattle.program.specs.Located.{itemAt}
 use Rattle.machine.specs.Answers.{Said, Outcome, accepted, refuse, too-few-vertex-rows, too-few-edge-rows, unsound-tables, unreadable}
 use Rattle.machine.specs.Stepping.{steppable, place, phase, made, named, Task, item, ends, nothing, task, nth, step}
@@ -40,6 +41,16 @@ pub data Unloaded (bytes : List ℕ) (s : Lent) : ℕ → ℕ → Type 0 where
   few-edge-rows :
       (b : Body) → reading bytes ≡ program b → needs.vertices firstEdition b ≤ vertexRows (s .vertices)
       → edgeRows (s .edges) < needs.edgeRows firstEdition b → Unloaded bytes s too-few-edge-rows 0
+
+-- "Only full rows among the first 1,024 of each table are used": past them both tables hold what they held, and they keep their lengths.
+-- `load-usable` says so of every loading, and `load-keeps` that a refused one changes no word at all.
+pub record UsableOnly (s s' : Lent) : Type 0 where
+  pub vertex-words : SameBut (λ i. i < vertexWords * vertexRows (s .vertices)) (s .vertices) (s' .vertices)
+  pub edge-words : SameBut (λ i. i < edgeWords * edgeRows (s .edges)) (s .edges) (s' .edges)
+
+-- "the first of 2 to 7 by place": these refusals have a place. All others have the place 0, as `load-place`, `step-place` and `run-place` say.
+abbrev pub HasPlace : ℕ → Type 0
+HasPlace n = (number-malformed ≤ n) × (n ≤ job-too-large)
 
 -- STEPS
 -- The words of a vertex's row that only its steps move: its place, its phase, and the three vertices that this item made.
