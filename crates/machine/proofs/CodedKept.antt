@@ -2,19 +2,19 @@
 -- had or to the program's last byte, and what is made starts with code that is right inside too.
 use Prim.Native.Nat.{ℕ}
 use mathlib.Core.Path.{_≡_, refl, sym, _∙_, ap, subst}
-use mathlib.Core.Bool.{Bool, true, false, cond}
 use mathlib.Core.List.{List, [], _∷_, _++_}
 use mathlib.Core.Option.{some, Option·some-injective, Option·none-ne-some}
 use Rattle.program.specs.Encodings.{Name}
 use Rattle.program.specs.Located.{Code, place, last, codeAt}
 use Rattle.program.proofs.LocatedLaws.{Laid, Inner, job-rest, async-body, async-rest, finish-body, finish-rest, fork-left, fork-right}
 use Rattle.program.proofs.LocatedLaws.{fork-rest, code-inner, code-end}
-use Rattle.machine.proofs.Ghost.{Do, Control, draft, fresh, busy, over, State, put, goes, onward, woken, among, Event, Move, begins}
-use Rattle.machine.proofs.Ghost.{performs, stops, makes, splits, acts, done, stirred}
+use Rattle.machine.proofs.Ghost.{Do, Control, draft, fresh, busy, over, State, put, goes, onward, Event, Move, begins, performs}
+use Rattle.machine.proofs.Ghost.{stops, makes, splits, acts, done, stirred}
 use Rattle.machine.proofs.Invariant.{codeOf, Coded}
 use Rattle.machine.proofs.GhostLaws.{Makes, finish-1, fork-1, fork-2, Splits, async-1, finish-2, fork-3, makes-at, splits-at}
 use Rattle.machine.proofs.GhostLaws.{put-all}
-use Rattle.machine.proofs.RoadLaws.{code-onward, code-woken, code-freed, done-keeps}
+use Rattle.machine.proofs.RoadLaws.{code-onward, done-keeps}
+use Rattle.machine.proofs.SplitLaws.{stirred-keeps}
 
 -- the code of this control, if it has code, stands in p
 abbrev Stands : Code → Control → Type 0
@@ -61,11 +61,8 @@ stands-made p f n v y x h i j u = put-all (λ z. Stands p z) (put f n y) v x (pu
 stands-woken :
     (p : Code) (f : ℕ → Control) (ms : List ℕ) → ((u : ℕ) → Stands p (f u))
     → (u : ℕ) → Stands p (stirred f ms u)
-stands-woken p f ms h u = go (among u ms)
-  where
-    go : (b : Bool) → Stands p (cond b (woken (f u)) (f u))
-    go true = stands-same p (f u) (woken (f u)) (code-woken (f u)) (h u)
-    go false = h u
+unfolding codeOf
+stands-woken p f ms h u = stands-same p (f u) (stirred f ms u) (stirred-keeps codeOf (λ c. refl) f ms u) (h u)
 
 -- every move leaves the codes
 pub coded-kept :
@@ -88,5 +85,5 @@ coded-kept {v = v} {S = S} p l e h (splits {c = c} {ms = ms} {k = k} q w) =
     (stands-onward p _ _ (goes-stands p l e (splits-at c ms w) here))
 coded-kept {v = v} {S = S} p l e h (acts {c = c} {d = d} {ds = ds} q) =
     put-all (λ x. Stands p x) (done S v d .control) v _
-    (λ u. stands-same p (S .control u) (done S v d .control u) (done-keeps codeOf code-freed S v d u) (h u))
+    (λ u. stands-same p (S .control u) (done S v d .control u) (done-keeps codeOf (λ c. refl) S v d u) (h u))
     (stands-onward p c ds (h v c (ap codeOf q)))

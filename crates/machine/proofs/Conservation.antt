@@ -17,7 +17,7 @@ use lib.ListN.{length, drop, length-append}
 use Rattle.program.specs.Encodings.{Name, Command, perform, newTd, newEdge, transfer, release, weight}
 use Rattle.program.specs.Located.{Code, end-at, job-at, async-at, finish-at, fork-at}
 use Rattle.machine.proofs.Ghost.{Do, link, hand, free, Control, draft, fresh, ready, busy, joining, over, State, put, kids, goes}
-use Rattle.machine.proofs.Ghost.{kindOf, commandsOf, joins, todo, onward, woken, freed, done, Event, a-start, a-new, a-job, a-stop}
+use Rattle.machine.proofs.Ghost.{kindOf, commandsOf, joins, todo, onward, done, Event, a-start, a-new, a-job, a-stop}
 use Rattle.machine.proofs.Ghost.{eventOf, Move, begins, performs, stops, makes, splits, acts, stirred}
 use Rattle.machine.proofs.Invariant.{Shape}
 use Rattle.machine.proofs.GhostLaws.{put-same, put-other, clash, below}
@@ -144,25 +144,6 @@ acts-weight : (ω : Event → ℕ) (c : Code) (d : Do) (ds : List Do) → left �
 unfolding left tasksWeight
 acts-weight ω c d ds = omega (arith, onward-weight ω c ds)
 
--- a vertex released, and a draft that is none any more, have the same to do
-freed-weight : (ω : Event → ℕ) (x : Control) → left ω (freed x) ≡ left ω x
-unfolding freed left
-freed-weight ω (draft c) = refl
-freed-weight ω (fresh c) = refl
-freed-weight ω (ready c) = refl
-freed-weight ω (busy c ms) = refl
-freed-weight ω (joining c d ds) = refl
-freed-weight ω over = refl
-
-woken-weight : (ω : Event → ℕ) (x : Control) → left ω (woken x) ≡ left ω x
-unfolding woken left
-woken-weight ω (draft c) = refl
-woken-weight ω (fresh c) = refl
-woken-weight ω (ready c) = refl
-woken-weight ω (busy c ms) = refl
-woken-weight ω (joining c d ds) = refl
-woken-weight ω over = refl
-
 -- in every code there is something to do: it has an end byte
 body-some : (c : Code) → 0 < bodyWeight each c
 unfolding bodyWeight
@@ -221,9 +202,15 @@ increased ω f g n v w x y h same e =
     let here : left ω (put (put g n y) v x v) ≡ left ω x = ap (left ω) (put-same (put g n y) v x) in
     omega (arith, new, moved ω f (put (put g n y) v x) n v (w + left ω y) h old (omega arith))
 
--- a joining command leaves to each vertex what it had to do
+-- where drafts become fresh, each vertex has the same to do
+stirred-weight : (ω : Event → ℕ) (f : ℕ → Control) (ms : List ℕ) (u : ℕ) → left ω (f u) ≡ left ω (stirred f ms u)
+unfolding left
+stirred-weight ω f ms u = sym (stirred-keeps (left ω) (λ c. refl) f ms u)
+
+-- and so it has after a joining command
 done-weight : (ω : Event → ℕ) (S : State) (v : ℕ) (d : Do) (u : ℕ) → left ω (S .control u) ≡ left ω (done S v d .control u)
-done-weight ω S v d u = sym (done-keeps (left ω) (freed-weight ω) S v d u)
+unfolding left
+done-weight ω S v d u = sym (done-keeps (left ω) (λ c. refl) S v d u)
 
 -- and makes none
 pub done-count : (S : State) (v : ℕ) (d : Do) → done S v d .count ≡ S .count
@@ -246,7 +233,7 @@ conserved ω {v = v} {S = S} sh (makes {c} {ms} {k} {a} q e) =
     (ap (left ω) q ∙ makes-weight ω c ms (S .count) k a _ e)
 conserved ω {L} {v} {S} sh (splits {c} {ms} {k} {a} q e) =
     increased ω (S .control) (stirred (S .control) ms) (S .count) v _ _ _ (below sh v (λ o. clash cc))
-    (λ u. sym (stirred-keeps (left ω) (woken-weight ω) (S .control) ms u))
+    (stirred-weight ω (S .control) ms)
     (ap (left ω) q ∙ splits-weight ω L (S .scope v) c ms (ms ++ (S .count ∷ [])) k a e)
 conserved ω {v = v} {S = S} sh (acts {c} {d} {ds} q) =
     changed ω (S .control) (done S v d .control) (S .count) v _ _ (below sh v (λ o. clash cc)) (done-weight ω S v d)

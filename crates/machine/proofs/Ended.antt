@@ -12,7 +12,7 @@ use Rattle.machine.proofs.Ghost.{Do, link, hand, free, Control, draft, 
 use Rattle.machine.proofs.Ghost.{freed, among, dropped, linked, handed, done, Event, Move, begins, performs, stops, makes, splits}
 use Rattle.machine.proofs.Ghost.{acts, stirred}
 use Rattle.machine.proofs.Invariant.{here, Shape, tasks}
-use Rattle.machine.proofs.GhostLaws.{put-same, put-other, put-cases, clash}
+use Rattle.machine.proofs.GhostLaws.{put-same, put-other, put-cases, clash, woken-cases, freed-cases, onward-cases}
 use Rattle.machine.proofs.Beginning.{beginning, beginning-edge}
 
 abbrev pub Ended : State → Type 0
@@ -20,27 +20,13 @@ Ended S = (a b : ℕ) → S .control a ≡ over → S .edge a b ≡ false
 
 -- waking, releasing and going on end nothing
 woken-over : (x : Control) → woken x ≡ over → x ≡ over
-unfolding woken
-woken-over (draft c) h = clash cc
-woken-over (fresh c) h = clash cc
-woken-over (ready c) h = clash cc
-woken-over (busy c ms) h = clash cc
-woken-over (joining c d ds) h = clash cc
-woken-over over h = refl
+woken-over = woken-cases (λ x y. y ≡ over → x ≡ over) (λ x h. h) (λ c h. clash cc)
 
 freed-over : (x : Control) → freed x ≡ over → x ≡ over
-unfolding freed
-freed-over (draft c) h = clash cc
-freed-over (fresh c) h = clash cc
-freed-over (ready c) h = clash cc
-freed-over (busy c ms) h = clash cc
-freed-over (joining c d ds) h = clash cc
-freed-over over h = refl
+freed-over = freed-cases (λ x y. y ≡ over → x ≡ over) (λ x h. h) (λ c h. clash cc)
 
 onward-over : (c : Code) (ds : List Do) → onward c ds ≡ over → ⊥
-unfolding onward
-onward-over c [] h = clash cc
-onward-over c (d ∷ ds) h = clash cc
+onward-over c = onward-cases (λ x. x ≡ over → ⊥) c (λ h. clash cc) (λ d ds h. clash cc)
 
 -- what is over, where v is given something else, is another vertex and was over
 still-over : (f : ℕ → Control) (v : ℕ) (x : Control) (a : ℕ) → (x ≡ over → ⊥) → put f v x a ≡ over → (a ≡ v → ⊥) × (f a ≡ over)

@@ -11,6 +11,9 @@
 --                    thing. `cc` alone proves what equal constructors have in common: from x ≡ busy c ms and x ≡ busy d ns, ms ≡ ns
 --     apart          u is not v, where a test on what f gives tells them apart
 --     draft-new, fresh-new, ready-old, busy-old, joining-old, over-old    isNew of each
+--     woken-cases    P x (woken x), from P x x and P (draft c) (fresh c); woken-keeps: g (woken x) ≡ g x, where g sees these two alike
+--     freed-cases    P x (freed x), from P x x and P (fresh c) (ready c); freed-keeps: g (freed x) ≡ g x, where g sees these two alike
+--     onward-cases   P (onward c ds), from P (busy c []) and P (joining c d ds)
 -- Lists
 --     in-cases       In x (y ∷ ys): x is y, or In x ys
 --     in-none        nothing is in the empty list; in-empty: nor in one that is equal to it
@@ -47,7 +50,7 @@ use Rattle.graph.proofs.TestLaws.{equal?, either-left, either-right, either-cas
 use Rattle.program.specs.Encodings.{Name, own-scope, made-1}
 use Rattle.program.specs.Located.{Code, end-at, job-at, async-at, finish-at, fork-at}
 use Rattle.machine.proofs.Ghost.{Do, link, hand, free, Control, draft, fresh, ready, busy, joining, over, State, put, kids, onward}
-use Rattle.machine.proofs.Ghost.{among}
+use Rattle.machine.proofs.Ghost.{woken, freed, among}
 use Rattle.machine.proofs.Invariant.{In, here, later, Once, tasks, tasksOf, isNew, Draft, Drafts, FreesOnly, Shape}
 
 -- a function is changed at v
@@ -121,6 +124,41 @@ joining-old h = cc
 pub over-old : {x : Control} → x ≡ over → isNew x ≡ false
 unfolding isNew
 over-old h = cc
+
+-- waking changes drafts only, and so whatever is seen of them
+pub woken-cases :
+    (P : Control → Control → Type 0) → ((x : Control) → P x x) → ((c : Code) → P (draft c) (fresh c)) → (x : Control) → P x (woken x)
+unfolding woken
+woken-cases P same wakes (draft c) = wakes c
+woken-cases P same wakes (fresh c) = same (fresh c)
+woken-cases P same wakes (ready c) = same (ready c)
+woken-cases P same wakes (busy c ms) = same (busy c ms)
+woken-cases P same wakes (joining c d ds) = same (joining c d ds)
+woken-cases P same wakes over = same over
+
+pub woken-keeps : {B : Type 0} (g : Control → B) → ((c : Code) → g (fresh c) ≡ g (draft c)) → (x : Control) → g (woken x) ≡ g x
+woken-keeps g e = woken-cases (λ x y. g y ≡ g x) (λ x. refl) e
+
+-- a release changes fresh vertices only
+pub freed-cases :
+    (P : Control → Control → Type 0) → ((x : Control) → P x x) → ((c : Code) → P (fresh c) (ready c)) → (x : Control) → P x (freed x)
+unfolding freed
+freed-cases P same rises (draft c) = same (draft c)
+freed-cases P same rises (fresh c) = rises c
+freed-cases P same rises (ready c) = same (ready c)
+freed-cases P same rises (busy c ms) = same (busy c ms)
+freed-cases P same rises (joining c d ds) = same (joining c d ds)
+freed-cases P same rises over = same over
+
+pub freed-keeps : {B : Type 0} (g : Control → B) → ((c : Code) → g (ready c) ≡ g (fresh c)) → (x : Control) → g (freed x) ≡ g x
+freed-keeps g e = freed-cases (λ x y. g y ≡ g x) (λ x. refl) e
+
+-- who goes on is executing: it is at an item, or has something left to do
+pub onward-cases :
+    (P : Control → Type 0) (c : Code) → P (busy c []) → ((d : Do) (ds : List Do) → P (joining c d ds)) → (ds : List Do) → P (onward c ds)
+unfolding onward
+onward-cases P c at left [] = at
+onward-cases P c at left (d ∷ ds) = left d ds
 
 -- an element is the first, or is behind it
 pub in-cases : {A P : Type 0} {x y : A} {ys : List A} → In x (y ∷ ys) → (x ≡ y → P) → (In x ys → P) → P

@@ -19,7 +19,7 @@ use Rattle.machine.proofs.SettledLaws.{acts-keeps, settled-same, stop-b
 use Rattle.machine.proofs.Ways.{way-map, way-past, nothing-to}
 use Rattle.machine.proofs.Order.{Job, InS, Pre, holds, Held, held, Waits, for-way, for-scope, for-scopes-way, Orders}
 use Rattle.machine.proofs.OrderLaws.{ins-job}
-use Rattle.machine.proofs.WaitLaws.{end-job, job-behind, job-own, holds-one, holds-onward, holds-freed, held-laid, scope-led}
+use Rattle.machine.proofs.WaitLaws.{end-job, job-behind, job-own, holds-one, holds-onward, held-laid, scope-led}
 use Rattle.machine.proofs.WaitLaws.{busy-holds}
 
 -- u, which holds c in S, holds as much of the job at p in S', and leads where it led
@@ -145,7 +145,7 @@ pub acts-orders :
     → ((x y : ℕ) → Settled S' x y → Settled S x y) → ((x y : ℕ) → Settled S x y → Settled S' x y) → Orders m S'
 unfolding holds
 acts-orders {S = S} {v = v} {c = c} {ds = ds} os q f σ back on =
-    orders-same os (λ u. ap holds (f u) ∙ acts-keeps S v holds holds-freed (holds-onward c ds) q u) back on (λ u c h. σ u)
+    orders-same os (λ u. ap holds (f u) ∙ acts-keeps S v holds (λ c. refl) (holds-onward c ds) q u) back on (λ u c h. σ u)
 
 -- a make that does not split
 pub makes-orders :

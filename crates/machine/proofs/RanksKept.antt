@@ -19,8 +19,7 @@ use Rattle.machine.proofs.GhostLaws.{put-same, put-other, clash, draft-
 use Rattle.machine.proofs.GhostLaws.{Splits, async-1, finish-2, fork-3, makes-at, splits-at, below, new-below, doer-below, put-keeps}
 use Rattle.machine.proofs.GhostLaws.{puts-keep, put-below}
 use Rattle.machine.proofs.ShapeMakes.{makes-scope, splits-scope}
-use Rattle.machine.proofs.RoadLaws.{code-onward, code-freed, linked-cases, handed-cases, dropped-edge, over-idle, busy-code}
-use Rattle.machine.proofs.RoadLaws.{busy-below}
+use Rattle.machine.proofs.RoadLaws.{code-onward, linked-cases, handed-cases, dropped-edge, over-idle, busy-code, busy-below}
 use Rattle.machine.proofs.SettledLaws.{acts-did, acts-keeps, task-stood, plan-cases}
 use Rattle.machine.proofs.SplitLaws.{split-of, split-codes, todo-async, todo-finish, todo-fork, async-links, async-hands}
 use Rattle.machine.proofs.SplitLaws.{finish-links, finish-hands, fork-links, fork-hands}
@@ -364,7 +363,7 @@ ranks-kept {v = v} {S = S} p l sh rk cd (acts {c = c} {d = link a b} {ds = ds} q
     linked-cases (S .edge) a b x y e (rk .edge-rank x y)
     (λ i j. rw (i, j) (rk .link-rank v a b (subst (λ ds. In (link a b) ds) (sym (ap tasks q)) here))))
     (λ t d. task-stood D t)
-    (λ u d h i. (d, (sym (acts-keeps S v codeOf code-freed (code-onward c ds) q u) ∙ h, i), refl))
+    (λ u d h i. (d, (sym (acts-keeps S v codeOf (λ c. refl) (code-onward c ds) q u) ∙ h, i), refl))
 ranks-kept {v = v} {S = S} p l sh rk cd (acts {c = c} {d = hand h} {ds = ds} q) =
     let D = acts-did {S = S} {v = v} q in
     let le = rk .hand-rank v h (subst (λ ds. In (hand h) ds) (sym (ap tasks q)) here) in
@@ -373,9 +372,9 @@ ranks-kept {v = v} {S = S} p l sh rk cd (acts {c = c} {d = hand h} {ds = ds} q) 
     handed-cases (S .edge) v h x y e (λ e ne. rk .edge-rank x y e)
     (λ i e. rw i (omega (arith, le, rk .edge-rank v y e))))
     (λ t d. task-stood D t)
-    (λ u d h i. (d, (sym (acts-keeps S v codeOf code-freed (code-onward c ds) q u) ∙ h, i), refl))
+    (λ u d h i. (d, (sym (acts-keeps S v codeOf (λ c. refl) (code-onward c ds) q u) ∙ h, i), refl))
 ranks-kept {v = v} {S = S} p l sh rk cd (acts {c = c} {d = free m} {ds = ds} q) =
     let D = acts-did {S = S} {v = v} q in
     still S _ (S .edge) rk (rk .edge-rank)
     (λ t d. task-stood D t)
-    (λ u d h i. (d, (sym (acts-keeps S v codeOf code-freed (code-onward c ds) q u) ∙ h, i), refl))
+    (λ u d h i. (d, (sym (acts-keeps S v codeOf (λ c. refl) (code-onward c ds) q u) ∙ h, i), refl))

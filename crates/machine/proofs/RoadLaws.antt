@@ -4,15 +4,15 @@ use Prim.Native.Nat.{ℕ, _<_}
 use mathlib.Core.Path.{_≡_, refl, sym, _∙_, ap}
 use mathlib.Core.Bool.{Bool, true, false}
 use mathlib.Core.Logic.{⊎-elim}
-use mathlib.Core.List.{List, [], _∷_}
+use mathlib.Core.List.{List, []}
 use mathlib.Core.Option.{some}
 use borrow.Author.Tests.{eq-eqb, ne-eqb, eqb-true, eqb-false, not-true}
 use Rattle.graph.proofs.TestLaws.{not-of-false, both-true, both-left, both-right, either-left, either-right, either-cases}
 use Rattle.program.specs.Located.{Code}
-use Rattle.machine.proofs.Ghost.{Do, link, hand, free, Control, draft, fresh, ready, busy, joining, over, State, onward, woken}
-use Rattle.machine.proofs.Ghost.{freed, done, linked, handed, dropped}
+use Rattle.machine.proofs.Ghost.{Do, link, hand, free, Control, draft, fresh, ready, busy, over, State, onward, freed, done}
+use Rattle.machine.proofs.Ghost.{linked, handed, dropped}
 use Rattle.machine.proofs.Invariant.{tasks, codeOf, waits, isDraft, Shape}
-use Rattle.machine.proofs.GhostLaws.{clash, below, put-keeps}
+use Rattle.machine.proofs.GhostLaws.{clash, below, put-keeps, freed-keeps, onward-cases}
 
 -- what is seen of controls
 pub fresh-idle : {x : Control} {c : Code} → x ≡ fresh c → tasks x ≡ []
@@ -84,90 +84,22 @@ dropped-old e v x y q n = both-true q (not-of-false (ne-eqb x v n))
 
 -- what is seen of a vertex behind a split
 pub code-onward : (c : Code) (ds : List Do) → codeOf (onward c ds) ≡ some c
-unfolding codeOf onward
-code-onward c [] = refl
-code-onward c (d ∷ ds) = refl
+unfolding codeOf
+code-onward c = onward-cases (λ x. codeOf x ≡ some c) c refl (λ d ds. refl)
 
 pub waits-onward : (c : Code) (ds : List Do) → waits (onward c ds) ≡ false
-unfolding waits onward
-waits-onward c [] = refl
-waits-onward c (d ∷ ds) = refl
+unfolding waits
+waits-onward c = onward-cases (λ x. waits x ≡ false) c refl (λ d ds. refl)
 
 pub draft-onward : (c : Code) (ds : List Do) → isDraft (onward c ds) ≡ false
-unfolding isDraft onward
-draft-onward c [] = refl
-draft-onward c (d ∷ ds) = refl
+unfolding isDraft
+draft-onward c = onward-cases (λ x. isDraft x ≡ false) c refl (λ d ds. refl)
 
--- what a draft that becomes fresh keeps
-pub tasks-woken : (x : Control) → tasks (woken x) ≡ tasks x
-unfolding tasks woken
-tasks-woken (draft c) = refl
-tasks-woken (fresh c) = refl
-tasks-woken (ready c) = refl
-tasks-woken (busy c ms) = refl
-tasks-woken (joining c d ds) = refl
-tasks-woken over = refl
-
-pub code-woken : (x : Control) → codeOf (woken x) ≡ codeOf x
-unfolding codeOf woken
-code-woken (draft c) = refl
-code-woken (fresh c) = refl
-code-woken (ready c) = refl
-code-woken (busy c ms) = refl
-code-woken (joining c d ds) = refl
-code-woken over = refl
-
-pub waits-woken : (x : Control) → waits (woken x) ≡ waits x
-unfolding waits woken
-waits-woken (draft c) = refl
-waits-woken (fresh c) = refl
-waits-woken (ready c) = refl
-waits-woken (busy c ms) = refl
-waits-woken (joining c d ds) = refl
-waits-woken over = refl
-
--- what a vertex that is released keeps
-pub tasks-freed : (x : Control) → tasks (freed x) ≡ tasks x
-unfolding tasks freed
-tasks-freed (draft c) = refl
-tasks-freed (fresh c) = refl
-tasks-freed (ready c) = refl
-tasks-freed (busy c ms) = refl
-tasks-freed (joining c d ds) = refl
-tasks-freed over = refl
-
-pub code-freed : (x : Control) → codeOf (freed x) ≡ codeOf x
-unfolding codeOf freed
-code-freed (draft c) = refl
-code-freed (fresh c) = refl
-code-freed (ready c) = refl
-code-freed (busy c ms) = refl
-code-freed (joining c d ds) = refl
-code-freed over = refl
-
-pub waits-freed : (x : Control) → waits (freed x) ≡ waits x
-unfolding waits freed
-waits-freed (draft c) = refl
-waits-freed (fresh c) = refl
-waits-freed (ready c) = refl
-waits-freed (busy c ms) = refl
-waits-freed (joining c d ds) = refl
-waits-freed over = refl
-
-pub draft-freed : (x : Control) → isDraft (freed x) ≡ isDraft x
-unfolding isDraft freed
-draft-freed (draft c) = refl
-draft-freed (fresh c) = refl
-draft-freed (ready c) = refl
-draft-freed (busy c ms) = refl
-draft-freed (joining c d ds) = refl
-draft-freed over = refl
-
--- what a joining command leaves of a control that a release leaves
+-- a joining command leaves what is seen of controls, where a fresh and a released vertex are seen alike
 pub done-keeps :
-    {B : Type 0} (g : Control → B) → ((x : Control) → g (freed x) ≡ g x) → (S : State) (v : ℕ) (d : Do) (u : ℕ)
+    {B : Type 0} (g : Control → B) → ((c : Code) → g (ready c) ≡ g (fresh c)) → (S : State) (v : ℕ) (d : Do) (u : ℕ)
     → g (done S v d .control u) ≡ g (S .control u)
 unfolding done
-done-keeps g h S v (link a b) u = refl
-done-keeps g h S v (hand k) u = refl
-done-keeps g h S v (free m) u = put-keeps g (S .control) m (freed (S .control m)) (h (S .control m)) u
+done-keeps g e S v (link a b) u = refl
+done-keeps g e S v (hand k) u = refl
+done-keeps g e S v (free m) u = put-keeps g (S .control) m (freed (S .control m)) (freed-keeps g e (S .control m)) u

@@ -12,11 +12,11 @@ use mathlib.Core.List.{List, [], _∷_, _++_}
 use native.Mathlib.Omega.{arith}
 use Rattle.graph.proofs.TestLaws.{equal?, true-false}
 use Rattle.program.specs.Located.{Code, end-at, job-at}
-use Rattle.machine.proofs.Ghost.{Do, link, hand, free, Control, draft, ready, busy, joining, over, State, put, onward, done, freed}
+use Rattle.machine.proofs.Ghost.{Do, link, hand, free, Control, draft, fresh, ready, busy, joining, over, State, put, onward, done}
 use Rattle.machine.proofs.Ghost.{withControl, withEdges, grown, dropped, Event, Move, begins, performs, stops, makes, splits, acts}
 use Rattle.machine.proofs.Invariant.{In, tasks, tasksOf, codeOf, isItem, waits, isDraft, Settled, Way, Shape, Roads}
 use Rattle.machine.proofs.GhostLaws.{clash, put-same, put-other, splits-at, in-empty, put-keeps, puts-keep}
-use Rattle.machine.proofs.RoadLaws.{code-onward, waits-onward, draft-onward, code-freed, waits-freed, draft-freed}
+use Rattle.machine.proofs.RoadLaws.{code-onward, waits-onward, draft-onward}
 use Rattle.machine.proofs.SettledLaws.{Did, task-stood, settled-same, link-back, link-on, hand-back, hand-on, free-back, free-on}
 use Rattle.machine.proofs.SettledLaws.{acts-did, acts-keeps, stop-back, stop-on}
 use Rattle.machine.proofs.Ways.{way-map, way-past, blocked, Bound, at-item, at-link, bound-way, bound-back, bound-same, nothing-to}
@@ -53,19 +53,19 @@ acts-kept :
     → ((x y : ℕ) → Settled S' x y → Settled S x y) → ((x y : ℕ) → Settled S x y → Settled S' x y) → Roads S'
 unfolding codeOf waits isDraft
 acts-kept {S} {S'} {v} {c} {d} {ds} rs q D f p back on =
-    kept rs back on (λ x y s. seen waits waits-freed (waits-onward c ds) y ∙ rs .into x y s) (λ t a b. task-stood D t)
+    kept rs back on (λ x y s. seen waits (λ c. refl) (waits-onward c ds) y ∙ rs .into x y s) (λ t a b. task-stood D t)
     (λ u b. (bound-back (λ k h i. at-item k (sym (code u) ∙ h .0, h .1) (sym (drafts u) ∙ i)) (p u) (λ a b. task-stood D u) b, p u))
   where
     seen :
-        {B : Type 0} (g : Control → B) → ((x : Control) → g (freed x) ≡ g x) → g (onward c ds) ≡ g (joining c d ds) → (u : ℕ)
+        {B : Type 0} (g : Control → B) → ((c : Code) → g (ready c) ≡ g (fresh c)) → g (onward c ds) ≡ g (joining c d ds) → (u : ℕ)
         → g (S' .control u) ≡ g (S .control u)
     seen g h e u = ap g (f u) ∙ acts-keeps S v g h e q u
 
     code : (u : ℕ) → codeOf (S' .control u) ≡ codeOf (S .control u)
-    code = seen codeOf code-freed (code-onward c ds)
+    code = seen codeOf (λ c. refl) (code-onward c ds)
 
     drafts : (u : ℕ) → isDraft (S' .control u) ≡ isDraft (S .control u)
-    drafts = seen isDraft draft-freed (draft-onward c ds)
+    drafts = seen isDraft (λ c. refl) (draft-onward c ds)
 
 -- a start: nothing settled led to v
 begins-kept :

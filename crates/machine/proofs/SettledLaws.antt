@@ -8,11 +8,11 @@ use mathlib.Core.Logic.{⊎-elim}
 use mathlib.Core.List.{List, [], _∷_}
 use Rattle.graph.proofs.TestLaws.{equal?}
 use Rattle.program.specs.Located.{Code}
-use Rattle.machine.proofs.Ghost.{Do, link, hand, free, Control, fresh, joining, State, put, onward, freed, done, withControl, linked}
+use Rattle.machine.proofs.Ghost.{Do, link, hand, free, Control, fresh, ready, joining, State, put, onward, done, withControl, linked}
 use Rattle.machine.proofs.Ghost.{handed, dropped}
 use Rattle.machine.proofs.Invariant.{In, here, later, tasks, tasksOf, Settled, held, given, planned, Shape}
 use Rattle.machine.proofs.GhostLaws.{put-same, put-other, clash, in-cases, tasks-onward, put-keeps, in-empty}
-use Rattle.machine.proofs.RoadLaws.{tasks-freed, done-keeps, fresh-idle, linked-cases, linked-old, linked-new, handed-cases}
+use Rattle.machine.proofs.RoadLaws.{done-keeps, fresh-idle, linked-cases, linked-old, linked-new, handed-cases}
 use Rattle.machine.proofs.RoadLaws.{handed-old, handed-new, dropped-edge, dropped-old}
 
 -- a member of a list, in the same list
@@ -34,12 +34,12 @@ acts-did {S} {v} {c} {d} {ds} q =
     record {
       before = ap tasks q;
       after = ap tasks (put-same (done S v d .control) v (onward c ds)) ∙ tasks-onward c ds;
-      others = λ t n. ap tasks (put-other (done S v d .control) v (onward c ds) t n) ∙ done-keeps tasks tasks-freed S v d t;
+      others = λ t n. ap tasks (put-other (done S v d .control) v (onward c ds) t n) ∙ done-keeps tasks (λ c. refl) S v d t;
     }
 
 -- and is seen as before, but for what it has left to do
 pub acts-keeps :
-    {B : Type 0} (S : State) (v : ℕ) {c : Code} {d : Do} {ds : List Do} (g : Control → B) → ((x : Control) → g (freed x) ≡ g x)
+    {B : Type 0} (S : State) (v : ℕ) {c : Code} {d : Do} {ds : List Do} (g : Control → B) → ((c : Code) → g (ready c) ≡ g (fresh c))
     → g (onward c ds) ≡ g (joining c d ds) → S .control v ≡ joining c d ds → (u : ℕ)
     → g (put (done S v d .control) v (onward c ds) u) ≡ g (S .control u)
 acts-keeps S v {c} {d} {ds} g f e q u =

@@ -14,7 +14,8 @@ use Rattle.program.specs.Located.{Code}
 use Rattle.machine.proofs.Ghost.{Do, link, hand, free, Control, draft, fresh, ready, busy, joining, over, State, kids, resolved}
 use Rattle.machine.proofs.Ghost.{onward, withEdges}
 use Rattle.machine.proofs.Invariant.{In, Precedes, Once, tasks, tasksOf, isNew, isDraft, Draft, Drafts, Fits, Tasks, Shape}
-use Rattle.machine.proofs.GhostLaws.{clash, draft-new, fresh-new, ready-old, busy-old, below, new-below, doer-below, apart}
+use Rattle.machine.proofs.GhostLaws.{clash, draft-new, fresh-new, ready-old, busy-old, onward-cases, below, new-below, doer-below}
+use Rattle.machine.proofs.GhostLaws.{apart}
 
 -- the vertices that an item under way has made so far
 unfoldable pub madeOf : Control → List ℕ
@@ -37,15 +38,13 @@ none-made S v c e = subst (λ ms. Drafts S v ms ms (kids c) × Once ms) (sym e) 
 
 -- behind a command, a vertex is executing
 pub onward-old : (c : Code) (ds : List Do) → isNew (onward c ds) ≡ false
-unfolding onward isNew
-onward-old c [] = refl
-onward-old c (d ∷ ds) = refl
+unfolding isNew
+onward-old c = onward-cases (λ x. isNew x ≡ false) c refl (λ d ds. refl)
 
 -- and has made no vertices for another item
 pub onward-made : (c : Code) (ds : List Do) → madeOf (onward c ds) ≡ []
-unfolding onward madeOf
-onward-made c [] = refl
-onward-made c (d ∷ ds) = refl
+unfolding madeOf
+onward-made c = onward-cases (λ x. madeOf x ≡ []) c refl (λ d ds. refl)
 
 -- What becomes of u in a move of v.
 pub data Turn (S S' : State) (v u : ℕ) : Type 0 where

@@ -10,11 +10,10 @@ use native.Mathlib.Omega.{arith}
 use Rattle.graph.proofs.TestLaws.{equal?, true-false}
 use Rattle.program.specs.Encodings.{Name, firstEdition}
 use Rattle.program.specs.Located.{Code, async-at, finish-at, fork-at}
-use Rattle.machine.proofs.Ghost.{Do, link, hand, free, Control, fresh, busy, over, State, put, goes, kindOf, commandsOf, resolved}
-use Rattle.machine.proofs.Ghost.{joins, todo, woken, among, split, stirred}
+use Rattle.machine.proofs.Ghost.{Do, link, hand, free, Control, draft, fresh, busy, over, State, put, goes, kindOf, commandsOf}
+use Rattle.machine.proofs.Ghost.{resolved, joins, todo, woken, among, split, stirred}
 use Rattle.machine.proofs.Invariant.{In, tasks, codeOf, waits, Shape}
-use Rattle.machine.proofs.GhostLaws.{put-same, put-other, clash, EachLink, EachHand, each-link, each-hand, put-keeps}
-use Rattle.machine.proofs.RoadLaws.{tasks-woken, code-woken, waits-woken}
+use Rattle.machine.proofs.GhostLaws.{put-same, put-other, clash, EachLink, EachHand, each-link, each-hand, put-keeps, woken-keeps}
 use Rattle.machine.proofs.SettledLaws.{Plans}
 
 -- v has an item of code c, and its split with the vertices ms that were made before and a new one, whose scope is σ, leaves v with T to do
@@ -71,14 +70,14 @@ pub fork-hands : {n m m' h : ℕ} → In (hand h) (link m n ∷ link m' n ∷ ha
 unfolding EachHand
 fork-hands {n} i = each-hand (λ h. h ≡ n) _ (refl, tt) i
 
--- where drafts become fresh, a control is seen as before
+-- where drafts become fresh, a control is seen as before, if these two are seen alike
 pub stirred-keeps :
-    {B : Type 0} (g : Control → B) → ((x : Control) → g (woken x) ≡ g x) → (f : ℕ → Control) (ms : List ℕ) (u : ℕ)
+    {B : Type 0} (g : Control → B) → ((c : Code) → g (fresh c) ≡ g (draft c)) → (f : ℕ → Control) (ms : List ℕ) (u : ℕ)
     → g (stirred f ms u) ≡ g (f u)
-stirred-keeps g h f ms u = go (among u ms)
+stirred-keeps g e f ms u = go (among u ms)
   where
     go : (b : Bool) → g (cond b (woken (f u)) (f u)) ≡ g (f u)
-    go true = h (f u)
+    go true = woken-keeps g e (f u)
     go false = refl
 
 -- the vertices that wait do so behind the split
@@ -91,7 +90,7 @@ split-waits f ms n v k x w u h =
     ap waits (put-other (put (stirred f ms) n (fresh k)) v x u ne)
     ∙ ⊎-elim
     (λ e. ap (λ (z : ℕ). waits (put (stirred f ms) n (fresh k) z)) e ∙ ap waits (put-same (stirred f ms) n (fresh k)))
-    (λ nn. ap waits (put-other (stirred f ms) n (fresh k) u nn) ∙ stirred-keeps waits waits-woken f ms u ∙ h)
+    (λ nn. ap waits (put-other (stirred f ms) n (fresh k) u nn) ∙ stirred-keeps waits (λ c. refl) f ms u ∙ h)
     (equal? u n)
 
 -- what is to do stands as before, but for v
@@ -100,7 +99,7 @@ split-tasks :
     → tasks (put (put (stirred f ms) n (fresh k)) v x u) ≡ tasks (f u)
 unfolding tasks
 split-tasks f ms n v k x e u ne =
-    let kept = stirred-keeps tasks tasks-woken f ms in
+    let kept = stirred-keeps tasks (λ c. refl) f ms in
     ap tasks (put-other (put (stirred f ms) n (fresh k)) v x u ne)
     ∙ put-keeps tasks (stirred f ms) n (fresh k) (sym (kept n ∙ e)) u
     ∙ kept u
@@ -109,9 +108,10 @@ split-tasks f ms n v k x e u ne =
 pub split-codes :
     (f : ℕ → Control) (ms : List ℕ) (n v : ℕ) (k : Code) (x : Control) (u : ℕ) → (u ≡ v → ⊥) → (u ≡ n → ⊥)
     → codeOf (put (put (stirred f ms) n (fresh k)) v x u) ≡ codeOf (f u)
+unfolding codeOf
 split-codes f ms n v k x u nv nn =
     ap codeOf (put-other (put (stirred f ms) n (fresh k)) v x u nv ∙ put-other (stirred f ms) n (fresh k) u nn)
-    ∙ stirred-keeps codeOf code-woken f ms u
+    ∙ stirred-keeps codeOf (λ c. refl) f ms u
 
 -- the others are as before
 split-same :

@@ -10,7 +10,7 @@ use Rattle.program.specs.Encodings.{Name}
 use Rattle.program.specs.Located.{Code}
 use Rattle.machine.proofs.Ghost.{Do, link, hand, free, Control, draft, fresh, ready, busy, joining, over, State, put, kids, onward}
 use Rattle.machine.proofs.Ghost.{woken, freed, among, done, Event, Move, begins, performs, stops, makes, splits, acts}
-use Rattle.machine.proofs.GhostLaws.{put-all}
+use Rattle.machine.proofs.GhostLaws.{put-all, woken-cases, freed-cases, onward-cases}
 use Rattle.machine.proofs.Beginning.{beginning, beginning-control}
 
 -- fewer than all of the item's vertices are made, where one is
@@ -33,27 +33,16 @@ Unsplit S = (v : ℕ) → UnsplitAt (S .control v)
 
 -- what the moves put there has made nothing, or is what was there
 onward-unsplit : (c : Code) (ds : List Do) → UnsplitAt (onward c ds)
-unfolding UnsplitAt MoreToMake onward
-onward-unsplit c [] = tt
-onward-unsplit c (d ∷ ds) = tt
+unfolding UnsplitAt MoreToMake
+onward-unsplit c = onward-cases UnsplitAt c tt (λ d ds. tt)
 
 woken-unsplit : (x : Control) → UnsplitAt x → UnsplitAt (woken x)
-unfolding UnsplitAt woken
-woken-unsplit (draft c) h = tt
-woken-unsplit (fresh c) h = tt
-woken-unsplit (ready c) h = tt
-woken-unsplit (busy c ms) h = h
-woken-unsplit (joining c d ds) h = tt
-woken-unsplit over h = tt
+unfolding UnsplitAt
+woken-unsplit = woken-cases (λ x y. UnsplitAt x → UnsplitAt y) (λ x h. h) (λ c h. tt)
 
 freed-unsplit : (x : Control) → UnsplitAt x → UnsplitAt (freed x)
-unfolding UnsplitAt freed
-freed-unsplit (draft c) h = tt
-freed-unsplit (fresh c) h = tt
-freed-unsplit (ready c) h = tt
-freed-unsplit (busy c ms) h = h
-freed-unsplit (joining c d ds) h = tt
-freed-unsplit over h = tt
+unfolding UnsplitAt
+freed-unsplit = freed-cases (λ x y. UnsplitAt x → UnsplitAt y) (λ x h. h) (λ c h. tt)
 
 cond-unsplit : (b : Bool) (x y : Control) → UnsplitAt x → UnsplitAt y → UnsplitAt (cond b x y)
 cond-unsplit true x y p q = p

@@ -5,13 +5,14 @@ use Prim.Native.Nat.{ℕ}
 use mathlib.Core.Path.{_≡_, refl, sym, _∙_, ap, subst}
 use mathlib.Core.Bool.{true, false}
 use mathlib.Core.Logic.{inl, ⊎-elim}
-use mathlib.Core.List.{List, [], _∷_}
+use mathlib.Core.List.{List, []}
 use mathlib.Core.Option.{some, Option·some-injective, Option·none-ne-some}
 use native.Mathlib.Omega.{arith}
 use Rattle.program.specs.Located.{Code, end-at, job-at, async-at, finish-at, fork-at, place}
 use Rattle.program.proofs.LocatedLaws.{Laid, code-laid}
-use Rattle.machine.proofs.Ghost.{Do, Control, draft, fresh, ready, busy, joining, over, State, onward, freed}
+use Rattle.machine.proofs.Ghost.{Do, Control, draft, fresh, ready, busy, joining, over, State, onward}
 use Rattle.machine.proofs.Invariant.{codeOf, isItem, waits, isDraft, Settled, Way, Roads, Coded}
+use Rattle.machine.proofs.GhostLaws.{onward-cases}
 use Rattle.machine.proofs.RoadLaws.{busy-waits}
 use Rattle.machine.proofs.Ways.{way-last, nothing-to}
 use Rattle.machine.proofs.Order.{Job, Pre, holds, Held, Waits, for-way, for-scope, for-scopes-way, Orders}
@@ -45,20 +46,10 @@ holds-code over h = absurd (Option·none-ne-some _ h)
 pub holds-one : (x : Control) {c d : Code} → holds x ≡ some c → holds x ≡ some d → c ≡ d
 holds-one x {c} {d} h k = Option·some-injective c d (sym h ∙ k)
 
--- a vertex holds the code that it goes to, and a release leaves what is held
+-- a vertex holds the code that it goes to
 pub holds-onward : (c : Code) (ds : List Do) → holds (onward c ds) ≡ some c
-unfolding holds onward
-holds-onward c [] = refl
-holds-onward c (d ∷ ds) = refl
-
-pub holds-freed : (x : Control) → holds (freed x) ≡ holds x
-unfolding holds freed
-holds-freed (draft c) = refl
-holds-freed (fresh c) = refl
-holds-freed (ready c) = refl
-holds-freed (busy c ms) = refl
-holds-freed (joining c d ds) = refl
-holds-freed over = refl
+unfolding holds
+holds-onward c = onward-cases (λ x. holds x ≡ some c) c refl (λ d ds. refl)
 
 -- a vertex that holds a job has a way to its scope
 pub held-way :
