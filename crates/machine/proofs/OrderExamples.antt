@@ -19,7 +19,8 @@ bytes = 0x04 ∷ 0x01 ∷ 0x01 ∷ 0x00 ∷ 0x01 ∷ 0x02 ∷ 0x00 ∷ 0x01 ∷ 
 
 -- the bytes are this program's
 reads : reading bytes ≡ program forked
-unfolding reading reader.whole reader.body reader.bodyOf reader.item reader.itemOf reader.deeper reader.kindOf reader.number reader.groups reader.unless reader.andThen reader.jobOf reader.counted vertices itemsWeight firstEdition weight makes total ahead
+unfolding reading reader.whole reader.body reader.bodyOf reader.item reader.itemOf reader.deeper reader.kindOf reader.number
+    reader.groups reader.unless reader.andThen reader.jobOf reader.counted vertices itemsWeight firstEdition weight makes total ahead
 reads = refl
 
 -- Before job 3, at offset 7, is answered, jobs 1 and 2, at offsets 1 and 4, were answered once.

@@ -14,7 +14,8 @@ use Rattle.graph.specs.Commands.{isMade, hasStatus, command}
 use Rattle.graph.specs.declared.Command as single
 use Rattle.graph.specs.declared.Command.the-variants as single-command
 use Rattle.program.specs.Trees.{jobs, asyncs, finishes, forks}
-use Rattle.program.specs.Encodings.{Name, own-scope, made-1, made-2, made-3, Spot, first-body, second-body, past-item, last-byte, Command, perform, newTd, newEdge, transfer, release, Row, firstEdition, weight, makes}
+use Rattle.program.specs.Encodings.{Name, own-scope, made-1, made-2, made-3, Spot, first-body, second-body, past-item, last-byte}
+use Rattle.program.specs.Encodings.{Command, perform, newTd, newEdge, transfer, release, Row, firstEdition, weight, makes}
 use Rattle.program.specs.Answers as of-program
 use Rattle.program.specs.Answers.{Stands}
 use Rattle.program.specs.Located.{itemAt}
