@@ -50,6 +50,22 @@ Closed ks = (above below : List Kind) → ks ≡ above ++ (asyncs ∷ below) →
 pub data Apart (m : Code) (p q : ℕ) (c : Code) (ks : List Kind) : Type 0 where
   apart : (r c' : Code) (ks' : List Kind) → Within m c → Way c p ks → Behind c r → From r c' → Way c' q ks' → Apart m p q c ks
 
--- "p is ahead of q if each async on the way from that earlier item (itself counted) down to p has a finish above it on that way."
+-- "two branches of a fork": p is in the left body of a fork, q in its right one
+pub data Branches (m : Code) (p q : ℕ) : Type 0 where
+  branches :
+      (o : ℕ) (b c r b' c' : Code) (ks ks' : List Kind) → Within m (fork-at o b c r) → From b b' → Way b' p ks → From c c' → Way c' q ks'
+      → Branches m p q
+
+-- how two jobs of a program stand to each other
+pub data Stand (m : Code) (p q : ℕ) : Type 0 where
+  one-job : p ≡ q → Stand m p q
+  earlier : (c : Code) (ks : List Kind) → Apart m p q c ks → Stand m p q
+  later : (c : Code) (ks : List Kind) → Apart m q p c ks → Stand m p q
+  left-right : Branches m p q → Stand m p q
+  right-left : Branches m q p → Stand m p q
+
+-- "p is ahead of q if each async on the way from that earlier item (itself counted) down to p has a finish above it on that way. No other
+-- pairs are ordered; two branches of a fork aren't." Two jobs that are in no such body are in two branches of a fork (`jobs-stand`), and these
+-- are not ordered (`branches-unordered`).
 pub data Ahead (m : Code) (p q : ℕ) : Type 0 where
   ahead : (c : Code) (ks : List Kind) → Apart m p q c ks → Closed ks → Ahead m p q
