@@ -27,10 +27,10 @@ use Rattle.program.specs.Bytes.{encode}
 use Rattle.program.specs.Encodings as needs
 use Rattle.program.specs.Encodings.{firstEdition}
 use Rattle.program.specs.Reader.{body, Reading, program, refusal, reading}
-use Rattle.program.specs.Claims.{Loadable, Offends, too-long, not-shortest, unknown, opener, too-large}
+use Rattle.program.specs.Claims.{Loadable, BadNumber, too-long, not-shortest, too-large, Offends, unknown, opener, misnumbered, no-byte}
 use Rattle.program.proofs.Exactness.{reading-sound, reading-complete}
 use Rattle.program.proofs.Soundness.{FitsAt}
-use Rattle.program.proofs.StopLaws.{Stop, ran-out, offended, body-stop}
+use Rattle.program.proofs.StopLaws.{ItemStop, ran-out, offended, Stop, stop, main-stop}
 use Rattle.program.proofs.ReadingLaws as read
 use Rattle.machine.specs.Answers.{Said, Outcome, accepted, refused, refuse}
 use Rattle.machine.specs.Loading.{placed, loadedTables, loadRead, load}
@@ -186,20 +186,27 @@ load-usable bytes s = there (load-comes bytes s)
         (record { vertex-words = (refl, λ i out. refl); edge-words = (refl, λ i out. refl) })
 
 -- bytes that offend have a place, and so have bytes that run out
-offends-place : {n : ℕ} {bad : List ℕ} → Offends n bad → HasPlace n
-offends-place (too-long number e t) = omega arith
-offends-place (not-shortest b groups t) = omega arith
-offends-place (unknown x l) = omega arith
-offends-place (opener x p q) = omega arith
-offends-place (too-large m l r) = omega arith
+number-place : {n : ℕ} {bad : List ℕ} → BadNumber n bad → HasPlace n
+number-place (too-long number e t) = omega arith
+number-place (not-shortest b groups t) = omega arith
+number-place (too-large m l r) = omega arith
 
-stop-place : {bytes left : List ℕ} {n : ℕ} → Stop encode (FitsAt 1) (body 1) bytes n left → HasPlace n
-stop-place (ran-out b x more f e) = omega arith
-stop-place (offended before bad rest e q o b more f t s) = offends-place o
+offends-place : {level n : ℕ} {first bad : List ℕ} → Offends level n first bad → HasPlace n
+offends-place (unknown x l) = omega arith
+offends-place (opener x p q h) = omega arith
+offends-place (misnumbered bad) = number-place bad
+offends-place (no-byte groups x l t h) = omega arith
+
+item-place : {level n : ℕ} {xs left : List ℕ} → ItemStop level xs n left → HasPlace n
+item-place (ran-out b x more f e) = omega arith
+item-place (offended first bad rest o e q) = offends-place o
+
+stop-place : {level n : ℕ} {xs left : List ℕ} → Stop level xs n left → HasPlace n
+stop-place (stop to before ys l e s) = item-place s
 
 reading-place : {bytes : List ℕ} {n p : ℕ} → read.Comes bytes (refusal n p) → HasPlace n ⊎ (p ≡ 0)
 reading-place (read.outside o) = inr refl
-reading-place {bytes} (read.stopped n left w e) = inl (stop-place (body-stop 1 bytes n left e))
+reading-place {bytes} (read.stopped n left w e) = inl (stop-place (main-stop bytes n left e))
 reading-place (read.overran b x left w e) = inl (omega arith)
 reading-place (read.crowds b w e v) = inr refl
 
