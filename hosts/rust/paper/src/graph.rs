@@ -65,11 +65,7 @@ fn executing(status: u32) -> Result<(), u32> {
 
 impl<'a> View<'a> {
     pub fn new(vertices: &'a [u32], edges: &'a [u32], tally: &Tally) -> View<'a> {
-        View {
-            rows: rows(vertices),
-            edges: rows(edges),
-            tally: *tally,
-        }
+        View { rows: rows(vertices), edges: rows(edges), tally: *tally }
     }
 
     /// Whether 12 is not due at a single command: "12 tally over the used rows, [...] a made
@@ -82,12 +78,8 @@ impl<'a> View<'a> {
         let Some(edges) = self.edges.get(..held as usize) else {
             return false;
         };
-        vertices
-            .iter()
-            .all(|row| (NEW..=FINISHED).contains(&row[STATUS]))
-            && edges
-                .iter()
-                .all(|&[source, target]| source < made && target < made)
+        vertices.iter().all(|row| (NEW..=FINISHED).contains(&row[STATUS]))
+            && edges.iter().all(|&[source, target]| source < made && target < made)
     }
 
     /// Whether 12 is not due at a step or a run.
@@ -107,10 +99,7 @@ impl<'a> View<'a> {
 
     /// A vertex's status; "20 no such vertex".
     pub fn status(&self, vertex: u32) -> Result<u32, u32> {
-        self.made()
-            .get(vertex as usize)
-            .map(|row| row[STATUS])
-            .ok_or(20)
+        self.made().get(vertex as usize).map(|row| row[STATUS]).ok_or(20)
     }
 
     /// "21 released but an edge leads in"
@@ -133,11 +122,7 @@ impl<'a> View<'a> {
                 }
             }
             // "newEdge 30, 33, (finished source accepted), 34, 35, 32"
-            Command::NewEdge {
-                caller,
-                source,
-                target,
-            } => {
+            Command::NewEdge { caller, source, target } => {
                 let caller = self.status(caller)?;
                 let source_status = self.status(source)?;
                 let target_status = self.status(target)?;
@@ -247,19 +232,11 @@ impl<'a> View<'a> {
 
 impl<'a> Tables<'a> {
     pub fn new(vertices: &'a mut [u32], edges: &'a mut [u32], tally: &'a mut Tally) -> Tables<'a> {
-        Tables {
-            rows: rows_mut(vertices),
-            edges: rows_mut(edges),
-            tally,
-        }
+        Tables { rows: rows_mut(vertices), edges: rows_mut(edges), tally }
     }
 
     pub fn view(&self) -> View<'_> {
-        View {
-            rows: self.rows,
-            edges: self.edges,
-            tally: *self.tally,
-        }
+        View { rows: self.rows, edges: self.edges, tally: *self.tally }
     }
 
     /// "clears the used rows and the tally"

@@ -57,30 +57,12 @@ pub struct Run {
 /// The six commands.
 #[derive(Clone, Copy, PartialEq, Eq, Debug)]
 pub enum Command {
-    NewTd {
-        caller: u32,
-        place: u32,
-        scope: u32,
-    },
-    NewEdge {
-        caller: u32,
-        source: u32,
-        target: u32,
-    },
-    Release {
-        caller: u32,
-        vertex: u32,
-    },
-    Transfer {
-        caller: u32,
-        vertex: u32,
-    },
-    Start {
-        vertex: u32,
-    },
-    Stop {
-        caller: u32,
-    },
+    NewTd { caller: u32, place: u32, scope: u32 },
+    NewEdge { caller: u32, source: u32, target: u32 },
+    Release { caller: u32, vertex: u32 },
+    Transfer { caller: u32, vertex: u32 },
+    Start { vertex: u32 },
+    Stop { caller: u32 },
 }
 
 /// The lowest vertex whose step would be accepted.
@@ -111,12 +93,7 @@ pub fn open(vertices: &mut [u32], edges: &mut [u32], tally: &mut Tally) -> Answe
 }
 
 /// One single command, called from outside. "Single commands change its first two numbers only."
-pub fn command(
-    vertices: &mut [u32],
-    edges: &mut [u32],
-    tally: &mut Tally,
-    command: Command,
-) -> Answer {
+pub fn command(vertices: &mut [u32], edges: &mut [u32], tally: &mut Tally, command: Command) -> Answer {
     let mut tables = Tables::new(vertices, edges, tally);
     let view = tables.view();
     if !view.sound() {
@@ -148,23 +125,13 @@ pub fn load(program: &[u8], vertices: &mut [u32], edges: &mut [u32], tally: &mut
     tables.rows[0] = [RELEASED, 0, 1, 0, 0, 0, 0];
     tables.rows[1] = [RELEASED, program.len() as u32 - 1, 1, 0, 0, 0, 0];
     tables.edges[0] = [0, 1];
-    *tables.tally = Tally {
-        made: 2,
-        held: 1,
-        steps: 0,
-    };
+    *tables.tally = Tally { made: 2, held: 1, steps: 0 };
     Answer::Ready
 }
 
 /// "A step names a vertex. A released one is started. An executing one does the next command of
 /// the item at its place."
-pub fn step(
-    program: &[u8],
-    vertices: &mut [u32],
-    edges: &mut [u32],
-    tally: &mut Tally,
-    vertex: u32,
-) -> Answer {
+pub fn step(program: &[u8], vertices: &mut [u32], edges: &mut [u32], tally: &mut Tally, vertex: u32) -> Answer {
     let mut tables = Tables::new(vertices, edges, tally);
     let view = tables.view();
     if !view.sound_to_step() {
@@ -177,22 +144,9 @@ pub fn step(
 }
 
 /// "A run takes a budget of steps and steps the lowest vertex whose step would be accepted."
-pub fn run(
-    program: &[u8],
-    vertices: &mut [u32],
-    edges: &mut [u32],
-    tally: &mut Tally,
-    budget: u32,
-) -> Run {
+pub fn run(program: &[u8], vertices: &mut [u32], edges: &mut [u32], tally: &mut Tally, budget: u32) -> Run {
     let mut tables = Tables::new(vertices, edges, tally);
-    let mut run = Run {
-        ending: Ending::Refused {
-            number: 12,
-            place: 0,
-        },
-        last: None,
-        taken: 0,
-    };
+    let mut run = Run { ending: Ending::Refused { number: 12, place: 0 }, last: None, taken: 0 };
     // Accepted steps keep the tables sound, so this is asked once.
     if !tables.view().sound_to_step() {
         return run;
@@ -219,10 +173,7 @@ pub fn run(
 pub fn lowest(program: &[u8], vertices: &[u32], edges: &[u32], tally: &Tally) -> Lowest {
     let view = View::new(vertices, edges, tally);
     if !view.sound_to_step() {
-        return Lowest::Refused {
-            number: 12,
-            place: 0,
-        };
+        return Lowest::Refused { number: 12, place: 0 };
     }
     match view.seek(&Book::new(program)) {
         Seek::Found(vertex, _) => Lowest::Vertex(vertex),

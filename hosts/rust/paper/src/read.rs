@@ -81,23 +81,14 @@ pub(crate) fn read(program: &[u8], mut found: impl FnMut(usize, Item)) -> Result
                         opener.right = at;
                         continue;
                     }
-                    _ => Item::Fork {
-                        right: opener.right as u16,
-                        past,
-                    },
+                    _ => Item::Fork { right: opener.right as u16, past },
                 };
                 found(opener.place, item);
                 depth -= 1;
             }
             1 => {
                 let (number, past) = read_number(program, at + 1)?;
-                found(
-                    at,
-                    Item::Job {
-                        number,
-                        past: past as u16,
-                    },
-                );
+                found(at, Item::Job { number, past: past as u16 });
                 counts.jobs += 1;
                 at = past;
             }
@@ -111,10 +102,7 @@ pub(crate) fn read(program: &[u8], mut found: impl FnMut(usize, Item)) -> Result
                     3 => counts.finishes += 1,
                     _ => counts.forks += 1,
                 }
-                openers[depth] = Opener {
-                    place: at,
-                    right: 0,
-                };
+                openers[depth] = Opener { place: at, right: 0 };
                 depth += 1;
                 at += 1;
             }

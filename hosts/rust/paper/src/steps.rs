@@ -2,10 +2,7 @@
 
 use std::cell::OnceCell;
 
-use crate::graph::{
-    Marks, Row, Tables, View, EXECUTING, FINISHED, MADE, MOST_ROWS, MOST_STEPS, NEW, PHASE, PLACE,
-    RELEASED, STATUS,
-};
+use crate::graph::{Marks, Row, Tables, View, EXECUTING, FINISHED, MADE, MOST_ROWS, MOST_STEPS, NEW, PHASE, PLACE, RELEASED, STATUS};
 use crate::read::{read, Item};
 use crate::{Answer, Command};
 
@@ -46,10 +43,7 @@ pub(crate) struct Book<'p> {
 
 impl<'p> Book<'p> {
     pub fn new(program: &'p [u8]) -> Book<'p> {
-        Book {
-            program,
-            items: OnceCell::new(),
-        }
+        Book { program, items: OnceCell::new() }
     }
 
     /// What starts at a place; nothing anywhere in a program that loading refuses by 1 to 8.
@@ -77,38 +71,14 @@ pub(crate) enum Seek {
 /// below that item's commands". `end` is the program's last byte.
 fn next_command(caller: u32, row: &Row, item: Item, end: u32) -> Option<Due> {
     let [_, place, scope, phase, first, second, third] = *row;
-    let new = |word, place: u32, scope| {
-        (
-            Act::Do(Command::NewTd {
-                caller,
-                place,
-                scope,
-            }),
-            Then::Keep(word),
-        )
-    };
-    let edge = |source, target| {
-        (
-            Act::Do(Command::NewEdge {
-                caller,
-                source,
-                target,
-            }),
-            Then::Next,
-        )
-    };
+    let new = |word, place: u32, scope| (Act::Do(Command::NewTd { caller, place, scope }), Then::Keep(word));
+    let edge = |source, target| (Act::Do(Command::NewEdge { caller, source, target }), Then::Next);
     let transfer = |vertex| (Act::Do(Command::Transfer { caller, vertex }), Then::Next);
     let release = |vertex| Act::Do(Command::Release { caller, vertex });
     // An item starts at `place`, so it lies in the program and its first body one byte further.
     let body = place.saturating_add(1);
     let (act, then) = match (item, phase) {
-        (Item::Job { number, past }, 0) => (
-            Act::Job {
-                number: number.into(),
-                offset: place,
-            },
-            Then::Move(past.into()),
-        ),
+        (Item::Job { number, past }, 0) => (Act::Job { number: number.into(), offset: place }, Then::Move(past.into())),
         // "async: newTd t' (its body, own scope); newEdge t' to own scope; release t'; then past
         // the item."
         (Item::Async { .. }, 0) => new(0, body, scope),
@@ -143,13 +113,7 @@ fn next_command(caller: u32, row: &Row, item: Item, end: u32) -> Option<Due> {
 impl View<'_> {
     /// The step of an executing vertex with the item found at its place: "13 and the command's
     /// own, 20 for the other vertices it names included".
-    fn executing_step(
-        &self,
-        vertex: u32,
-        row: &Row,
-        item: Option<Item>,
-        program: &[u8],
-    ) -> Result<Due, u32> {
+    fn executing_step(&self, vertex: u32, row: &Row, item: Option<Item>, program: &[u8]) -> Result<Due, u32> {
         let item = item.ok_or(13u32)?;
         // The program reads, so it has 1 to 4,096 bytes.
         let end = program.len() as u32 - 1;
@@ -229,10 +193,7 @@ impl View<'_> {
 
 /// "A released one is started."
 fn start(vertex: u32) -> Due {
-    Due {
-        act: Act::Do(Command::Start { vertex }),
-        then: Then::Stay,
-    }
+    Due { act: Act::Do(Command::Start { vertex }), then: Then::Stay }
 }
 
 impl Tables<'_> {

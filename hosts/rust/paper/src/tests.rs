@@ -33,15 +33,7 @@ struct Lent {
 
 impl Lent {
     fn rows(vertices: usize, edges: usize) -> Lent {
-        Lent {
-            vertices: vec![9; 7 * vertices],
-            edges: vec![9; 2 * edges],
-            tally: Tally {
-                made: 9,
-                held: 9,
-                steps: 9,
-            },
-        }
+        Lent { vertices: vec![9; 7 * vertices], edges: vec![9; 2 * edges], tally: Tally { made: 9, held: 9, steps: 9 } }
     }
 
     fn open(&mut self) -> Answer {
@@ -53,32 +45,15 @@ impl Lent {
     }
 
     fn load(&mut self, program: &[u8]) -> Answer {
-        load(
-            program,
-            &mut self.vertices,
-            &mut self.edges,
-            &mut self.tally,
-        )
+        load(program, &mut self.vertices, &mut self.edges, &mut self.tally)
     }
 
     fn step(&mut self, program: &[u8], vertex: u32) -> Answer {
-        step(
-            program,
-            &mut self.vertices,
-            &mut self.edges,
-            &mut self.tally,
-            vertex,
-        )
+        step(program, &mut self.vertices, &mut self.edges, &mut self.tally, vertex)
     }
 
     fn run(&mut self, program: &[u8], budget: u32) -> Run {
-        run(
-            program,
-            &mut self.vertices,
-            &mut self.edges,
-            &mut self.tally,
-            budget,
-        )
+        run(program, &mut self.vertices, &mut self.edges, &mut self.tally, budget)
     }
 
     fn lowest(&self, program: &[u8]) -> Lowest {
@@ -86,17 +61,11 @@ impl Lent {
     }
 
     fn row(&self, vertex: usize) -> [u32; 7] {
-        self.vertices[7 * vertex..7 * vertex + 7]
-            .try_into()
-            .unwrap()
+        self.vertices[7 * vertex..7 * vertex + 7].try_into().unwrap()
     }
 
     fn held(&self) -> Vec<(u32, u32)> {
-        self.edges
-            .chunks(2)
-            .take(self.tally.held as usize)
-            .map(|e| (e[0], e[1]))
-            .collect()
+        self.edges.chunks(2).take(self.tally.held as usize).map(|e| (e[0], e[1])).collect()
     }
 }
 
@@ -151,12 +120,7 @@ fn listing(program: &[u8]) -> String {
         return format!("refused {number} {place}\n");
     }
     let c = counts(program);
-    let mut out = format!(
-        "vertices {} jobs {} steps {}\n",
-        c.vertices(),
-        c.jobs,
-        full_count(program)
-    );
+    let mut out = format!("vertices {} jobs {} steps {}\n", c.vertices(), c.jobs, full_count(program));
     while let Lowest::Vertex(v) = lent.lowest(program) {
         out += &match lent.step(program, v) {
             Answer::Start => format!("{v} start\n"),
@@ -182,8 +146,7 @@ fn random_body(dice: &mut Dice, level: usize, room: &mut usize, out: &mut Vec<u8
         match if level < 5 { dice.below(5) } else { 0 } {
             0 | 1 => {
                 out.push(1);
-                let mut number =
-                    [dice.below(100), dice.below(20_000), dice.below(65_536)][dice.below(3)];
+                let mut number = [dice.below(100), dice.below(20_000), dice.below(65_536)][dice.below(3)];
                 while number > 127 {
                     out.push(number as u8 | 0x80);
                     number >>= 7;
@@ -249,48 +212,22 @@ fn leads(edges: &[(u32, u32)], a: u32, b: u32) -> bool {
 #[test]
 fn bench_examples_take_their_steps() {
     let fork = [4, 1, 1, 0, 1, 2, 0, 1, 3, 0];
-    let examples: [(&[u8], u32, usize); 5] = [
-        (&[0], 4, 0),
-        (&[1, 0, 0], 5, 1),
-        (&[2, 1, 1, 0, 1, 2, 0], 11, 2),
-        (&fork, 22, 3),
-        (&[3, 2, 1, 5, 0, 0, 1, 6, 0], 21, 2),
-    ];
+    let examples: [(&[u8], u32, usize); 5] =
+        [(&[0], 4, 0), (&[1, 0, 0], 5, 1), (&[2, 1, 1, 0, 1, 2, 0], 11, 2), (&fork, 22, 3), (&[3, 2, 1, 5, 0, 0, 1, 6, 0], 21, 2)];
     for (program, steps, jobs) in examples {
         assert_eq!(full_count(program), steps);
         let mut lent = loaded(program);
         let run = lent.run(program, u32::MAX);
-        assert_eq!(
-            run,
-            Run {
-                ending: Ending::Done,
-                last: Some(Answer::Stop),
-                taken: steps
-            }
-        );
+        assert_eq!(run, Run { ending: Ending::Done, last: Some(Answer::Stop), taken: steps });
         assert_eq!(lent.tally.steps, steps);
         assert_eq!(lent.tally.held, 0);
         assert_eq!(lent.lowest(program), Lowest::NoVertex);
-        assert_eq!(
-            lent.run(program, 0),
-            Run {
-                ending: Ending::Done,
-                last: None,
-                taken: 0
-            }
-        );
+        assert_eq!(lent.run(program, 0), Run { ending: Ending::Done, last: None, taken: 0 });
         // A budget one too small, and one just enough.
         let mut lent = loaded(program);
         let run = lent.run(program, steps - 1);
         assert_eq!((run.ending, run.taken), (Ending::Spent, steps - 1));
-        assert_eq!(
-            lent.run(program, 1),
-            Run {
-                ending: Ending::Done,
-                last: Some(Answer::Stop),
-                taken: 1
-            }
-        );
+        assert_eq!(lent.run(program, 1), Run { ending: Ending::Done, last: Some(Answer::Stop), taken: 1 });
         assert_eq!(jobs_at_random(program, &mut Dice(77)).len(), jobs);
     }
 }
@@ -306,10 +243,7 @@ fn bench_examples_order_their_jobs() {
         }
         let jobs = jobs_at_random(&[4, 1, 1, 0, 1, 2, 0, 1, 3, 0], &mut dice);
         assert_eq!((jobs.len(), jobs[2]), (3, 3));
-        assert_eq!(
-            jobs_at_random(&[3, 2, 1, 5, 0, 0, 1, 6, 0], &mut dice),
-            [5, 6]
-        );
+        assert_eq!(jobs_at_random(&[3, 2, 1, 5, 0, 0, 1, 6, 0], &mut dice), [5, 6]);
     }
     seen.sort();
     assert_eq!(seen, [[1, 2], [2, 1]]);
@@ -330,13 +264,7 @@ fn job_65535() {
     let program = [1, 0xff, 0xff, 3, 0];
     let mut lent = loaded(&program);
     assert_eq!(lent.step(&program, 0), Answer::Start);
-    assert_eq!(
-        lent.step(&program, 0),
-        Answer::Job {
-            number: 65_535,
-            offset: 0
-        }
-    );
+    assert_eq!(lent.step(&program, 0), Answer::Job { number: 65_535, offset: 0 });
     assert_eq!(lent.row(0), [3, 4, 1, 0, 0, 0, 0]);
 }
 
@@ -344,26 +272,11 @@ fn job_65535() {
 fn bare_machine_example() {
     let mut lent = Lent::rows(3, 2);
     assert_eq!(lent.open(), Answer::Ready);
-    assert_eq!(
-        lent.tally,
-        Tally {
-            made: 1,
-            held: 0,
-            steps: 0
-        }
-    );
+    assert_eq!(lent.tally, Tally { made: 1, held: 0, steps: 0 });
     assert_eq!(lent.row(0), [2, 0, 0, 0, 0, 0, 0]);
-    let edge = |source, target| Command::NewEdge {
-        caller: 0,
-        source,
-        target,
-    };
+    let edge = |source, target| Command::NewEdge { caller: 0, source, target };
     let transfer = |vertex| Command::Transfer { caller: 0, vertex };
-    let new = Command::NewTd {
-        caller: 0,
-        place: u32::MAX,
-        scope: 77,
-    };
+    let new = Command::NewTd { caller: 0, place: u32::MAX, scope: 77 };
     assert_eq!(lent.command(new), refusal(30, 0));
     assert_eq!(lent.command(Command::Start { vertex: 0 }), Answer::Start);
     assert_eq!(lent.command(new), Answer::New(1));
@@ -380,14 +293,7 @@ fn bare_machine_example() {
     assert_eq!(lent.command(transfer(1)), refusal(38, 0));
     assert_eq!(lent.command(transfer(2)), refusal(35, 0));
     assert_eq!(lent.command(edge(0, 2)), refusal(32, 0));
-    assert_eq!(
-        lent.tally,
-        Tally {
-            made: 3,
-            held: 2,
-            steps: 0
-        }
-    );
+    assert_eq!(lent.tally, Tally { made: 3, held: 2, steps: 0 });
 }
 
 #[test]
@@ -417,10 +323,7 @@ fn levels() {
     let mut program = vec![2; 30];
     program.extend([4, 0, 0]);
     program.extend([0; 31]);
-    assert_eq!(
-        loaded(&program).run(&program, 10_000).taken,
-        full_count(&program)
-    );
+    assert_eq!(loaded(&program).run(&program, 10_000).taken, full_count(&program));
     let mut program = vec![2; 30];
     program.extend([4, 0, 2, 0, 0]);
     program.extend([0; 31]);
@@ -437,14 +340,7 @@ fn pairs() {
     let program = pairs(1022);
     let mut lent = loaded(&program);
     assert_eq!(lent.run(&program, u32::MAX).taken, 4 + 5 * 1022);
-    assert_eq!(
-        lent.tally,
-        Tally {
-            made: 1024,
-            held: 0,
-            steps: 4 + 5 * 1022
-        }
-    );
+    assert_eq!(lent.tally, Tally { made: 1024, held: 0, steps: 4 + 5 * 1022 });
     assert_eq!(load_refusal(&pairs(1023)), refusal(8, 0));
     // 8 comes before 10 and 11, and those in this order.
     assert_eq!(Lent::rows(0, 0).load(&pairs(1023)), refusal(8, 0));
@@ -512,11 +408,7 @@ fn graph(statuses: &[u32], edges: &[[u32; 2]], spare: usize) -> Lent {
     lent.edges = edges.concat();
     lent.vertices.extend(vec![7; 7 * spare]);
     lent.edges.extend(vec![7; 2 * spare]);
-    lent.tally = Tally {
-        made: statuses.len() as u32,
-        held: edges.len() as u32,
-        steps: 9000,
-    };
+    lent.tally = Tally { made: statuses.len() as u32, held: edges.len() as u32, steps: 9000 };
     lent
 }
 
@@ -529,16 +421,8 @@ fn commands_refuse_in_order() {
         answer
     };
     let lent = graph(&[3, 1, 2, 3, 4, 1], &[[1, 2]], 0);
-    let new = |caller| Command::NewTd {
-        caller,
-        place: 0,
-        scope: 0,
-    };
-    let edge = |caller, source, target| Command::NewEdge {
-        caller,
-        source,
-        target,
-    };
+    let new = |caller| Command::NewTd { caller, place: 0, scope: 0 };
+    let edge = |caller, source, target| Command::NewEdge { caller, source, target };
     let release = |caller, vertex| Command::Release { caller, vertex };
     let transfer = |caller, vertex| Command::Transfer { caller, vertex };
     let start = |vertex| Command::Start { vertex };
@@ -608,30 +492,14 @@ fn commands_refuse_in_order() {
 fn transfer_and_stop_keep_the_order() {
     let mut lent = graph(&[3, 1, 2, 2], &[[0, 2], [2, 3], [0, 3], [3, 0]], 1);
     let before = lent.clone();
-    assert_eq!(
-        lent.command(Command::Transfer {
-            caller: 0,
-            vertex: 1
-        }),
-        Answer::Transfer(1)
-    );
+    assert_eq!(lent.command(Command::Transfer { caller: 0, vertex: 1 }), Answer::Transfer(1));
     assert_eq!(lent.edges, [1, 2, 2, 3, 1, 3, 3, 0, 7, 7]);
-    assert_eq!(
-        (lent.tally, &lent.vertices),
-        (before.tally, &before.vertices)
-    );
+    assert_eq!((lent.tally, &lent.vertices), (before.tally, &before.vertices));
     let mut lent = before.clone();
     assert_eq!(lent.command(Command::Stop { caller: 0 }), Answer::Stop);
     assert_eq!(lent.edges, [2, 3, 3, 0, 0, 0, 0, 0, 7, 7]);
     assert_eq!(lent.row(0), [4, 1, 2, 3, 4, 5, 6]);
-    assert_eq!(
-        lent.tally,
-        Tally {
-            made: 4,
-            held: 2,
-            steps: 9000
-        }
-    );
+    assert_eq!(lent.tally, Tally { made: 4, held: 2, steps: 9000 });
 }
 
 #[test]
@@ -640,9 +508,7 @@ fn paths_decide_cycles() {
     let mut seen = [0; 2];
     for _ in 0..4000 {
         let n = 2 + dice.below(9);
-        let edges: Vec<[u32; 2]> = (0..dice.below(2 * n))
-            .map(|_| [dice.below(n) as u32, dice.below(n) as u32])
-            .collect();
+        let edges: Vec<[u32; 2]> = (0..dice.below(2 * n)).map(|_| [dice.below(n) as u32, dice.below(n) as u32]).collect();
         let mut statuses = vec![1; n];
         statuses[0] = 3;
         let lent = graph(&statuses, &edges, 1);
@@ -656,11 +522,7 @@ fn paths_decide_cycles() {
         } else {
             Answer::Edge(a, b)
         };
-        let answer = lent.clone().command(Command::NewEdge {
-            caller: 0,
-            source: a,
-            target: b,
-        });
+        let answer = lent.clone().command(Command::NewEdge { caller: 0, source: a, target: b });
         assert_eq!(answer, expected, "{edges:?} {a} {b}");
         let expected = if held.iter().any(|e| e.0 == b) {
             refusal(38, 0)
@@ -670,14 +532,7 @@ fn paths_decide_cycles() {
         } else {
             Answer::Transfer(b)
         };
-        assert_eq!(
-            lent.clone().command(Command::Transfer {
-                caller: 0,
-                vertex: b
-            }),
-            expected,
-            "{edges:?} {b}"
-        );
+        assert_eq!(lent.clone().command(Command::Transfer { caller: 0, vertex: b }), expected, "{edges:?} {b}");
     }
     assert!(seen.iter().all(|&n| n > 100), "{seen:?}");
 }
@@ -688,21 +543,11 @@ fn long_paths() {
     let mut statuses = vec![1; 1024];
     statuses[0] = 3;
     let mut lent = graph(&statuses, &chain, 2);
-    let edge = |source, target| Command::NewEdge {
-        caller: 0,
-        source,
-        target,
-    };
+    let edge = |source, target| Command::NewEdge { caller: 0, source, target };
     assert_eq!(lent.command(edge(1023, 1)), refusal(35, 0));
     assert_eq!(lent.command(edge(1, 1023)), Answer::Edge(1, 1023));
     assert_eq!(lent.command(edge(0, 2)), Answer::Edge(0, 2));
-    assert_eq!(
-        lent.command(Command::Transfer {
-            caller: 0,
-            vertex: 1023
-        }),
-        refusal(35, 0)
-    );
+    assert_eq!(lent.command(Command::Transfer { caller: 0, vertex: 1023 }), refusal(35, 0));
     assert_eq!(lent.command(edge(0, 5)), refusal(32, 0));
 }
 
@@ -718,14 +563,7 @@ fn step_refuses_in_order() {
     // A released vertex is started, whatever the bytes.
     assert_eq!(lent.step(&[], 0), Answer::Start);
     assert_eq!(lent.step(&[], 0), refusal(13, 0));
-    assert_eq!(
-        lent.run(&[], 5),
-        Run {
-            ending: Ending::Stuck,
-            last: None,
-            taken: 0
-        }
-    );
+    assert_eq!(lent.run(&[], 5), Run { ending: Ending::Stuck, last: None, taken: 0 });
     assert_eq!(lent.step(&[0, 0], 0), refusal(13, 0));
     // Nothing starts at place 1, and nothing past the end; a job has one command.
     for (place, phase, answer) in [
@@ -736,14 +574,7 @@ fn step_refuses_in_order() {
         (0, u32::MAX, refusal(13, 0)),
         (2, 1, refusal(13, 0)),
         (2, 0, Answer::Stop),
-        (
-            0,
-            0,
-            Answer::Job {
-                number: 1,
-                offset: 0,
-            },
-        ),
+        (0, 0, Answer::Job { number: 1, offset: 0 }),
     ] {
         let mut lent = lent.clone();
         lent.vertices[1] = place;
@@ -753,24 +584,8 @@ fn step_refuses_in_order() {
     let mut late = lent.clone();
     late.tally.steps = 8192;
     assert_eq!(late.step(&program, 9), refusal(12, 0));
-    assert_eq!(
-        late.lowest(&program),
-        Lowest::Refused {
-            number: 12,
-            place: 0
-        }
-    );
-    assert_eq!(
-        late.run(&program, 0),
-        Run {
-            ending: Ending::Refused {
-                number: 12,
-                place: 0
-            },
-            last: None,
-            taken: 0
-        }
-    );
+    assert_eq!(late.lowest(&program), Lowest::Refused { number: 12, place: 0 });
+    assert_eq!(late.run(&program, 0), Run { ending: Ending::Refused { number: 12, place: 0 }, last: None, taken: 0 });
     // A new or a finished vertex.
     lent.vertices[0] = 1;
     assert_eq!(lent.step(&program, 0), refusal(22, 0));
@@ -783,45 +598,17 @@ fn runs_look_in_order() {
     // No vertex made: done.
     let mut lent = Lent::rows(0, 0);
     lent.tally = Tally::default();
-    assert_eq!(
-        lent.run(&[], 3),
-        Run {
-            ending: Ending::Done,
-            last: None,
-            taken: 0
-        }
-    );
+    assert_eq!(lent.run(&[], 3), Run { ending: Ending::Done, last: None, taken: 0 });
     // The count reaches 8,192 inside a run: stuck, or done if that was the last step.
     let program = [0];
     let mut lent = loaded(&program);
-    assert_eq!(
-        lent.run(&program, 0),
-        Run {
-            ending: Ending::Spent,
-            last: None,
-            taken: 0
-        }
-    );
+    assert_eq!(lent.run(&program, 0), Run { ending: Ending::Spent, last: None, taken: 0 });
     lent.tally.steps = 8190;
-    assert_eq!(
-        lent.run(&program, 9),
-        Run {
-            ending: Ending::Stuck,
-            last: Some(Answer::Stop),
-            taken: 2
-        }
-    );
+    assert_eq!(lent.run(&program, 9), Run { ending: Ending::Stuck, last: Some(Answer::Stop), taken: 2 });
     assert_eq!(lent.tally.steps, 8192);
     let mut lent = loaded(&program);
     lent.tally.steps = 8188;
-    assert_eq!(
-        lent.run(&program, 9),
-        Run {
-            ending: Ending::Done,
-            last: Some(Answer::Stop),
-            taken: 4
-        }
-    );
+    assert_eq!(lent.run(&program, 9), Run { ending: Ending::Done, last: Some(Answer::Stop), taken: 4 });
 }
 
 #[test]
@@ -835,12 +622,7 @@ fn any_schedule_takes_the_full_count() {
         assert_eq!(lent.load(&program), Answer::Ready);
         let mut jobs = 0;
         let mut accepted = 0;
-        while lent
-            .vertices
-            .chunks(7)
-            .take(lent.tally.made as usize)
-            .any(|row| row[0] != 4)
-        {
+        while lent.vertices.chunks(7).take(lent.tally.made as usize).any(|row| row[0] != 4) {
             assert_ne!(lent.lowest(&program), Lowest::NoVertex);
             let vertex = dice.below(lent.tally.made as usize) as u32;
             let before = lent.clone();
@@ -861,10 +643,7 @@ fn any_schedule_takes_the_full_count() {
             }
         }
         assert_eq!(accepted, full_count(&program));
-        assert_eq!(
-            (jobs, lent.tally.made, lent.tally.held),
-            (c.jobs, c.vertices(), 0)
-        );
+        assert_eq!((jobs, lent.tally.made, lent.tally.held), (c.jobs, c.vertices(), 0));
         // So does a run, in parts of any size.
         let mut lent = loaded(&program);
         let mut taken = 0;
@@ -886,31 +665,16 @@ fn plain_lowest(lent: &Lent, program: &[u8]) -> Option<u32> {
 }
 
 fn plain_run(lent: &mut Lent, program: &[u8], budget: u32) -> Run {
-    let mut run = Run {
-        ending: Ending::Done,
-        last: None,
-        taken: 0,
-    };
+    let mut run = Run { ending: Ending::Done, last: None, taken: 0 };
     loop {
-        if lent
-            .vertices
-            .chunks(7)
-            .take(lent.tally.made as usize)
-            .all(|row| row[0] == 4)
-        {
+        if lent.vertices.chunks(7).take(lent.tally.made as usize).all(|row| row[0] == 4) {
             return run;
         }
         let Some(v) = plain_lowest(lent, program) else {
-            return Run {
-                ending: Ending::Stuck,
-                ..run
-            };
+            return Run { ending: Ending::Stuck, ..run };
         };
         if run.taken == budget {
-            return Run {
-                ending: Ending::Spent,
-                ..run
-            };
+            return Run { ending: Ending::Spent, ..run };
         }
         run.last = Some(lent.step(program, v));
         run.taken += 1;
@@ -961,19 +725,11 @@ fn any_words_are_answered() {
             };
         }
         for w in &mut lent.edges {
-            *w = if dice.one_in(200) {
-                dice.roll() as u32
-            } else {
-                dice.below(made) as u32
-            };
+            *w = if dice.one_in(200) { dice.roll() as u32 } else { dice.below(made) as u32 };
         }
         lent.vertices.extend(vec![3; dice.below(7)]);
         lent.edges.extend(vec![3; dice.below(2)]);
-        lent.tally = Tally {
-            made: made as u32,
-            held: held as u32,
-            steps: 0,
-        };
+        lent.tally = Tally { made: made as u32, held: held as u32, steps: 0 };
         if dice.one_in(20) {
             lent.tally.steps = 8180 + dice.below(14) as u32;
         }
@@ -984,30 +740,12 @@ fn any_words_are_answered() {
             lent.tally.held = dice.roll() as u32;
         }
         // A single command and a step on copies.
-        let (a, b, c) = (
-            word(&mut dice, made + 1),
-            word(&mut dice, made + 1),
-            word(&mut dice, made + 1),
-        );
+        let (a, b, c) = (word(&mut dice, made + 1), word(&mut dice, made + 1), word(&mut dice, made + 1));
         let command = match dice.below(6) {
-            0 => Command::NewTd {
-                caller: a,
-                place: b,
-                scope: c,
-            },
-            1 => Command::NewEdge {
-                caller: a,
-                source: b,
-                target: c,
-            },
-            2 => Command::Release {
-                caller: a,
-                vertex: b,
-            },
-            3 => Command::Transfer {
-                caller: a,
-                vertex: b,
-            },
+            0 => Command::NewTd { caller: a, place: b, scope: c },
+            1 => Command::NewEdge { caller: a, source: b, target: c },
+            2 => Command::Release { caller: a, vertex: b },
+            3 => Command::Transfer { caller: a, vertex: b },
             4 => Command::Start { vertex: a },
             _ => Command::Stop { caller: a },
         };
@@ -1038,13 +776,7 @@ fn any_words_are_answered() {
             Ending::Refused { number, place } => {
                 unsound += 1;
                 assert_eq!((number, place, run.last, run.taken), (12, 0, None, 0));
-                assert_eq!(
-                    lowest,
-                    Lowest::Refused {
-                        number: 12,
-                        place: 0
-                    }
-                );
+                assert_eq!(lowest, Lowest::Refused { number: 12, place: 0 });
                 assert_eq!(after, lent);
                 assert_eq!(lent.clone().step(&program, a), refusal(12, 0));
                 continue;
@@ -1053,18 +785,12 @@ fn any_words_are_answered() {
             Ending::Stuck => stuck += 1,
             Ending::Spent => spent += 1,
         }
-        assert_eq!(
-            lowest,
-            plain_lowest(&lent, &program).map_or(Lowest::NoVertex, Lowest::Vertex)
-        );
+        assert_eq!(lowest, plain_lowest(&lent, &program).map_or(Lowest::NoVertex, Lowest::Vertex));
         let mut plain = lent.clone();
         assert_eq!(plain_run(&mut plain, &program, budget), run);
         assert_eq!(plain, after);
     }
-    assert!(
-        stuck > 100 && done > 100 && spent > 100 && unsound > 100,
-        "{stuck} {done} {spent} {unsound}"
-    );
+    assert!(stuck > 100 && done > 100 && spent > 100 && unsound > 100, "{stuck} {done} {spent} {unsound}");
     for number in [12, 13, 20, 21, 22, 23, 31, 32, 33, 34, 35, 36, 37, 38] {
         assert!(refusals[number] > 0, "{number}: {refusals:?}");
     }
@@ -1075,15 +801,8 @@ fn any_bytes_are_answered() {
     let mut dice = Dice(12);
     let mut taken = 0;
     for _ in 0..20_000 {
-        let program: Vec<u8> = (0..dice.below(14))
-            .map(|_| {
-                if dice.one_in(12) {
-                    dice.roll() as u8
-                } else {
-                    dice.below(9).saturating_sub(4) as u8
-                }
-            })
-            .collect();
+        let program: Vec<u8> =
+            (0..dice.below(14)).map(|_| if dice.one_in(12) { dice.roll() as u8 } else { dice.below(9).saturating_sub(4) as u8 }).collect();
         let mut lent = Lent::rows(60, 60);
         if lent.load(&program) == Answer::Ready {
             taken += 1;
