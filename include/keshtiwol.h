@@ -49,9 +49,9 @@ enum {
 enum {
     KESHTIWOL_PROGRAM_BYTES = 4096,
     KESHTIWOL_ROWS = 1024,
-    KESHTIWOL_VERTEX_TABLE = 7168, /* words for 1,024 vertex rows */
-    KESHTIWOL_EDGE_TABLE = 2048,   /* words for 1,024 edge rows */
-    KESHTIWOL_STEP_LIMIT = 8192    /* steps are refused, with 12, where so many were taken */
+    KESHTIWOL_VERTEX_TABLE = KESHTIWOL_VERTEX_WORDS * KESHTIWOL_ROWS, /* words */
+    KESHTIWOL_EDGE_TABLE = KESHTIWOL_EDGE_WORDS * KESHTIWOL_ROWS,
+    KESHTIWOL_STEP_LIMIT = 8192 /* steps are refused, with 12, where so many were taken */
 };
 
 /* The tally: vertices made, edges held, steps taken. Loading and opening set it. */

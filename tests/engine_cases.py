@@ -10,6 +10,8 @@ made only to write their sums."""
 from copy import deepcopy
 from functools import lru_cache
 
+from rows import EDGE_TABLE, EDGE_WORDS, VERTEX_TABLE, VERTEX_WORDS
+
 NEW, RELEASED, EXECUTING, FINISHED = 1, 2, 3, 4
 
 
@@ -125,8 +127,9 @@ COMMANDS = {"job": job, "end": end, "async": one_async, "finish": finish, "fork"
 
 
 class Vertex:
-    def __init__(self, status, place, scope, phase=0, made=(0, 0, 0)):
-        self.status, self.place, self.scope, self.phase, self.made = status, place, scope, phase, list(made)
+    def __init__(self, status, place, scope, phase=0, *made):
+        self.status, self.place, self.scope, self.phase = status, place, scope, phase
+        self.made = list(made or [0] * (VERTEX_WORDS - 4))  # the three, and what a wider row has behind them
 
     def words(self):
         return [self.status, self.place, self.scope, self.phase] + self.made
@@ -141,19 +144,19 @@ class Shop:
     """The tables and the tally. `spare` words are those past the rows in use."""
 
     def __init__(self, data, vertex_words, edge_words, made, held, steps):
-        self.data, self.vertex_rows, self.edge_rows = data, len(vertex_words) // 7, len(edge_words) // 2
+        self.data, self.vertex_rows, self.edge_rows = data, len(vertex_words) // VERTEX_WORDS, len(edge_words) // EDGE_WORDS
         self.first_words, self.tally = (vertex_words, edge_words), (made, held, steps)
         self.sound = made <= self.vertex_rows and held <= self.edge_rows
-        rows = [vertex_words[7 * k : 7 * k + 7] for k in range(self.vertex_rows)]
-        ends = [edge_words[2 * k : 2 * k + 2] for k in range(self.edge_rows)]
+        rows = [vertex_words[VERTEX_WORDS * k : VERTEX_WORDS * (k + 1)] for k in range(self.vertex_rows)]
+        ends = [edge_words[EDGE_WORDS * k : EDGE_WORDS * (k + 1)] for k in range(self.edge_rows)]
         if self.sound:
             self.sound = all(row[0] in (1, 2, 3, 4) for row in rows[:made]) and all(max(pair) < made for pair in ends[:held])
         if self.sound:
-            self.vertices = [Vertex(*row[:4], row[4:]) for row in rows[:made]]
+            self.vertices = [Vertex(*row) for row in rows[:made]]
             self.edges = [Edge(*pair) for pair in ends[:held]]
             self.steps = steps
-            self.spare = [sum(rows, [])[7 * made :], sum(ends, [])[2 * held :]]
-        self.tails = vertex_words[7 * self.vertex_rows :], edge_words[2 * self.edge_rows :]
+            self.spare = [sum(rows[made:], []), sum(ends[held:], [])]
+        self.tails = vertex_words[VERTEX_WORDS * self.vertex_rows :], edge_words[EDGE_WORDS * self.edge_rows :]
 
     def load(self):
         main = parse(self.data)
@@ -161,7 +164,7 @@ class Shop:
         need(1 + edges_of(main) <= self.edge_rows, 11)
         self.vertices = [Vertex(RELEASED, 0, 1), Vertex(RELEASED, len(self.data) - 1, 1)]
         self.edges, self.steps, self.sound = [Edge(0, 1)], 0, True
-        self.spare = [[0] * 7 * (self.vertex_rows - 2), [0] * 2 * (self.edge_rows - 1)]
+        self.spare = [[0] * VERTEX_WORDS * (self.vertex_rows - 2), [0] * EDGE_WORDS * (self.edge_rows - 1)]
         return "loaded"
 
     def words(self):
@@ -190,7 +193,7 @@ class Shop:
     def new(self, own, me, place, scope):
         need(len(self.vertices) < self.vertex_rows, 31)
         self.vertices.append(Vertex(NEW, place, scope))
-        del self.spare[0][:7]
+        del self.spare[0][:VERTEX_WORDS]
         return f"new {len(self.vertices) - 1}"
 
     def edge(self, own, me, a, b):
@@ -201,7 +204,7 @@ class Shop:
             need(a not in self.behind(b) | {b}, 35)
             need(len(self.edges) < self.edge_rows, 32)
             self.edges.append(Edge(a, b))
-            del self.spare[1][:2]
+            del self.spare[1][:EDGE_WORDS]
         return f"edge {a} {b}"
 
     def release(self, own, me, number):
@@ -257,7 +260,7 @@ class Shop:
             own.made[own.phase] = len(self.vertices) - 1
         own.phase += 1
         if own.phase == len(commands):
-            own.phase, own.made = 0, [0, 0, 0]
+            own.phase, own.made[:3] = 0, [0, 0, 0]
             own.place = past if kind in ("job", "async") else len(self.data) - 1
         return answer
 
@@ -324,13 +327,13 @@ def drawn(length, seed):
     for k in range(length):
         seed = (seed * 1103515245 + 12345) % 2**31
         draw = seed // 4096 % 40
-        words.append((draw // 2 % 4 + 1 if draw % 2 else 3) if k % 7 == 0 else draw % 5)
+        words.append((draw // 2 % 4 + 1 if draw % 2 else 3) if k % VERTEX_WORDS == 0 else draw % 5)
     return words
 
 
 def run(text, vertex_rows, edge_rows, seed):
     print(" ".join(["program"] + text.split()).lower())
-    shop = Shop(bytes.fromhex(text), drawn(7 * vertex_rows + 3, seed), drawn(2 * edge_rows + 1, seed), 5, 6, 8172)
+    shop = Shop(bytes.fromhex(text), drawn(VERTEX_WORDS * vertex_rows + 3, seed), drawn(EDGE_WORDS * edge_rows + 1, seed), 5, 6, 8172)
     print(attempt(shop.load), left(shop))
     lowest = attempt(shop.lowest)
     print("lowest", "none" if lowest is None else lowest)
@@ -349,7 +352,7 @@ def run(text, vertex_rows, edge_rows, seed):
 
 
 def to_the_end(program):
-    shop = Shop(program, [0] * 7168, [0] * 2048, 0, 0, 0)
+    shop = Shop(program, [0] * VERTEX_TABLE, [0] * EDGE_TABLE, 0, 0, 0)
     print(attempt(shop.load), left(shop))
     ran(shop, 8192)
 
@@ -360,7 +363,7 @@ def examples():
         program = bytearray(2 * count + 1)
         program[: apart * count : apart] = bytes([2]) * count
         to_the_end(bytes(program))
-    shop = Shop(bytes([1, 1, 0]), [0] * 14, [0] * 2, 0, 0, 0)
+    shop = Shop(bytes([1, 1, 0]), [0] * 2 * VERTEX_WORDS, [0] * EDGE_WORDS, 0, 0, 0)
     shop.load()
     shop.step(0)
     shop.vertices[0].place = 1
@@ -448,7 +451,7 @@ def soak():
         program = draw_program(seed, 120)
         print("program", program.hex(" "))
         for order in range(5):
-            shop = Shop(program, [0] * 2100, [0] * 600, 0, 0, 0)
+            shop = Shop(program, [0] * 300 * VERTEX_WORDS, [0] * 300 * EDGE_WORDS, 0, 0, 0)
             shop.load()
             if order < 4:
                 turns(shop, order, seed)

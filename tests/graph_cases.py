@@ -5,8 +5,9 @@
 
 The model keeps vertices and edges as Python lists, and looks for paths by plain depth-first search."""
 
+from rows import EDGE_TABLE, EDGE_WORDS, USABLE, VERTEX_TABLE, VERTEX_WORDS
+
 NEW, RELEASED, EXECUTING, FINISHED = 1, 2, 3, 4
-WIDTH, USABLE = 7, 1024
 
 
 class Refused(Exception):
@@ -18,16 +19,16 @@ class Machine:
         self.v, self.e, self.made, self.held, self.steps = list(vertices), list(edges), made, held, steps
 
     def vertex_rows(self):
-        return min(USABLE, len(self.v) // WIDTH)
+        return min(USABLE, len(self.v) // VERTEX_WORDS)
 
     def edge_rows(self):
-        return min(USABLE, len(self.e) // 2)
+        return min(USABLE, len(self.e) // EDGE_WORDS)
 
     def status(self, k):
-        return self.v[WIDTH * k]
+        return self.v[VERTEX_WORDS * k]
 
     def edges(self):
-        return [(self.e[2 * i], self.e[2 * i + 1]) for i in range(self.held)]
+        return [tuple(self.e[EDGE_WORDS * i : EDGE_WORDS * (i + 1)]) for i in range(self.held)]
 
     def sound(self):
         return (
@@ -58,8 +59,8 @@ class Machine:
 
     def open(self):
         self.need(self.vertex_rows() > 0, 10)
-        self.v[: WIDTH * self.vertex_rows()] = [0] * (WIDTH * self.vertex_rows())
-        self.e[: 2 * self.edge_rows()] = [0] * (2 * self.edge_rows())
+        self.v[: VERTEX_WORDS * self.vertex_rows()] = [0] * (VERTEX_WORDS * self.vertex_rows())
+        self.e[: EDGE_WORDS * self.edge_rows()] = [0] * (EDGE_WORDS * self.edge_rows())
         self.v[0], self.made, self.held, self.steps = RELEASED, 1, 0, 0
         return "opened"
 
@@ -67,7 +68,7 @@ class Machine:
         self.begin(t)
         self.need(self.status(t) == EXECUTING, 30)
         self.need(self.made < self.vertex_rows(), 31)
-        self.v[WIDTH * self.made : WIDTH * (self.made + 1)] = [NEW, place, scope] + [0] * (WIDTH - 3)
+        self.v[VERTEX_WORDS * self.made : VERTEX_WORDS * (self.made + 1)] = [NEW, place, scope] + [0] * (VERTEX_WORDS - 3)
         self.made += 1
         return f"new {self.made - 1}"
 
@@ -79,7 +80,7 @@ class Machine:
             self.need((a, b) not in self.edges(), 34)
             self.need(a != b and not self.reaches(b, a), 35)
             self.need(self.held < self.edge_rows(), 32)
-            self.e[2 * self.held : 2 * self.held + 2] = [a, b]
+            self.e[EDGE_WORDS * self.held : EDGE_WORDS * (self.held + 1)] = [a, b]
             self.held += 1
         return f"edge {a} {b}"
 
@@ -87,7 +88,7 @@ class Machine:
         self.begin(t, k)
         self.need(self.status(t) == EXECUTING, 30)
         self.need(self.status(k) == NEW, 36)
-        self.v[WIDTH * k] = RELEASED
+        self.v[VERTEX_WORDS * k] = RELEASED
         return f"release {k}"
 
     def transfer(self, t, k):
@@ -98,7 +99,7 @@ class Machine:
         self.need(not any(a == t and (b == k or self.reaches(b, k)) for a, b in self.edges()), 35)
         for i, (a, b) in enumerate(self.edges()):
             if a == t:
-                self.e[2 * i] = k
+                self.e[EDGE_WORDS * i] = k
         return f"transfer {k}"
 
     def start(self, k):
@@ -107,16 +108,16 @@ class Machine:
         self.need(self.status(k) != EXECUTING, 39)
         self.need(self.status(k) != FINISHED, 23)
         self.need(all(b != k for a, b in self.edges()), 21)
-        self.v[WIDTH * k] = EXECUTING
+        self.v[VERTEX_WORDS * k] = EXECUTING
         return "start"
 
     def stop(self, t):
         self.begin(t)
         self.need(self.status(t) == EXECUTING, 30)
-        self.v[WIDTH * t] = FINISHED
+        self.v[VERTEX_WORDS * t] = FINISHED
         kept = [x for a, b in self.edges() if a != t for x in (a, b)]
-        self.e[: 2 * self.held] = kept + [0] * (2 * self.held - len(kept))
-        self.held = len(kept) // 2
+        self.e[: EDGE_WORDS * self.held] = kept + [0] * (EDGE_WORDS * self.held - len(kept))
+        self.held = len(kept) // EDGE_WORDS
         return "stop"
 
     def call(self, command, *words):
@@ -159,13 +160,13 @@ def words(count, draw, low):
 
 
 def drawn(seed):
-    vertices, d = words(32, Draw(seed), 1)
+    vertices, d = words(4 * VERTEX_WORDS + 4, Draw(seed), 1)
     if seed % 4 != 0:
         vertices[0] = EXECUTING
-    edges, d = words(10, d, 0)
-    n = min(d.below(600), 32)
+    edges, d = words(5 * EDGE_WORDS, d, 0)
+    n = min(d.below(600), len(vertices))
     d = d.next()
-    m = min(d.below(200), 10)
+    m = min(d.below(200), len(edges))
     d = d.next()
     made = d.next().below(7)
     machine = Machine(vertices[:n], edges[:m], 4 if made < 4 else made - 1, d.next(2).below(6), d.below(9000))
@@ -196,7 +197,7 @@ def run(machine, calls):
 
 
 print("bare")
-run(Machine([77] * 23, [77] * 9, 9, 9, 9), """open
+run(Machine([77] * (3 * VERTEX_WORDS + 2), [77] * (4 * EDGE_WORDS + 1), 9, 9, 9), """open
 start 0
 new 0 5 0
 new 0 6 1
@@ -208,7 +209,7 @@ edge 0 0 1
 transfer 0 1
 transfer 0 2""")
 print("full")
-run(Machine([77] * 30, [77] * 7), """open
+run(Machine([77] * (4 * VERTEX_WORDS + 2), [77] * (3 * EDGE_WORDS + 1)), """open
 start 0
 new 0 1 0
 new 0 2 0
@@ -232,12 +233,12 @@ edge 0 0 2
 edge 0 3 2
 stop 0""")
 print("short")
-run(Machine([2] * 6, [2]), """open
+run(Machine([2] * (VERTEX_WORDS - 1), [2] * (EDGE_WORDS - 1)), """open
 start 0
 tally 1 0 0
 start 0""")
 print("long")
-run(Machine([3] * 7190, [1] * 2055, 1023, 1024, 7), """new 0 8 9
+run(Machine([3] * (VERTEX_TABLE + 22), [1] * (EDGE_TABLE + 7), 1023, 1024, 7), """new 0 8 9
 edge 0 0 2
 new 0 8 9
 stop 0
@@ -247,7 +248,8 @@ tally 3 1025 0
 start 0
 open""")
 print("path")
-run(Machine([3] + [1] * 7167, [(i // 2 + i % 2 + 1) % 1024 for i in range(2048)], 1024, 1022, 0), """edge 0 1023 1
+ends = [(i // EDGE_WORDS + i % EDGE_WORDS + 1) % USABLE for i in range(EDGE_TABLE)]
+run(Machine([3] + [1] * (VERTEX_TABLE - 1), ends, 1024, 1022, 0), """edge 0 1023 1
 edge 0 1 1023
 edge 0 0 1
 edge 0 1 1023

@@ -51,6 +51,13 @@ targetWord = 1
 abbrev pub usableLimit : ℕ
 usableLimit = 1024
 
+-- the words of a table with all these rows
+abbrev pub vertexTable : ℕ
+vertexTable = vertexWords * usableLimit
+
+abbrev pub edgeTable : ℕ
+edgeTable = edgeWords * usableLimit
+
 abbrev pub vertexRows : List ℕ → ℕ
 vertexRows v = min usableLimit (length v / vertexWords)
 

@@ -29,6 +29,11 @@ pub const SOURCE: usize = 0;
 
 pub const TARGET: usize = 1;
 
+// The words of a table with all the rows that may be used.
+pub const VERTEX_TABLE: usize = VERTEX_WORDS * USABLE_LIMIT;
+
+pub const EDGE_TABLE: usize = EDGE_WORDS * USABLE_LIMIT;
+
 pub const NEW: u32 = 1;
 
 pub const RELEASED: u32 = 2;

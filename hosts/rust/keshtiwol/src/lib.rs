@@ -310,7 +310,7 @@ mod tests {
     /// No [`Command`] has another number, so this is asked below the safe functions.
     #[test]
     fn a_command_number_that_no_command_has() {
-        let (mut vertices, mut edges, mut tally) = ([0; 14], [0; 4], Tally::default());
+        let (mut vertices, mut edges, mut tally) = ([0; 2 * VERTEX_WORDS], [0; 2 * EDGE_WORDS], Tally::default());
         assert_eq!(open(&mut vertices, &mut edges, &mut tally), Answer::Ready);
         for number in [0, 7, 99, u32::MAX] {
             let before = (vertices, edges, tally);

@@ -114,12 +114,17 @@ mod tests {
     #[test]
     fn constants_are_the_headers() {
         let header = include_str!("../../../../include/keshtiwol.h");
-        let constant = |line: &'static str| {
-            let (name, value) = line.trim().strip_prefix("KESHTIWOL_")?.split_once(" = ")?;
-            let digits = value.find(|c: char| !c.is_ascii_digit()).unwrap_or(value.len());
-            Some((name, value[..digits].parse::<u32>().unwrap()))
-        };
-        let in_header: Vec<_> = header.lines().filter_map(constant).collect();
+        let mut in_header: Vec<(&str, u32)> = Vec::new();
+        for line in header.lines() {
+            let Some((name, value)) = line.trim().strip_prefix("KESHTIWOL_").and_then(|line| line.split_once(" = ")) else { continue };
+            // A number, or a product of constants that stand before it.
+            let factor = |text: &str| match text.strip_prefix("KESHTIWOL_") {
+                Some(earlier) => in_header.iter().find(|constant| constant.0 == earlier).unwrap().1,
+                None => text.parse().unwrap(),
+            };
+            let end = value.find(" /*").unwrap_or(value.len());
+            in_header.push((name, value[..end].trim_end_matches([',', ' ']).split(" * ").map(factor).product()));
+        }
         let here = named![
             VERTEX_WORDS STATUS PLACE SCOPE PHASE MADE
             EDGE_WORDS SOURCE TARGET

@@ -1,6 +1,6 @@
 //! The examples of the engine's paper, through the safe functions.
 
-use keshtiwol::{Answer, Ending, Lowest, Machine, Refusal, Run, STEP_LIMIT};
+use keshtiwol::{Answer, Ending, Lowest, Machine, Refusal, Run, STEP_LIMIT, VERTEX_WORDS};
 
 /// Steps the lowest vertex until none can step: each step's vertex and answer.
 fn steps(machine: &mut Machine) -> Vec<(u32, Answer)> {
@@ -131,7 +131,7 @@ fn programs_at_the_limits() {
         let mut machine = Machine::load(&program).unwrap();
         assert_eq!(machine.run(u32::MAX), Run { ending: Ending::Done, last: Some(Answer::Stop), taken: count });
         assert_eq!(machine.tally().made, made);
-        assert_eq!(machine.vertices().len(), 7 * made as usize);
+        assert_eq!(machine.vertices().len(), VERTEX_WORDS * made as usize);
         assert!(machine.edges().is_empty());
     }
 }

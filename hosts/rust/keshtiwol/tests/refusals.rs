@@ -18,7 +18,7 @@ impl Lent {
 
     /// An opened machine with vertex 0 executing.
     fn bare(vertex_rows: usize, edge_rows: usize) -> Lent {
-        let mut lent = Lent::new(7 * vertex_rows, 2 * edge_rows);
+        let mut lent = Lent::new(VERTEX_WORDS * vertex_rows, EDGE_WORDS * edge_rows);
         assert_eq!(lent.open(), Answer::Ready);
         assert_eq!(lent.command(Command::Start { vertex: 0 }), Answer::Start);
         lent
@@ -128,7 +128,7 @@ fn commands() {
 #[test]
 fn a_host_that_chooses_badly() {
     let program = [2, 1, 1, 0, 0];
-    let mut lent = Lent::new(21, 4);
+    let mut lent = Lent::new(3 * VERTEX_WORDS, 2 * EDGE_WORDS);
     assert_eq!(lent.load(&program), Answer::Ready);
     assert_eq!(lent.step(&program, 2), refused(refusal::NO_SUCH_VERTEX));
     assert_eq!(lent.step(&program, 1), refused(refusal::EDGE_LEADS_IN));
@@ -144,24 +144,27 @@ fn a_host_that_chooses_badly() {
     assert_eq!(lent.step(&[0], 2), refused(refusal::NOTHING_STARTS));
     assert_eq!(lent.step(&[0, 0, 0, 0, 0], 2), refused(refusal::NOTHING_STARTS));
     assert_eq!(lent.step(&[], 2), refused(refusal::NOTHING_STARTS));
-    lent.vertices[7 * 2 + PHASE] = 1;
+    lent.vertices[2 * VERTEX_WORDS + PHASE] = 1;
     assert_eq!(lent.step(&program, 2), refused(refusal::NOTHING_STARTS));
-    lent.vertices[7 * 2 + PHASE] = 0;
+    lent.vertices[2 * VERTEX_WORDS + PHASE] = 0;
     assert_eq!(lent.step(&program, 2), Answer::Job { number: 1, offset: 1 });
 }
 
 #[test]
 fn a_lender_that_lends_too_little() {
     let program = [2, 0, 0];
-    assert_eq!(Lent::new(20, 4).load(&program), refused(refusal::TOO_FEW_VERTEX_ROWS));
-    assert_eq!(Lent::new(21, 3).load(&program), refused(refusal::TOO_FEW_EDGE_ROWS));
+    assert_eq!(Lent::new(3 * VERTEX_WORDS - 1, 2 * EDGE_WORDS).load(&program), refused(refusal::TOO_FEW_VERTEX_ROWS));
+    assert_eq!(Lent::new(3 * VERTEX_WORDS, 2 * EDGE_WORDS - 1).load(&program), refused(refusal::TOO_FEW_EDGE_ROWS));
     // Full rows are used, the words after them never touched.
-    let mut lent = Lent::new(34, 5);
+    let mut lent = Lent::new(5 * VERTEX_WORDS - 1, 3 * EDGE_WORDS - 1);
     assert_eq!(lent.load(&program), Answer::Ready);
-    assert_eq!(lent.vertices[..14], [2, 0, 1, 0, 0, 0, 0, 2, 2, 1, 0, 0, 0, 0]);
-    assert_eq!(lent.vertices[14..28], [0; 14]);
-    assert_eq!(lent.vertices[28..], [77; 6]);
-    assert_eq!(lent.edges, [0, 1, 0, 0, 77]);
+    let mut vertices = [0; 4 * VERTEX_WORDS];
+    for (vertex, place) in [(0, 0), (1, 2)] {
+        let row = &mut vertices[VERTEX_WORDS * vertex..];
+        (row[STATUS], row[PLACE], row[SCOPE]) = (VERTEX_RELEASED, place, 1);
+    }
+    assert_eq!(lent.vertices, [&vertices[..], &[77; VERTEX_WORDS - 1]].concat());
+    assert_eq!(lent.edges, [&[0, 1], &[0; EDGE_WORDS][..], &[77; EDGE_WORDS - 1]].concat());
     assert_eq!(lent.tally, Tally { made: 2, held: 1, steps: 0 });
 }
 
@@ -170,21 +173,23 @@ fn more_rows_than_are_used() {
     let mut lent = Lent::new(VERTEX_TABLE + 9, EDGE_TABLE + 3);
     assert_eq!(lent.open(), Answer::Ready);
     assert_eq!(lent.vertices[..2], [VERTEX_RELEASED, 0]);
-    assert_eq!(lent.vertices[VERTEX_TABLE - 1..], [0, 77, 77, 77, 77, 77, 77, 77, 77, 77]);
-    assert_eq!(lent.edges[EDGE_TABLE - 1..], [0, 77, 77, 77]);
+    assert_eq!(lent.vertices[VERTEX_TABLE - 1], 0);
+    assert_eq!(lent.vertices[VERTEX_TABLE..], [77; 9]);
+    assert_eq!(lent.edges[EDGE_TABLE - 1], 0);
+    assert_eq!(lent.edges[EDGE_TABLE..], [77; 3]);
 }
 
 #[test]
 fn unsound_tables() {
     let program = [0];
-    let mut sound = Lent::new(14, 2);
+    let mut sound = Lent::new(2 * VERTEX_WORDS, EDGE_WORDS);
     assert_eq!(sound.load(&program), Answer::Ready);
     let spoil: [fn(&mut Lent); 7] = [
         |lent| lent.tally.made = 3,
         |lent| lent.tally.held = u32::MAX,
         |lent| lent.tally.made = u32::MAX,
         |lent| lent.vertices[STATUS] = 0,
-        |lent| lent.vertices[7 + STATUS] = 5,
+        |lent| lent.vertices[VERTEX_WORDS + STATUS] = 5,
         |lent| lent.edges[SOURCE] = 2,
         |lent| lent.edges[TARGET] = u32::MAX,
     ];

@@ -3,14 +3,18 @@
 use crate::{Answer, Command, Tally};
 
 /// "Vertex row, seven words: status; place [...]; scope [...]; phase [...]; three vertices".
-pub(crate) type Row = [u32; 7];
+pub(crate) const VERTEX_WORDS: usize = 7;
+pub(crate) type Row = [u32; VERTEX_WORDS];
 pub(crate) const STATUS: usize = 0;
 pub(crate) const PLACE: usize = 1;
+pub(crate) const SCOPE: usize = 2;
 pub(crate) const PHASE: usize = 3;
 pub(crate) const MADE: usize = 4;
+pub(crate) const MADE_WORDS: usize = 3;
 
 /// "Edge row, two words: source, target."
-pub(crate) type Edge = [u32; 2];
+pub(crate) const EDGE_WORDS: usize = 2;
+pub(crate) type Edge = [u32; EDGE_WORDS];
 
 /// "A vertex has a status: 1 new, 2 released, 3 executing, 4 finished."
 pub(crate) const NEW: u32 = 1;
@@ -23,6 +27,13 @@ pub(crate) const MOST_ROWS: usize = 1024;
 
 /// "steps 8,192 or more (at a step or run only)"
 pub(crate) const MOST_STEPS: u32 = 8192;
+
+/// A row with these words "and its other words 0".
+pub(crate) fn row(status: u32, place: u32, scope: u32) -> Row {
+    let mut row = [0; VERTEX_WORDS];
+    (row[STATUS], row[PLACE], row[SCOPE]) = (status, place, scope);
+    row
+}
 
 /// The usable rows of a table of words.
 fn rows<const N: usize>(words: &[u32]) -> &[[u32; N]] {
@@ -241,8 +252,8 @@ impl<'a> Tables<'a> {
 
     /// "clears the used rows and the tally"
     pub fn clear(&mut self) {
-        self.rows.fill([0; 7]);
-        self.edges.fill([0; 2]);
+        self.rows.fill([0; VERTEX_WORDS]);
+        self.edges.fill([0; EDGE_WORDS]);
         *self.tally = Tally::default();
     }
 
@@ -252,7 +263,7 @@ impl<'a> Tables<'a> {
             // "makes the next vertex, new, with the place and scope handed in and its other words 0"
             Command::NewTd { place, scope, .. } => {
                 let vertex = self.tally.made;
-                self.rows[vertex as usize] = [NEW, place, scope, 0, 0, 0, 0];
+                self.rows[vertex as usize] = row(NEW, place, scope);
                 self.tally.made += 1;
                 Answer::New(vertex)
             }
@@ -294,7 +305,7 @@ impl<'a> Tables<'a> {
                     held[kept] = edge;
                     kept += usize::from(edge[0] != caller);
                 }
-                held[kept..].fill([0; 2]);
+                held[kept..].fill([0; EDGE_WORDS]);
                 self.tally.held = kept as u32;
                 Answer::Stop
             }

@@ -10,7 +10,7 @@ mod steps;
 #[cfg(test)]
 mod tests;
 
-use graph::{Tables, View, RELEASED};
+use graph::{row, Tables, View, RELEASED, STATUS};
 use read::read;
 use steps::{Book, Seek};
 
@@ -87,7 +87,7 @@ pub fn open(vertices: &mut [u32], edges: &mut [u32], tally: &mut Tally) -> Answe
         return refused(10);
     }
     tables.clear();
-    tables.rows[0][0] = RELEASED;
+    tables.rows[0][STATUS] = RELEASED;
     tables.tally.made = 1;
     Answer::Ready
 }
@@ -122,8 +122,8 @@ pub fn load(program: &[u8], vertices: &mut [u32], edges: &mut [u32], tally: &mut
     }
     tables.clear();
     // V is at least 2 and the edge rows needed at least 1; a program that reads has a last byte.
-    tables.rows[0] = [RELEASED, 0, 1, 0, 0, 0, 0];
-    tables.rows[1] = [RELEASED, program.len() as u32 - 1, 1, 0, 0, 0, 0];
+    tables.rows[0] = row(RELEASED, 0, 1);
+    tables.rows[1] = row(RELEASED, program.len() as u32 - 1, 1);
     tables.edges[0] = [0, 1];
     *tables.tally = Tally { made: 2, held: 1, steps: 0 };
     Answer::Ready

@@ -2,7 +2,9 @@
 
 use std::cell::OnceCell;
 
-use crate::graph::{Marks, Row, Tables, View, EXECUTING, FINISHED, MADE, MOST_ROWS, MOST_STEPS, NEW, PHASE, PLACE, RELEASED, STATUS};
+use crate::graph::{
+    Marks, Row, Tables, View, EXECUTING, FINISHED, MADE, MADE_WORDS, MOST_ROWS, MOST_STEPS, NEW, PHASE, PLACE, RELEASED, STATUS,
+};
 use crate::read::{read, Item};
 use crate::{Answer, Command};
 
@@ -70,7 +72,7 @@ pub(crate) enum Seek {
 /// The next command of the item at an executing vertex's place, or nothing where the phase is "not
 /// below that item's commands". `end` is the program's last byte.
 fn next_command(caller: u32, row: &Row, item: Item, end: u32) -> Option<Due> {
-    let [_, place, scope, phase, first, second, third] = *row;
+    let [_, place, scope, phase, first, second, third, ..] = *row;
     let new = |word, place: u32, scope| (Act::Do(Command::NewTd { caller, place, scope }), Then::Keep(word));
     let edge = |source, target| (Act::Do(Command::NewEdge { caller, source, target }), Then::Next);
     let transfer = |vertex| (Act::Do(Command::Transfer { caller, vertex }), Then::Next);
@@ -213,7 +215,8 @@ impl Tables<'_> {
             }
             Then::Move(place) => {
                 row[PLACE] = place;
-                row[PHASE..].fill(0);
+                row[PHASE] = 0;
+                row[MADE..MADE + MADE_WORDS].fill(0);
             }
         }
         self.tally.steps += 1;

@@ -1,3 +1,4 @@
+use crate::graph::{Edge, Row, EDGE_WORDS, FINISHED, MOST_ROWS, NEW, PHASE, PLACE, VERTEX_WORDS};
 use crate::read::{read, Counts, Item};
 use crate::*;
 
@@ -33,7 +34,7 @@ struct Lent {
 
 impl Lent {
     fn rows(vertices: usize, edges: usize) -> Lent {
-        Lent { vertices: vec![9; 7 * vertices], edges: vec![9; 2 * edges], tally: Tally { made: 9, held: 9, steps: 9 } }
+        Lent { vertices: vec![9; VERTEX_WORDS * vertices], edges: vec![9; EDGE_WORDS * edges], tally: Tally { made: 9, held: 9, steps: 9 } }
     }
 
     fn open(&mut self) -> Answer {
@@ -60,12 +61,12 @@ impl Lent {
         lowest(program, &self.vertices, &self.edges, &self.tally)
     }
 
-    fn row(&self, vertex: usize) -> [u32; 7] {
-        self.vertices[7 * vertex..7 * vertex + 7].try_into().unwrap()
+    fn row(&self, vertex: usize) -> Row {
+        self.vertices[VERTEX_WORDS * vertex..VERTEX_WORDS * (vertex + 1)].try_into().unwrap()
     }
 
     fn held(&self) -> Vec<(u32, u32)> {
-        self.edges.chunks(2).take(self.tally.held as usize).map(|e| (e[0], e[1])).collect()
+        self.edges.chunks(EDGE_WORDS).take(self.tally.held as usize).map(|e| (e[0], e[1])).collect()
     }
 }
 
@@ -265,7 +266,7 @@ fn job_65535() {
     let mut lent = loaded(&program);
     assert_eq!(lent.step(&program, 0), Answer::Start);
     assert_eq!(lent.step(&program, 0), Answer::Job { number: 65_535, offset: 0 });
-    assert_eq!(lent.row(0), [3, 4, 1, 0, 0, 0, 0]);
+    assert_eq!(lent.row(0), row(3, 4, 1));
 }
 
 #[test]
@@ -273,7 +274,7 @@ fn bare_machine_example() {
     let mut lent = Lent::rows(3, 2);
     assert_eq!(lent.open(), Answer::Ready);
     assert_eq!(lent.tally, Tally { made: 1, held: 0, steps: 0 });
-    assert_eq!(lent.row(0), [2, 0, 0, 0, 0, 0, 0]);
+    assert_eq!(lent.row(0), row(2, 0, 0));
     let edge = |source, target| Command::NewEdge { caller: 0, source, target };
     let transfer = |vertex| Command::Transfer { caller: 0, vertex };
     let new = Command::NewTd { caller: 0, place: u32::MAX, scope: 77 };
@@ -281,7 +282,7 @@ fn bare_machine_example() {
     assert_eq!(lent.command(Command::Start { vertex: 0 }), Answer::Start);
     assert_eq!(lent.command(new), Answer::New(1));
     assert_eq!(lent.command(new), Answer::New(2));
-    assert_eq!(lent.row(2), [1, u32::MAX, 77, 0, 0, 0, 0]);
+    assert_eq!(lent.row(2), row(1, u32::MAX, 77));
     assert_eq!(lent.command(new), refusal(31, 0));
     assert_eq!(lent.command(edge(1, 2)), Answer::Edge(1, 2));
     let before = lent.clone();
@@ -374,40 +375,41 @@ fn reading_refuses_in_order() {
 #[test]
 fn loading_touches_the_used_rows_only() {
     let mut lent = Lent::rows(0, 0);
-    lent.vertices = vec![9; 7 * 1026 + 3];
-    lent.edges = vec![9; 2 * 1025 + 1];
+    lent.vertices = vec![9; VERTEX_WORDS * (MOST_ROWS + 2) + 3];
+    lent.edges = vec![9; EDGE_WORDS * (MOST_ROWS + 1) + 1];
     assert_eq!(lent.load(&[2, 0, 0]), Answer::Ready);
-    assert_eq!(lent.row(0), [2, 0, 1, 0, 0, 0, 0]);
-    assert_eq!(lent.row(1), [2, 2, 1, 0, 0, 0, 0]);
-    assert!(lent.vertices[14..7 * 1024].iter().all(|&w| w == 0));
-    assert!(lent.vertices[7 * 1024..].iter().all(|&w| w == 9));
-    assert_eq!(lent.edges[..2], [0, 1]);
-    assert!(lent.edges[2..2 * 1024].iter().all(|&w| w == 0));
-    assert!(lent.edges[2 * 1024..].iter().all(|&w| w == 9));
+    assert_eq!(lent.row(0), row(2, 0, 1));
+    assert_eq!(lent.row(1), row(2, 2, 1));
+    assert!(lent.vertices[2 * VERTEX_WORDS..VERTEX_WORDS * MOST_ROWS].iter().all(|&w| w == 0));
+    assert!(lent.vertices[VERTEX_WORDS * MOST_ROWS..].iter().all(|&w| w == 9));
+    assert_eq!(lent.edges[..EDGE_WORDS], [0, 1]);
+    assert!(lent.edges[EDGE_WORDS..EDGE_WORDS * MOST_ROWS].iter().all(|&w| w == 0));
+    assert!(lent.edges[EDGE_WORDS * MOST_ROWS..].iter().all(|&w| w == 9));
     // A row that is not full is none.
     let mut lent = Lent::rows(0, 0);
-    lent.vertices = vec![9; 13];
-    lent.edges = vec![9; 3];
+    lent.vertices = vec![9; 2 * VERTEX_WORDS - 1];
+    lent.edges = vec![9; EDGE_WORDS + 1];
     assert_eq!(lent.load(&[0]), refusal(10, 0));
-    lent.vertices = vec![9; 15];
+    lent.vertices = vec![9; 2 * VERTEX_WORDS + 1];
     assert_eq!(lent.load(&[0]), Answer::Ready);
-    assert_eq!((lent.vertices[14], lent.edges[2]), (9, 9));
-    lent.vertices = vec![9; 6];
+    assert_eq!((lent.vertices[2 * VERTEX_WORDS], lent.edges[EDGE_WORDS]), (9, 9));
+    lent.vertices = vec![9; VERTEX_WORDS - 1];
     assert_eq!(lent.open(), refusal(10, 0));
-    assert_eq!(lent.vertices, [9; 6]);
+    assert_eq!(lent.vertices, [9; VERTEX_WORDS - 1]);
 }
 
 // --- Commands ----------------------------------------------------------------------------------
 
 /// Rows with these statuses, and edges.
-fn graph(statuses: &[u32], edges: &[[u32; 2]], spare: usize) -> Lent {
+fn graph(statuses: &[u32], edges: &[Edge], spare: usize) -> Lent {
     let mut lent = Lent::rows(0, 0);
     for &status in statuses {
-        lent.vertices.extend([status, 1, 2, 3, 4, 5, 6]);
+        lent.vertices.push(status);
+        lent.vertices.extend(1..VERTEX_WORDS as u32);
     }
     lent.edges = edges.concat();
-    lent.vertices.extend(vec![7; 7 * spare]);
-    lent.edges.extend(vec![7; 2 * spare]);
+    lent.vertices.extend(vec![7; VERTEX_WORDS * spare]);
+    lent.edges.extend(vec![7; EDGE_WORDS * spare]);
     lent.tally = Tally { made: statuses.len() as u32, held: edges.len() as u32, steps: 9000 };
     lent
 }
@@ -466,7 +468,7 @@ fn commands_refuse_in_order() {
     assert_eq!(after.command(edge(0, 4, 1)), Answer::Edge(4, 1));
     assert_eq!(after, lent);
     // 12 comes first; the steps do not matter at a single command.
-    for (word, value) in [(0, 0), (0, 5), (7, u32::MAX)] {
+    for (word, value) in [(STATUS, 0), (STATUS, 5), (VERTEX_WORDS + STATUS, u32::MAX)] {
         let mut bad = lent.clone();
         bad.vertices[word] = value;
         assert_eq!(try_one(&bad, new(6)), refusal(12, 0));
@@ -498,7 +500,9 @@ fn transfer_and_stop_keep_the_order() {
     let mut lent = before.clone();
     assert_eq!(lent.command(Command::Stop { caller: 0 }), Answer::Stop);
     assert_eq!(lent.edges, [2, 3, 3, 0, 0, 0, 0, 0, 7, 7]);
-    assert_eq!(lent.row(0), [4, 1, 2, 3, 4, 5, 6]);
+    let mut stopped = before.row(0);
+    stopped[STATUS] = FINISHED;
+    assert_eq!(lent.row(0), stopped);
     assert_eq!(lent.tally, Tally { made: 4, held: 2, steps: 9000 });
 }
 
@@ -508,7 +512,7 @@ fn paths_decide_cycles() {
     let mut seen = [0; 2];
     for _ in 0..4000 {
         let n = 2 + dice.below(9);
-        let edges: Vec<[u32; 2]> = (0..dice.below(2 * n)).map(|_| [dice.below(n) as u32, dice.below(n) as u32]).collect();
+        let edges: Vec<Edge> = (0..dice.below(2 * n)).map(|_| [dice.below(n) as u32, dice.below(n) as u32]).collect();
         let mut statuses = vec![1; n];
         statuses[0] = 3;
         let lent = graph(&statuses, &edges, 1);
@@ -539,7 +543,7 @@ fn paths_decide_cycles() {
 
 #[test]
 fn long_paths() {
-    let chain: Vec<[u32; 2]> = (1..1023).map(|v| [v, v + 1]).collect();
+    let chain: Vec<Edge> = (1..1023).map(|v| [v, v + 1]).collect();
     let mut statuses = vec![1; 1024];
     statuses[0] = 3;
     let mut lent = graph(&statuses, &chain, 2);
@@ -577,8 +581,8 @@ fn step_refuses_in_order() {
         (0, 0, Answer::Job { number: 1, offset: 0 }),
     ] {
         let mut lent = lent.clone();
-        lent.vertices[1] = place;
-        lent.vertices[3] = phase;
+        lent.vertices[PLACE] = place;
+        lent.vertices[PHASE] = phase;
         assert_eq!(lent.step(&program, 0), answer);
     }
     let mut late = lent.clone();
@@ -587,9 +591,9 @@ fn step_refuses_in_order() {
     assert_eq!(late.lowest(&program), Lowest::Refused { number: 12, place: 0 });
     assert_eq!(late.run(&program, 0), Run { ending: Ending::Refused { number: 12, place: 0 }, last: None, taken: 0 });
     // A new or a finished vertex.
-    lent.vertices[0] = 1;
+    lent.vertices[STATUS] = NEW;
     assert_eq!(lent.step(&program, 0), refusal(22, 0));
-    lent.vertices[0] = 4;
+    lent.vertices[STATUS] = FINISHED;
     assert_eq!(lent.step(&program, 0), refusal(23, 0));
 }
 
@@ -622,7 +626,7 @@ fn any_schedule_takes_the_full_count() {
         assert_eq!(lent.load(&program), Answer::Ready);
         let mut jobs = 0;
         let mut accepted = 0;
-        while lent.vertices.chunks(7).take(lent.tally.made as usize).any(|row| row[0] != 4) {
+        while lent.vertices.chunks(VERTEX_WORDS).take(lent.tally.made as usize).any(|row| row[STATUS] != FINISHED) {
             assert_ne!(lent.lowest(&program), Lowest::NoVertex);
             let vertex = dice.below(lent.tally.made as usize) as u32;
             let before = lent.clone();
@@ -667,7 +671,7 @@ fn plain_lowest(lent: &Lent, program: &[u8]) -> Option<u32> {
 fn plain_run(lent: &mut Lent, program: &[u8], budget: u32) -> Run {
     let mut run = Run { ending: Ending::Done, last: None, taken: 0 };
     loop {
-        if lent.vertices.chunks(7).take(lent.tally.made as usize).all(|row| row[0] == 4) {
+        if lent.vertices.chunks(VERTEX_WORDS).take(lent.tally.made as usize).all(|row| row[STATUS] == FINISHED) {
             return run;
         }
         let Some(v) = plain_lowest(lent, program) else {
@@ -714,12 +718,12 @@ fn any_words_are_answered() {
         let held = dice.below(8);
         let mut lent = Lent::rows(made + dice.below(6), held + dice.below(5));
         for (i, w) in lent.vertices.iter_mut().enumerate() {
-            *w = match i % 7 {
-                0 if dice.one_in(300) => dice.roll() as u32,
-                0 => 1 + dice.below(4) as u32,
-                1 if dice.one_in(20) => word(&mut dice, program.len()),
-                1 => places[dice.below(places.len())],
-                3 => word(&mut dice, 9),
+            *w = match i % VERTEX_WORDS {
+                STATUS if dice.one_in(300) => dice.roll() as u32,
+                STATUS => 1 + dice.below(4) as u32,
+                PLACE if dice.one_in(20) => word(&mut dice, program.len()),
+                PLACE => places[dice.below(places.len())],
+                PHASE => word(&mut dice, 9),
                 _ if dice.one_in(10) => word(&mut dice, made + 1),
                 _ => dice.below(made) as u32,
             };
@@ -727,8 +731,8 @@ fn any_words_are_answered() {
         for w in &mut lent.edges {
             *w = if dice.one_in(200) { dice.roll() as u32 } else { dice.below(made) as u32 };
         }
-        lent.vertices.extend(vec![3; dice.below(7)]);
-        lent.edges.extend(vec![3; dice.below(2)]);
+        lent.vertices.extend(vec![3; dice.below(VERTEX_WORDS)]);
+        lent.edges.extend(vec![3; dice.below(EDGE_WORDS)]);
         lent.tally = Tally { made: made as u32, held: held as u32, steps: 0 };
         if dice.one_in(20) {
             lent.tally.steps = 8180 + dice.below(14) as u32;
