@@ -1,10 +1,16 @@
 // Document 01's examples at the limits, each run to its end on tables of 1,024 rows, and a vertex altered to a place inside a number.
 use crate::show;
 use crate::turns::ran;
+use cases::number;
+use cases::text;
 use engine::load::load_by_value;
 use engine::steps::step_by_value;
 use graph::Tally;
+use graph::rows::EDGE_TABLE;
+use graph::rows::EDGE_WORDS;
 use graph::rows::PLACE;
+use graph::rows::VERTEX_TABLE;
+use graph::rows::VERTEX_WORDS;
 ghost use Prim.Native.Nat.{_*_, _≤_};
 ghost use lib.ListN.{length};
 
@@ -23,7 +29,7 @@ fn asyncs(count: usize, apart: usize)
 {
     let mut program = [0u8; 4096];
     place(&mut program, count, apart);
-    show::number(b"asyncs ", count as u32);
+    number(b"asyncs ", count as u32);
     to_the_end(&program[..2 * count + 1]);
 }
 
@@ -38,8 +44,8 @@ fn place(program: &mut [u8], count: usize, apart: usize)
 }
 
 fn to_the_end(program: &[u8]) {
-    let mut vertices = [0u32; 7168];
-    let mut edges = [0u32; 2048];
+    let mut vertices = [0u32; VERTEX_TABLE];
+    let mut edges = [0u32; EDGE_TABLE];
     let none = Tally {
         made: 0,
         held: 0,
@@ -48,7 +54,7 @@ fn to_the_end(program: &[u8]) {
     let loaded = load_by_value(program, &mut vertices, &mut edges, none);
     let answer = loaded.answer;
     let tally = loaded.tally;
-    show::text(b": ");
+    text(b": ");
     show::answer(answer);
     show::left(tally, &vertices, &edges);
     ran(program, &mut vertices, &mut edges, tally, 8192);
@@ -57,8 +63,8 @@ fn to_the_end(program: &[u8]) {
 // In `01 01 00` nothing starts at 1.
 fn altered() {
     let program = [1u8, 1, 0];
-    let mut vertices = [0u32; 14];
-    let mut edges = [0u32; 2];
+    let mut vertices = [0u32; 2 * VERTEX_WORDS];
+    let mut edges = [0u32; EDGE_WORDS];
     let none = Tally {
         made: 0,
         held: 0,
@@ -72,7 +78,7 @@ fn altered() {
     let done = step_by_value(&program, &mut vertices, &mut edges, tally, 0);
     let answer = done.answer;
     let after = done.tally;
-    show::text(b"altered: ");
+    text(b"altered: ");
     show::answer(answer);
     show::left(after, &vertices, &edges);
     ran(&program, &mut vertices, &mut edges, after, 5);

@@ -1,5 +1,9 @@
 // The programs, each on tables of its own.
 use crate::turns;
+use graph::rows::EDGE_WORDS;
+use graph::rows::EXECUTING;
+use graph::rows::STATUS;
+use graph::rows::VERTEX_WORDS;
 ghost use Prim.Native.Nat.{_≤_};
 
 // Each program behind four numbers: its length, the vertex rows and the edge rows lent, and how many tables it is tried on.
@@ -325,16 +329,16 @@ fn on_tables(program: &[u8], vertex_rows: u8, edge_rows: u8, tables: u8) {
 
 // Behind the last row some words more are lent.
 fn one(program: &[u8], vertex_rows: usize, edge_rows: usize, seed: u64) {
-    let mut vertices = [0u32; 283];
-    let mut edges = [0u32; 41];
+    let mut vertices = [0u32; 40 * VERTEX_WORDS + 3];
+    let mut edges = [0u32; 20 * EDGE_WORDS + 1];
     words(&mut vertices, seed);
     words(&mut edges, seed);
     lend(
         program,
         &mut vertices,
         &mut edges,
-        vertex_rows % 256 * 7 + 3,
-        edge_rows % 256 * 2 + 1,
+        vertex_rows % 256 * VERTEX_WORDS + 3,
+        edge_rows % 256 * EDGE_WORDS + 1,
     );
 }
 
@@ -343,7 +347,7 @@ fn words(table: &mut [u32], seed: u64) {
     let mut drawn = seed;
     for i in 0..table.len() {
         drawn = (drawn % 2147483648 * 1103515245 + 12345) % 2147483648;
-        table[i] = word(drawn / 4096 % 40, i % 7 == 0);
+        table[i] = word(drawn / 4096 % 40, i % VERTEX_WORDS == STATUS);
     }
 }
 
@@ -352,7 +356,7 @@ fn word(drawn: u64, status: bool) -> u32 {
         return (drawn % 5) as u32;
     }
     if drawn % 2 == 0 {
-        3
+        EXECUTING
     } else {
         (drawn / 2 % 4 + 1) as u32
     }

@@ -1,12 +1,17 @@
 // Drawn programs, each stepped in several orders until it has taken all its steps. The order of its jobs is written down.
 use crate::show;
 use crate::turns::ran;
+use cases::number;
+use cases::program_line;
+use cases::text;
 use engine::Answer;
 use engine::Lowest;
 use engine::load::load_by_value;
 use engine::look::lowest_vertex;
 use engine::steps::step_by_value;
 use graph::Tally;
+use graph::rows::EDGE_WORDS;
+use graph::rows::VERTEX_WORDS;
 use program::ProgramRead;
 use program::reading::read;
 use program::reading::steps;
@@ -26,7 +31,7 @@ fn one(seed: u64) {
 }
 
 fn in_each_order(program: &[u8], seed: u64) {
-    show::bytes(program);
+    program_line(program);
     let needed = steps_needed(program);
     for order in 0..5u32 {
         in_order(program, seed, order, needed);
@@ -125,8 +130,8 @@ fn job(program: &mut [u8], at: usize, drawn: u64) -> usize
 }
 
 fn in_order(program: &[u8], seed: u64, order: u32, needed: u64) {
-    let mut vertices = [0u32; 2100];
-    let mut edges = [0u32; 600];
+    let mut vertices = [0u32; 300 * VERTEX_WORDS];
+    let mut edges = [0u32; 300 * EDGE_WORDS];
     let none = Tally {
         made: 0,
         held: 0,
@@ -134,7 +139,7 @@ fn in_order(program: &[u8], seed: u64, order: u32, needed: u64) {
     };
     let loaded = load_by_value(program, &mut vertices, &mut edges, none);
     let begun = loaded.tally;
-    show::number(b"order ", order);
+    number(b"order ", order);
     if order == 4 {
         runs(program, &mut vertices, &mut edges, begun, needed);
     } else {
@@ -163,7 +168,7 @@ fn turns(
     let mut now = begun;
     let mut drawn = seed;
     let mut refused: u32 = 0;
-    show::text(b" jobs");
+    text(b" jobs");
     for turn in 0..30000u32 {
         if (now.steps as u64) == needed {
             break;
@@ -175,7 +180,7 @@ fn turns(
         now = done.tally;
         refused = refused % 65536 + written(answer);
     }
-    show::number(b" refused ", refused);
+    number(b" refused ", refused);
     show::left(now, vertices, edges);
 }
 
@@ -229,8 +234,8 @@ fn written(answer: Answer) -> u32
         Answer::Edge(a, b) => 0,
         Answer::Release(v) => 0,
         Answer::Transfer(v) => 0,
-        Answer::Job { number, offset } => {
-            show::number(b" ", offset);
+        Answer::Job { number: _, offset } => {
+            number(b" ", offset);
             0
         }
         Answer::Stop => 0,
@@ -241,7 +246,7 @@ fn written(answer: Answer) -> u32
 // Runs with budgets from 0 to 16.
 fn runs(program: &[u8], vertices: &mut [u32], edges: &mut [u32], begun: Tally, needed: u64) {
     let mut now = begun;
-    show::text(b" runs\n");
+    text(b" runs\n");
     for turn in 0..300u32 {
         now = ran(program, vertices, edges, now, turn * 5 % 17);
         if (now.steps as u64) == needed {

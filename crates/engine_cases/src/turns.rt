@@ -1,6 +1,9 @@
 // The turns of a program. Each accepted step has a line; the refused ones are counted by their numbers, and all that they left and
 // were answered goes into one sum.
 use crate::show;
+use cases::number;
+use cases::program_line;
+use cases::text;
 use engine::Answer;
 use engine::Lowest;
 use engine::load::load_by_value;
@@ -10,7 +13,7 @@ use engine::steps::step_by_value;
 use graph::Tally;
 
 pub(crate) fn run(program: &[u8], vertices: &mut [u32], edges: &mut [u32]) {
-    show::bytes(program);
+    program_line(program);
     let before = Tally {
         made: 5,
         held: 6,
@@ -34,13 +37,13 @@ fn loaded(program: &[u8], vertices: &mut [u32], edges: &mut [u32], tally: Tally)
 }
 
 fn lowest(found: Lowest) {
-    show::text(b"lowest ");
+    text(b"lowest ");
     match found {
-        Lowest::Vertex(v) => show::number(b"", v),
-        Lowest::NoVertex => show::text(b"none"),
+        Lowest::Vertex(v) => number(b"", v),
+        Lowest::NoVertex => text(b"none"),
         Lowest::Refused(r) => show::refusal(r),
     }
-    show::text(b"\n");
+    text(b"\n");
 }
 
 // A run, whose tally it hands on.
@@ -77,7 +80,7 @@ fn all(
         count(counts, refusal(answer));
     }
     all_counts(counts);
-    show::number(b" sum ", (sum % 1000003) as u32);
+    number(b" sum ", (sum % 1000003) as u32);
     show::left(now, vertices, edges);
     now
 }
@@ -112,13 +115,13 @@ fn after(
 ) -> u64 {
     let refused = refusal(answer);
     if refused == 0 {
-        show::number(b"", vertex);
-        show::text(b" ");
+        number(b"", vertex);
+        text(b" ");
         show::answer(answer);
         show::left(tally, vertices, edges);
         return sum;
     }
-    let tables = (show::sum(vertices) as u64) + (show::sum(edges) as u64);
+    let tables = (cases::sum(vertices) as u64) + (cases::sum(edges) as u64);
     let numbers = (tally.made as u64) + (tally.held as u64) + (tally.steps as u64);
     (sum % 1000003 * 31 + refused % 1000003 + (vertex as u64) * 64 + tables + numbers) % 1000003
 }
@@ -132,11 +135,11 @@ fn count(counts: &mut [u32], refused: u64) {
 
 // Accepted steps stand under 0.
 fn all_counts(counts: &[u32]) {
-    show::text(b"counts");
+    text(b"counts");
     for i in 0..counts.len() {
         if 0 < counts[i] {
-            show::number(b" ", (i % 65536) as u32);
-            show::number(b":", counts[i]);
+            number(b" ", (i % 65536) as u32);
+            number(b":", counts[i]);
         }
     }
 }

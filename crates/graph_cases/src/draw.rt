@@ -1,6 +1,10 @@
 // Draws words: the same for the same seed.
 use graph::Command;
 use graph::Tally;
+use graph::rows::EDGE_WORDS;
+use graph::rows::EXECUTING;
+use graph::rows::STATUS;
+use graph::rows::USABLE_LIMIT;
 ghost use Prim.Native.Nat.{_≤_};
 
 pub struct Draw {
@@ -52,8 +56,8 @@ pub(crate) fn words(table: &mut [u32], d: Draw, low: u32) -> Draw
 
 // Vertex 0 is mostly executing.
 pub(crate) fn mostly_executing(vertices: &mut [u32], seed: u32) {
-    if seed % 4 != 0 && 0 < vertices.len() {
-        vertices[0] = 3;
+    if seed % 4 != 0 && STATUS < vertices.len() {
+        vertices[STATUS] = EXECUTING;
     }
 }
 
@@ -111,6 +115,6 @@ pub(crate) fn command(d: Draw) -> Command {
 // The edges 1 → 2, 2 → 3, .. in as many rows as there are.
 pub(crate) fn path(edges: &mut [u32]) {
     for i in 0..edges.len() {
-        edges[i] = ((i / 2 + i % 2 + 1) % 1024) as u32;
+        edges[i] = ((i / EDGE_WORDS + i % EDGE_WORDS + 1) % USABLE_LIMIT) as u32;
     }
 }

@@ -5,7 +5,14 @@ mod draw;
 mod script;
 mod show;
 
+use cases::text;
 use graph::Tally;
+use graph::rows::EDGE_TABLE;
+use graph::rows::EDGE_WORDS;
+use graph::rows::EXECUTING;
+use graph::rows::STATUS;
+use graph::rows::VERTEX_TABLE;
+use graph::rows::VERTEX_WORDS;
 
 fn none() -> Tally {
     Tally {
@@ -25,45 +32,45 @@ fn main() {
 }
 
 fn bare() {
-    let mut vertices = [77u32; 23];
-    let mut edges = [77u32; 9];
-    show::text(b"bare\n");
+    let mut vertices = [77u32; 3 * VERTEX_WORDS + 2];
+    let mut edges = [77u32; 4 * EDGE_WORDS + 1];
+    text(b"bare\n");
     script::run(&mut vertices, &mut edges, none(), &script::BARE);
 }
 
 fn full() {
-    let mut vertices = [77u32; 30];
-    let mut edges = [77u32; 7];
-    show::text(b"full\n");
+    let mut vertices = [77u32; 4 * VERTEX_WORDS + 2];
+    let mut edges = [77u32; 3 * EDGE_WORDS + 1];
+    text(b"full\n");
     script::run(&mut vertices, &mut edges, none(), &script::FULL);
 }
 
 fn short() {
-    let mut vertices = [2u32; 6];
-    let mut edges = [2u32; 1];
-    show::text(b"short\n");
+    let mut vertices = [2u32; VERTEX_WORDS - 1];
+    let mut edges = [2u32; EDGE_WORDS - 1];
+    text(b"short\n");
     script::run(&mut vertices, &mut edges, none(), &script::SHORT);
 }
 
 fn long() {
-    let mut vertices = [3u32; 7190];
-    let mut edges = [1u32; 2055];
-    show::text(b"long\n");
+    let mut vertices = [3u32; VERTEX_TABLE + 22];
+    let mut edges = [1u32; EDGE_TABLE + 7];
+    text(b"long\n");
     script::run(&mut vertices, &mut edges, none(), &script::LONG);
 }
 
 // 1,024 vertices, the first executing, with the edges 1 → 2 → .. → 1,023.
 fn path() {
-    let mut vertices = [1u32; 7168];
-    let mut edges = [0u32; 2048];
-    vertices[0] = 3;
+    let mut vertices = [1u32; VERTEX_TABLE];
+    let mut edges = [0u32; EDGE_TABLE];
+    vertices[STATUS] = EXECUTING;
     draw::path(&mut edges);
-    show::text(b"path\n");
+    text(b"path\n");
     script::run(&mut vertices, &mut edges, none(), &script::PATH);
 }
 
 fn all_drawn() {
-    show::text(b"drawn\n");
+    text(b"drawn\n");
     for seed in 0..600 {
         drawn(seed);
     }
@@ -71,8 +78,8 @@ fn all_drawn() {
 
 // Small tables of drawn words and lengths, a drawn tally and a drawn command.
 fn drawn(seed: u32) {
-    let mut vertices = [0u32; 32];
-    let mut edges = [0u32; 10];
+    let mut vertices = [0u32; 4 * VERTEX_WORDS + 4];
+    let mut edges = [0u32; 5 * EDGE_WORDS];
     let d = draw::words(&mut vertices, draw::begin(seed), 1);
     draw::mostly_executing(&mut vertices, seed);
     let d = draw::words(&mut edges, d, 0);

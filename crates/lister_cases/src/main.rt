@@ -1,11 +1,8 @@
 // Lists some programs, each behind a line with its bytes. tests/lister_cases.py computes the same lines from a model of its own; `stdout`
 // holds them.
-use engine::next::STEP_LIMIT;
-use libc::STDOUT_FILENO;
-use listing::LINE_BYTES;
-use listing::Line;
-use listing::first_line;
-use listing::next_line;
+use cases::program_line;
+use cases::text;
+use listing::out::list;
 
 fn main() {
     each(b"\x05");
@@ -18,9 +15,7 @@ fn main() {
 }
 
 fn each(program: &[u8]) {
-    text(b"program");
-    bytes(program);
-    text(b"\n");
+    program_line(program);
     list(program);
 }
 
@@ -28,39 +23,4 @@ fn too_long() {
     let program = [0u8; 4097];
     text(b"program of 4097 bytes\n");
     list(&program);
-}
-
-fn bytes(program: &[u8]) {
-    for i in 0..program.len() {
-        hex(program[i]);
-    }
-}
-
-fn hex(byte: u8) {
-    text(b" ");
-    io::print_hex(STDOUT_FILENO, byte as u64, 2);
-}
-
-fn text(written: &[u8]) {
-    io::write_all(STDOUT_FILENO, written);
-}
-
-// As the program `lister` does it.
-fn list(program: &[u8]) {
-    let mut vertices = [0u32; 7168];
-    let mut edges = [0u32; 2048];
-    let mut line = [0u8; LINE_BYTES];
-    let mut given = first_line(program, &mut vertices, &mut edges, &mut line);
-    for turn in 0..STEP_LIMIT {
-        match given {
-            Line::Last { length } => {
-                text(&line[..length]);
-                return;
-            }
-            Line::Text { length, tally } => {
-                text(&line[..length]);
-                given = next_line(program, &mut vertices, &mut edges, tally, &mut line);
-            }
-        }
-    }
 }

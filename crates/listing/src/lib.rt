@@ -1,5 +1,6 @@
 // The lister, over lent tables: `first_line` loads a program and `next_line` steps its lowest vertex, and each hands out the line that a
 // program has to write then. specs/Lines.antt tells which lines these are.
+pub mod out;
 mod text;
 
 use crate::text::heading;

@@ -1,5 +1,6 @@
 // Document 01's programs, and some with every kind of item and of refusal.
 use crate::show;
+use cases::bytes;
 
 // Each program behind its length.
 const EXAMPLES: [u8; 159] = [
@@ -183,9 +184,7 @@ fn each(programs: &[u8]) {
 }
 
 fn one(program: &[u8]) {
-    for i in 0..program.len() {
-        show::hex(b" ", program[i]);
-    }
+    bytes(program);
     show::reading(program);
     for place in 0..program.len() + 1 {
         if place < 64 {

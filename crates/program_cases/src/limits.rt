@@ -1,5 +1,6 @@
 // The longest, deepest and largest programs, and those just past the limits.
 use crate::show;
+use cases::number;
 
 pub(crate) fn all() {
     nested(31, 63);
@@ -15,7 +16,7 @@ pub(crate) fn all() {
 fn nested(openers: u32, length: usize) {
     let mut bytes = [0u8; 4097];
     fill(&mut bytes, 0, openers, 1, 2);
-    show::number(b"nested ", openers);
+    number(b"nested ", openers);
     part(&bytes, length);
 }
 
@@ -31,7 +32,7 @@ fn openers(count: u32) {
 fn asyncs(count: u32, length: usize) {
     let mut bytes = [0u8; 4097];
     fill(&mut bytes, 0, count, 2, 2);
-    show::number(b"asyncs ", count);
+    number(b"asyncs ", count);
     part(&bytes, length);
 }
 
@@ -42,7 +43,7 @@ fn jobs(length: u32) {
     bytes[1] = 128;
     bytes[2] = 1;
     fill(&mut bytes, 3, 2046, 2, 1);
-    show::number(b"jobs in ", length);
+    number(b"jobs in ", length);
     part(&bytes, length as usize);
 }
 

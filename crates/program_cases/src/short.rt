@@ -1,6 +1,8 @@
 // Every program of one and of two bytes. Those that differ in their last byte only and are answered alike stand together, as
 // `first-last number place`; an accepted program has the number 0.
-use crate::show;
+use cases::hex;
+use cases::number;
+use cases::text;
 use program::ProgramRead;
 use program::reading::read;
 
@@ -19,7 +21,7 @@ fn one_byte() {
 fn two_bytes(first: u32) {
     let mut program = [0u8; 2];
     program[0] = (first % 256) as u8;
-    show::hex(b"", (first % 256) as u8);
+    hex(b"", (first % 256) as u8);
     last_bytes(&mut program);
 }
 
@@ -36,14 +38,14 @@ fn last_bytes(program: &mut [u8]) {
         }
     }
     alike(since, 255, before);
-    show::text(b"\n");
+    text(b"\n");
 }
 
 fn alike(first: u32, last: u32, answer: u64) {
-    show::hex(b" ", (first % 256) as u8);
-    show::hex(b"-", (last % 256) as u8);
-    show::number(b" ", (answer / 4294967296) as u32);
-    show::number(b" ", (answer % 4294967296) as u32);
+    hex(b" ", (first % 256) as u8);
+    hex(b"-", (last % 256) as u8);
+    number(b" ", (answer / 4294967296) as u32);
+    number(b" ", (answer % 4294967296) as u32);
 }
 
 // What the program is answered with this last byte: a refusal's number and place as one number.

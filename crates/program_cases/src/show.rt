@@ -1,23 +1,10 @@
 // Writes what reading answers.
-use libc::STDOUT_FILENO;
+use cases::number;
+use cases::text;
 use program::ItemRead;
 use program::ProgramRead;
 use program::items::item_at;
 use program::reading::read;
-
-pub(crate) fn text(bytes: &[u8]) {
-    io::write_all(STDOUT_FILENO, bytes);
-}
-
-pub(crate) fn number(before: &[u8], n: u32) {
-    text(before);
-    io::print_decimal(STDOUT_FILENO, n as u64);
-}
-
-pub(crate) fn hex(before: &[u8], byte: u8) {
-    text(before);
-    io::print_hex(STDOUT_FILENO, byte as u64, 2);
-}
 
 pub(crate) fn reading(program: &[u8]) {
     let answer = read(program);

@@ -6,17 +6,19 @@ use mathlib.Core.List.{List}
 use native.Mathlib.Omega.{arith}
 use lib.ListN.{length}
 use Rattle.io.specs.Counts.{Counts}
+use Rattle.graph.specs.Tables.{vertexTable, edgeTable}
+use Rattle.machine.specs.Stepping.{stepLimit}
 use Rattle.listing.specs.declared.Line.{Line}
 use Rattle.listing.specs.Lines.{lengthOf}
-use Rattle.lister.proofs.list.Statement.{statement}
-use Rattle.lister.proofs.list.Tie as tie
+use Rattle.listing.proofs.out.list.Statement.{statement}
+use Rattle.listing.proofs.out.list.Tie as tie
 
 abbrev Inv-loop : tie.InvT-loop
 Inv-loop program vertices₀ edges₀ line₀ given₀ turn₀ vertices edges line given turn =
-    (turn ≤ 8192) × (length vertices ≡ 7168) × (length edges ≡ 2048) × Counts (lengthOf given) line
+    (turn ≤ stepLimit) × (length vertices ≡ vertexTable) × (length edges ≡ edgeTable) × Counts (lengthOf given) line
 
 abbrev μ-loop : tie.MeasureT-loop
-μ-loop program vertices₀ edges₀ line₀ given₀ turn₀ vertices edges line given turn = 8192 - turn
+μ-loop program vertices₀ edges₀ line₀ given₀ turn₀ vertices edges line given turn = stepLimit - turn
 
 -- the length of a line by its case
 counted : {x y : Line} (line : List ℕ) → x ≡ y → Counts (lengthOf x) line → Counts (lengthOf y) line
