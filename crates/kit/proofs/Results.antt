@@ -1,4 +1,5 @@
--- The types of what the cores return, for the law of thin entries (crate graph, proofs/Thin): a `ReplyDone`, of which an export answers the `Reply`, and for a run a `RunReplyDone`, of which it answers the `RunReply`. The tally is graph's.
+-- The types of what the cores return, for the law of thin entries (crate graph, proofs/Thin): a `ReplyDone`, of which an export answers
+-- the `Reply`, and for a run a `RunReplyDone`, of which it answers the `RunReply`. The tally is graph's.
 use Rattle.graph.proofs.Thin.Results.{Results}
 use Rattle.kit.proofs.Reply as R
 use Rattle.kit.proofs.Reply.Laws as R′

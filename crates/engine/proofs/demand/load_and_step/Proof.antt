@@ -21,7 +21,9 @@ abbrev μ-loop : tie.MeasureT-loop
 
 -- the loading is refused
 returns : tie.Need-returns Inv-loop μ-loop
-returns c = refused-promise _ (c .before .before .before .before .before .before .before .load-by-value .ensures) (c .before .is-refusal .ensures) (c .if1 .taken)
+returns c =
+    refused-promise _ (c .before .before .before .before .before .before .before .load-by-value .ensures) (c .before .is-refusal .ensures)
+    (c .if1 .taken)
 
 loop-holds : tie.Need-loop-holds Inv-loop μ-loop
 loop-holds c = (omega arith, onward-none _ _ _, refl, refl)
@@ -37,14 +39,18 @@ add-i c = omega (arith, mul-step-by-value (c .before .before .before .before .be
 loop-again : tie.Need-loop-again Inv-loop μ-loop
 loop-again c = (
   omega arith,
-  onward-more (c .before .before .before .before .before .before .before .before .before .before .loop .inv .1) (c .before .before .before .before .before .before .before .before .before .loop-test .taken) (c .before .before .before .before .before .step-by-value .ensures),
+  onward-more (c .before .before .before .before .before .before .before .before .before .before .loop .inv .1)
+      (c .before .before .before .before .before .before .before .before .before .loop-test .taken)
+      (c .before .before .before .before .before .step-by-value .ensures),
   omega arith,
   omega arith,
 )
 
 -- all are stepped
 returns-2 : tie.Need-returns-2 Inv-loop μ-loop
-returns-2 c = keeps-promise (c .before .before .before .before .before .before .before .before .before .load-by-value .ensures) (c .before .before .before .is-refusal .ensures) (c .before .before .if1 .left) (c .before .loop .inv .1) (c .loop-test .left)
+returns-2 c =
+    keeps-promise (c .before .before .before .before .before .before .before .before .before .load-by-value .ensures)
+    (c .before .before .before .is-refusal .ensures) (c .before .before .if1 .left) (c .before .loop .inv .1) (c .loop-test .left)
 
 pub load-and-step-spec : {M : Type 1} → statement M
 load-and-step-spec = tie.close (tie.spec Inv-loop

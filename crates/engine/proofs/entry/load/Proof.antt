@@ -1,4 +1,5 @@
--- `load` meets its contract, by the law of thin entries over `load_by_value`, with a program and the tables (crate graph, proofs/Thin/Passing.antt). What the law is told: the types of the results, and the relation that both contracts ensure.
+-- `load` meets its contract, by the law of thin entries over `load_by_value`, with a program and the tables (crate graph,
+-- proofs/Thin/Passing.antt). What the law is told: the types of the results, and the relation that both contracts ensure.
 -- Assumes nothing.
 use Rattle.graph.proofs.Thin.Passing.{program-meets}
 use Rattle.machine.specs.Traces.{Loaded}
@@ -14,4 +15,5 @@ use Rattle.engine.proofs.entry.load.Code as code
 pub load-spec : {M : Type 1} → stated.statement M
 unfolding code.routine
 load-spec 𝓤 H 𝓜 𝓖 𝓡 =
-    program-meets results (λ program s answer. Loaded program s (said answer)) 𝓤 H 𝓜 𝓖 𝓡 code.env #load #core core-def.routine (code.unfolded 𝓤 H 𝓜 𝓡) code.calls-engine·load·load-by-value (core-thm.met 𝓤 H 𝓜 𝓖 𝓡)
+    program-meets results (λ program s answer. Loaded program s (said answer)) 𝓤 H 𝓜 𝓖 𝓡 code.env #load #core core-def.routine (code.unfolded 𝓤 H 𝓜 𝓡)
+    code.calls-engine·load·load-by-value (core-thm.met 𝓤 H 𝓜 𝓖 𝓡)

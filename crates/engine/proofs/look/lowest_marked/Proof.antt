@@ -52,7 +52,8 @@ module _ (c : tie.In-loop Inv-loop μ-loop) where
 -- one that may step can as was seen
 seen :
     (c : tie.After-would-take Inv-loop μ-loop)
-    → canStep (start (c .before .before .before .before .before) .args .program .now) (tables (c .before .before .before .before .before)) (vertex (c .before .before .before .before .before))
+    → canStep (start (c .before .before .before .before .before) .args .program .now) (tables (c .before .before .before .before .before))
+    (vertex (c .before .before .before .before .before))
     ≡ c .would-take .result
 seen c =
     let turn = c .before .before .before .before .before in

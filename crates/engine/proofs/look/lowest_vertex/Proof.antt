@@ -25,7 +25,8 @@ lowest-marked-requires c κs = (
 returns-3 : tie.Need-returns-3
 returns-3 c =
     choice-looks _ _
-    (answered-yes (c .before .before .before .before .before .before .before .before .is-sound .ensures) (c .before .before .before .before .before .before .before .if1 .left))
+    (answered-yes (c .before .before .before .before .before .before .before .before .is-sound .ensures)
+    (c .before .before .before .before .before .before .before .if1 .left))
     (c .before .before .before .before .before .if2 .left)
     (c .lowest-marked .ensures)
 

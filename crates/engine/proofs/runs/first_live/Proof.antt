@@ -16,7 +16,9 @@ loop-holds : tie.Need-loop-holds Inv-loop μ-loop
 loop-holds c = (omega arith, λ u lt. absurd (omega arith))
 
 loop-again : tie.Need-loop-again Inv-loop μ-loop
-loop-again c = idle-more (c .before .before .before .before .before .args .vertices .now) _ _ (c .before .before .before .loop-test .taken) (c .before .before .before .before .loop .inv) (c .before .if1 .left) (c .if2 .left)
+loop-again c =
+    idle-more (c .before .before .before .before .before .args .vertices .now) _ _ (c .before .before .before .loop-test .taken)
+    (c .before .before .before .before .loop .inv) (c .before .if1 .left) (c .if2 .left)
 
 returns-3 : tie.Need-returns-3 Inv-loop μ-loop
 returns-3 c = idle-end (c .before .before .args .vertices .now) _ _ (c .loop-test .left) (c .before .loop .inv)

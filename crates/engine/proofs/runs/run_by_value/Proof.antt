@@ -25,7 +25,8 @@ abbrev μ-loop : tie.MeasureT-loop
 returns : tie.Need-returns Inv-loop μ-loop
 returns c =
     let refused = c .refused .ensures in
-    ran _ _ _ _ _ (unsound-run _ _ _ (sym (c .before .before .is-sound .ensures) ∙ not-true _ (c .before .if1 .taken))) (refused .0) (refused .1) (refused .2) (refused .3)
+    ran _ _ _ _ _ (unsound-run _ _ _ (sym (c .before .before .is-sound .ensures) ∙ not-true _ (c .before .if1 .taken))) (refused .0) (refused .1)
+    (refused .2) (refused .3)
 
 returns-2 : tie.Need-returns-2 Inv-loop μ-loop
 returns-2 c =
@@ -34,42 +35,65 @@ returns-2 c =
 
 loop-holds : tie.Need-loop-holds Inv-loop μ-loop
 loop-holds c =
-    let known = sym (c .before .before .before .before .before .before .is-sound .ensures) ∙ not-false _ (c .before .before .before .before .before .if1 .left) in
+    let known = sym (c .before .before .before .before .before .before .is-sound .ensures)
+    ∙ not-false _ (c .before .before .before .before .before .if1 .left) in
     (omega arith, refl, refl, known, run-starts _ _ _ known (c .before .before .before .if2 .left))
 
 take-lowest-requires : tie.Need-take-lowest-requires Inv-loop μ-loop
-take-lowest-requires c κs = (c .before .before .before .before .before .before .mark-starts .ensures .1, c .before .before .before .before .before .before .mark-starts .ensures .0, c .before .before .before .before .loop .inv .3)
+take-lowest-requires c κs = (
+  c .before .before .before .before .before .before .mark-starts .ensures .1,
+  c .before .before .before .before .before .before .mark-starts .ensures .0,
+  c .before .before .before .before .loop .inv .3,
+)
 
 at-rest-requires : tie.Need-at-rest-requires Inv-loop μ-loop
-at-rest-requires c κs = rest-rows _ _ _ _ _ _ (c .before .before .before .before .before .before .before .before .before .before .before .before .before .loop .inv .3) (c .before .before .before .before .before .before .before .before .take-lowest .ensures) (c .before .before .enum-told .given .1)
+at-rest-requires c κs =
+    rest-rows _ _ _ _ _ _ (c .before .before .before .before .before .before .before .before .before .before .before .before .before .loop .inv .3)
+    (c .before .before .before .before .before .before .before .before .take-lowest .ensures) (c .before .before .enum-told .given .1)
 
 same-length-5 : tie.Need-same-length-5 Inv-loop μ-loop
-same-length-5 c = c .before .before .before .before .before .before .before .before .before .before .take-lowest .kept .1 .1 .0 ∙ c .before .before .before .before .before .before .before .before .before .before .before .before .before .before .before .loop .inv .1
+same-length-5 c =
+    c .before .before .before .before .before .before .before .before .before .before .take-lowest .kept .1 .1 .0
+    ∙ c .before .before .before .before .before .before .before .before .before .before .before .before .before .before .before .loop .inv .1
 
 same-length-6 : tie.Need-same-length-6 Inv-loop μ-loop
-same-length-6 c = c .before .before .before .before .before .before .before .before .before .before .take-lowest .kept .1 .1 .1 .0 ∙ c .before .before .before .before .before .before .before .before .before .before .before .before .before .before .before .loop .inv .2
+same-length-6 c =
+    c .before .before .before .before .before .before .before .before .before .before .take-lowest .kept .1 .1 .1 .0
+    ∙ c .before .before .before .before .before .before .before .before .before .before .before .before .before .before .before .loop .inv .2
 
 returns-3 : tie.Need-returns-3 Inv-loop μ-loop
 returns-3 c =
     let ended = c .ended .ensures in
     ran _ _ _ _ _
-    (run-rests _ _ _ _ _ _ _ _ _ (c .before .before .before .before .before .before .before .before .before .before .before .before .before .before .before .loop .inv .4) (c .before .before .before .before .before .before .before .before .before .before .take-lowest .ensures) (c .before .before .before .before .enum-told .given .1) (c .before .at-rest .ensures))
+    (run-rests _ _ _ _ _ _ _ _ _
+    (c .before .before .before .before .before .before .before .before .before .before .before .before .before .before .before .loop .inv .4)
+    (c .before .before .before .before .before .before .before .before .before .before .take-lowest .ensures)
+    (c .before .before .before .before .enum-told .given .1) (c .before .at-rest .ensures))
     (ended .0) (ended .1) (ended .2) (ended .3)
 
 loop-again : tie.Need-loop-again Inv-loop μ-loop
 loop-again c =
     let turn =
-    run-turn _ _ _ _ _ _ _ (c .before .before .before .before .before .before .before .before .before .before .before .before .loop-test .taken) (c .before .before .before .before .before .before .before .before .before .before .before .before .before .loop .inv .3) (c .before .before .before .before .before .before .before .before .before .before .before .before .before .loop .inv .4) (c .before .before .before .before .before .before .before .before .take-lowest .ensures) (c .before .before .attempt .given .1)
+    run-turn _ _ _ _ _ _ _ (c .before .before .before .before .before .before .before .before .before .before .before .before .loop-test .taken)
+    (c .before .before .before .before .before .before .before .before .before .before .before .before .before .loop .inv .3)
+    (c .before .before .before .before .before .before .before .before .before .before .before .before .before .loop .inv .4)
+    (c .before .before .before .before .before .before .before .before .take-lowest .ensures) (c .before .before .attempt .given .1)
     in (
       omega arith,
-      c .before .before .before .before .before .before .before .before .take-lowest .kept .1 .1 .0 ∙ c .before .before .before .before .before .before .before .before .before .before .before .before .before .loop .inv .1,
-      c .before .before .before .before .before .before .before .before .take-lowest .kept .1 .1 .1 .0 ∙ c .before .before .before .before .before .before .before .before .before .before .before .before .before .loop .inv .2,
+      c .before .before .before .before .before .before .before .before .take-lowest .kept .1 .1 .0
+          ∙ c .before .before .before .before .before .before .before .before .before .before .before .before .before .loop .inv .1,
+      c .before .before .before .before .before .before .before .before .take-lowest .kept .1 .1 .1 .0
+          ∙ c .before .before .before .before .before .before .before .before .before .before .before .before .before .loop .inv .2,
       turn .0,
       turn .1,
     )
 
 when-used-requires : tie.Need-when-used-requires Inv-loop μ-loop
-when-used-requires c κs = (c .before .before .before .before .before .before .mark-starts .ensures .1, c .before .before .before .before .before .before .mark-starts .ensures .0, c .before .before .before .before .loop .inv .3)
+when-used-requires c κs = (
+  c .before .before .before .before .before .before .mark-starts .ensures .1,
+  c .before .before .before .before .before .before .mark-starts .ensures .0,
+  c .before .before .before .before .loop .inv .3,
+)
 
 same-length-7 : tie.Need-same-length-7 Inv-loop μ-loop
 same-length-7 c = c .before .before .before .before .before .before .loop .inv .1
@@ -80,7 +104,8 @@ same-length-8 c = c .before .before .before .before .before .before .loop .inv .
 returns-4 : tie.Need-returns-4 Inv-loop μ-loop
 returns-4 c =
     let ended = c .ended2 .ensures in
-    ran _ _ _ _ _ (run-used _ _ _ _ _ (c .before .before .before .before .before .loop-test .left) (c .before .before .before .before .before .before .loop .inv .4) (c .before .when-used .ensures)) (ended .0) (ended .1) (ended .2) (ended .3)
+    ran _ _ _ _ _ (run-used _ _ _ _ _ (c .before .before .before .before .before .loop-test .left)
+    (c .before .before .before .before .before .before .loop .inv .4) (c .before .when-used .ensures)) (ended .0) (ended .1) (ended .2) (ended .3)
 
 pub run-by-value-spec : {M : Type 1} → statement M
 run-by-value-spec = tie.close (tie.spec Inv-loop
@@ -107,7 +132,11 @@ run-by-value-spec = tie.close (tie.spec Inv-loop
     same-length-6
     returns-3
     (λ c. search needs)
-    (λ c. omega (arith, c .before .before .before .before .before .before .before .before .before .before .before .before .before .before .before .before .before .before .before .before .before .before .before .before .before .before .fits))
+    (λ c. omega (
+      arith,
+      c .before .before .before .before .before .before .before .before .before .before .before .before .before .before .before
+          .before .before .before .before .before .before .before .before .before .before .before .fits,
+    ))
     (λ c. omega arith)
     loop-again
     (λ c. search needs)

@@ -22,56 +22,124 @@ mark-blocked-requires : tie.Need-mark-blocked-requires Inv-loop μ-loop
 mark-blocked-requires c κs = (usable-rows _ (c .before .before .before .before .before .before .before .pre .2), refl)
 
 loop-holds : tie.Need-loop-holds Inv-loop μ-loop
-loop-holds c = (c .before .before .before .before .before .before .before .before .before .pre .4, refl, refl, c .before .before .before .before .before .before .before .before .before .pre .5)
+loop-holds c = (
+  c .before .before .before .before .before .before .before .before .before .pre .4,
+  refl,
+  refl,
+  c .before .before .before .before .before .before .before .before .before .pre .5,
+)
 
 slice-read-may-step : tie.Need-slice-read-may-step Inv-loop μ-loop
-slice-read-may-step c = omega (arith, sound-rows _ (c .before .before .before .before .before .before .before .before .before .before .before .before .pre .2), ap length (c .before .before .loop .inv .1))
+slice-read-may-step c =
+    omega (
+      arith,
+      sound-rows _ (c .before .before .before .before .before .before .before .before .before .before .before .before .pre .2),
+      ap length (c .before .before .loop .inv .1),
+    )
 
 array-read-may-step : tie.Need-array-read-may-step Inv-loop μ-loop
-array-read-may-step c = omega (arith, sound-rows _ (c .before .before .before .before .before .before .before .before .before .before .before .before .pre .2), c .before .before .before .before .mark-blocked .ensures .0)
+array-read-may-step c =
+    omega (
+      arith,
+      sound-rows _ (c .before .before .before .before .before .before .before .before .before .before .before .before .pre .2),
+      c .before .before .before .before .mark-blocked .ensures .0,
+    )
 
 loop-again : tie.Need-loop-again Inv-loop μ-loop
 loop-again c = (
   omega arith,
   c .before .before .before .before .loop .inv .1,
   c .before .before .before .before .loop .inv .2,
-  passed-by _ _ _ _ (c .before .before .before .before .before .before .mark-blocked .last .1 .1 .0) _ _ (c .before .before .before .before .before .before .before .before .before .before .before .before .before .before .pre .2) (c .before .before .before .before .loop .inv .1) (c .before .before .before .loop-test .taken) (c .before .before .before .before .before .before .mark-blocked .ensures) (c .before .may-step .ensures)
+  passed-by _ _ _ _ (c .before .before .before .before .before .before .mark-blocked .last .1 .1 .0) _ _
+      (c .before .before .before .before .before .before .before .before .before .before .before .before .before .before .pre .2)
+      (c .before .before .before .before .loop .inv .1) (c .before .before .before .loop-test .taken)
+      (c .before .before .before .before .before .before .mark-blocked .ensures) (c .before .may-step .ensures)
       (c .if1 .taken) (c .before .before .before .before .loop .inv .3),
 )
 
 marked-due-requires : tie.Need-marked-due-requires Inv-loop μ-loop
-marked-due-requires c κs = (c .before .before .before .before .before .before .before .before .before .before .before .before .before .before .before .pre .0, c .before .before .before .before .before .before .before .before .before .before .before .before .before .before .before .pre .1, omega (arith, sound-rows _ (c .before .before .before .before .before .before .before .before .before .before .before .before .before .before .before .pre .2), ap length (c .before .before .before .before .before .loop .inv .1)))
+marked-due-requires c κs = (
+  c .before .before .before .before .before .before .before .before .before .before .before .before .before .before .before .pre .0,
+  c .before .before .before .before .before .before .before .before .before .before .before .before .before .before .before .pre .1,
+  omega (
+    arith,
+    sound-rows _
+        (c .before .before .before .before .before .before .before .before .before .before .before .before .before .before .before .pre .2),
+    ap length (c .before .before .before .before .before .loop .inv .1),
+  ),
+)
 
 do-due-requires : tie.Need-do-due-requires Inv-loop μ-loop
 do-due-requires c κs =
-    is-due (c .before .before .before .before .before .before .before .before .before .before .before .before .before .before .before .before .before .before .args .program .now)
-    (due-here _ _ _ _ _ (c .before .before .before .before .before .before .before .before .before .before .mark-blocked .last .1 .1 .0) _ _ (c .before .before .before .before .before .before .before .before .before .before .before .before .before .before .before .before .before .before .pre .2) (c .before .before .before .before .before .before .before .before .loop .inv .1) (c .before .before .before .before .before .before .before .before .loop .inv .2) (c .before .before .before .before .before .before .before .before .before .before .before .before .before .before .before .before .before .before .pre .3) (c .before .before .before .before .before .before .before .loop-test .taken)
+    is-due (c .before .before .before .before .before .before .before .before .before .before .before .before .before .before .before .before .before
+    .before .args .program .now)
+    (due-here _ _ _ _ _ (c .before .before .before .before .before .before .before .before .before .before .mark-blocked .last .1 .1 .0) _ _
+    (c .before .before .before .before .before .before .before .before .before .before .before .before .before .before .before .before .before
+    .before .pre .2) (c .before .before .before .before .before .before .before .before .loop .inv .1)
+    (c .before .before .before .before .before .before .before .before .loop .inv .2)
+    (c .before .before .before .before .before .before .before .before .before .before .before .before .before .before .before .before .before
+    .before .pre .3) (c .before .before .before .before .before .before .before .loop-test .taken)
     (c .before .before .before .before .before .may-step .ensures) (c .before .before .before .before .if1 .left) (c .before .before .marked-due .ensures))
 
 same-length : tie.Need-same-length Inv-loop μ-loop
-same-length c = c .before .before .before .before .before .before .do-due .kept .0 ∙ ap length (c .before .before .before .before .before .before .before .before .before .before .before .before .before .before .before .loop .inv .1)
+same-length c =
+    c .before .before .before .before .before .before .do-due .kept .0
+    ∙ ap length (c .before .before .before .before .before .before .before .before .before .before .before .before .before .before .before .loop .inv
+    .1)
 
 same-length-2 : tie.Need-same-length-2 Inv-loop μ-loop
-same-length-2 c = c .before .before .before .before .before .before .do-due .kept .1 .0 ∙ ap length (c .before .before .before .before .before .before .before .before .before .before .before .before .before .before .before .loop .inv .2)
+same-length-2 c =
+    c .before .before .before .before .before .before .do-due .kept .1 .0
+    ∙ ap length (c .before .before .before .before .before .before .before .before .before .before .before .before .before .before .before .loop .inv
+    .2)
 
 returns : tie.Need-returns Inv-loop μ-loop
 returns c =
     let next =
-    due-here _ _ _ _ _ (c .before .before .before .before .before .before .before .before .before .before .before .before .before .before .before .before .before .mark-blocked .last .1 .1 .0) _ _ (c .before .before .before .before .before .before .before .before .before .before .before .before .before .before .before .before .before .before .before .before .before .before .before .before .before .pre .2) (c .before .before .before .before .before .before .before .before .before .before .before .before .before .before .before .loop .inv .1) (c .before .before .before .before .before .before .before .before .before .before .before .before .before .before .before .loop .inv .2) (c .before .before .before .before .before .before .before .before .before .before .before .before .before .before .before .before .before .before .before .before .before .before .before .before .before .pre .3) (c .before .before .before .before .before .before .before .before .before .before .before .before .before .before .loop-test .taken)
-    (c .before .before .before .before .before .before .before .before .before .before .before .before .may-step .ensures) (c .before .before .before .before .before .before .before .before .before .before .before .if1 .left) (c .before .before .before .before .before .before .before .before .before .marked-due .ensures)
+    due-here _ _ _ _ _ (c .before .before .before .before .before .before .before .before .before .before .before .before .before .before .before
+    .before .before .mark-blocked .last .1 .1 .0) _ _
+    (c .before .before .before .before .before .before .before .before .before .before .before .before .before .before .before .before .before .before
+    .before .before .before .before .before .before .before .pre .2)
+    (c .before .before .before .before .before .before .before .before .before .before .before .before .before .before .before .loop .inv .1)
+    (c .before .before .before .before .before .before .before .before .before .before .before .before .before .before .before .loop .inv .2)
+    (c .before .before .before .before .before .before .before .before .before .before .before .before .before .before .before .before .before .before
+    .before .before .before .before .before .before .before .pre .3)
+    (c .before .before .before .before .before .before .before .before .before .before .before .before .before .before .loop-test .taken)
+    (c .before .before .before .before .before .before .before .before .before .before .before .before .may-step .ensures)
+    (c .before .before .before .before .before .before .before .before .before .before .before .if1 .left)
+    (c .before .before .before .before .before .before .before .before .before .marked-due .ensures)
     in
-    taken-up _ _ _ _ _ _ _ _ _ _ _ (c .before .before .before .before .before .before .before .before .before .before .before .before .before .before .before .loop .inv .1) (c .before .before .before .before .before .before .before .before .before .before .before .before .before .before .before .loop .inv .2) (c .before .before .before .before .before .before .before .before .before .before .before .before .before .before .loop-test .taken) (c .before .before .before .before .before .before .do-due .ensures _ next)
-    (c .before .is-refusal .ensures) (c .if2 .taken) (c .before .before .before .before .before .before .before .before .before .before .before .before .before .before .before .loop .inv .3)
+    taken-up _ _ _ _ _ _ _ _ _ _ _
+    (c .before .before .before .before .before .before .before .before .before .before .before .before .before .before .before .loop .inv .1)
+    (c .before .before .before .before .before .before .before .before .before .before .before .before .before .before .before .loop .inv .2)
+    (c .before .before .before .before .before .before .before .before .before .before .before .before .before .before .loop-test .taken)
+    (c .before .before .before .before .before .before .do-due .ensures _ next)
+    (c .before .is-refusal .ensures) (c .if2 .taken)
+    (c .before .before .before .before .before .before .before .before .before .before .before .before .before .before .before .loop .inv .3)
 
 loop-again-2 : tie.Need-loop-again-2 Inv-loop μ-loop
 loop-again-2 c =
     let next =
-    due-here _ _ _ _ _ (c .before .before .before .before .before .before .before .before .before .before .before .before .before .before .before .before .before .mark-blocked .last .1 .1 .0) _ _ (c .before .before .before .before .before .before .before .before .before .before .before .before .before .before .before .before .before .before .before .before .before .before .before .before .before .pre .2) (c .before .before .before .before .before .before .before .before .before .before .before .before .before .before .before .loop .inv .1) (c .before .before .before .before .before .before .before .before .before .before .before .before .before .before .before .loop .inv .2) (c .before .before .before .before .before .before .before .before .before .before .before .before .before .before .before .before .before .before .before .before .before .before .before .before .before .pre .3) (c .before .before .before .before .before .before .before .before .before .before .before .before .before .before .loop-test .taken)
-    (c .before .before .before .before .before .before .before .before .before .before .before .before .may-step .ensures) (c .before .before .before .before .before .before .before .before .before .before .before .if1 .left) (c .before .before .before .before .before .before .before .before .before .marked-due .ensures)
+    due-here _ _ _ _ _ (c .before .before .before .before .before .before .before .before .before .before .before .before .before .before .before
+    .before .before .mark-blocked .last .1 .1 .0) _ _
+    (c .before .before .before .before .before .before .before .before .before .before .before .before .before .before .before .before .before .before
+    .before .before .before .before .before .before .before .pre .2)
+    (c .before .before .before .before .before .before .before .before .before .before .before .before .before .before .before .loop .inv .1)
+    (c .before .before .before .before .before .before .before .before .before .before .before .before .before .before .before .loop .inv .2)
+    (c .before .before .before .before .before .before .before .before .before .before .before .before .before .before .before .before .before .before
+    .before .before .before .before .before .before .before .pre .3)
+    (c .before .before .before .before .before .before .before .before .before .before .before .before .before .before .loop-test .taken)
+    (c .before .before .before .before .before .before .before .before .before .before .before .before .may-step .ensures)
+    (c .before .before .before .before .before .before .before .before .before .before .before .if1 .left)
+    (c .before .before .before .before .before .before .before .before .before .marked-due .ensures)
     in
     let kept =
-    turned-down _ _ _ _ _ _ _ _ _ _ _ (c .before .before .before .before .before .before .before .before .before .before .before .before .before .before .before .loop .inv .1) (c .before .before .before .before .before .before .before .before .before .before .before .before .before .before .before .loop .inv .2) (c .before .before .before .before .before .before .do-due .ensures _ next)
-    (c .before .is-refusal .ensures) (c .if2 .left) (c .before .before .before .before .before .before .before .before .before .before .before .before .before .before .before .loop .inv .3)
+    turned-down _ _ _ _ _ _ _ _ _ _ _
+    (c .before .before .before .before .before .before .before .before .before .before .before .before .before .before .before .loop .inv .1)
+    (c .before .before .before .before .before .before .before .before .before .before .before .before .before .before .before .loop .inv .2)
+    (c .before .before .before .before .before .before .do-due .ensures _ next)
+    (c .before .is-refusal .ensures) (c .if2 .left)
+    (c .before .before .before .before .before .before .before .before .before .before .before .before .before .before .before .loop .inv .3)
     in
     (omega arith, kept .0, kept .1, kept .2)
 

@@ -8,7 +8,8 @@ use mathlib.Core.Path.{_≡_}
 use native.Mathlib.Omega.{arith}
 
 abbrev Inv-loop : tie.InvT-loop
-Inv-loop program vertices₀ edges₀ needed now₀ turn₀ vertices edges now turn = (turn ≤ 300) × ((length vertices ≡ length vertices₀) × (length edges ≡ length edges₀))
+Inv-loop program vertices₀ edges₀ needed now₀ turn₀ vertices edges now turn =
+    (turn ≤ 300) × ((length vertices ≡ length vertices₀) × (length edges ≡ length edges₀))
 
 abbrev μ-loop : tie.MeasureT-loop
 μ-loop program vertices₀ edges₀ needed now₀ turn₀ vertices edges now turn = 300 - turn

@@ -8,7 +8,8 @@ use mathlib.Core.Path.{_≡_}
 use native.Mathlib.Omega.{arith}
 
 abbrev Inv-loop : tie.InvT-loop
-Inv-loop program vertices₀ edges₀ order seed needed now₀ drawn₀ refused₀ turn₀ t16 vertices edges now drawn refused turn = (turn ≤ 30000) × ((length vertices ≡ length vertices₀) × (length edges ≡ length edges₀))
+Inv-loop program vertices₀ edges₀ order seed needed now₀ drawn₀ refused₀ turn₀ t16 vertices edges now drawn refused turn =
+    (turn ≤ 30000) × ((length vertices ≡ length vertices₀) × (length edges ≡ length edges₀))
 
 abbrev μ-loop : tie.MeasureT-loop
 μ-loop program vertices₀ edges₀ order seed needed now₀ drawn₀ refused₀ turn₀ t16 vertices edges now drawn refused turn = 30000 - turn

@@ -7,7 +7,8 @@ use Rattle.graph_cases.proofs.script.run.Statement.{statement}
 use Rattle.graph_cases.proofs.script.run.Tie as tie
 
 abbrev Inv-loop : tie.InvT-loop
-Inv-loop vertices₀ edges₀ calls now₀ i₀ i-end vertices edges now i = (i ≤ i-end) × ((i-end ≡ length calls) × ((length vertices ≡ length vertices₀) × (length edges ≡ length edges₀)))
+Inv-loop vertices₀ edges₀ calls now₀ i₀ i-end vertices edges now i =
+    (i ≤ i-end) × ((i-end ≡ length calls) × ((length vertices ≡ length vertices₀) × (length edges ≡ length edges₀)))
 
 abbrev μ-loop : tie.MeasureT-loop
 μ-loop vertices₀ edges₀ calls now₀ i₀ i-end vertices edges now i = i-end - i

@@ -15,4 +15,7 @@ command-by-numbers-spec = tie.close (tie.spec
     (λ c. unknown-command _ (c .enum-told .given .1) (c .before .before .asked .ensures))
     (λ c. search needs)
     (λ c. search needs)
-    (λ c. commanded-as (c .before .before .before .before .before .command-by-value .result) (c .commanded .result) _ _ (c .before .before .before .before .before .command-by-value .ensures ∙ known-command _ (c .before .before .before .before .before .before .before .before .before .asked2 .given .1) (c .before .before .before .before .before .before .before .before .before .before .before .asked .ensures)) (c .commanded .ensures)))
+    (λ c. commanded-as (c .before .before .before .before .before .command-by-value .result) (c .commanded .result) _ _
+    (c .before .before .before .before .before .command-by-value .ensures ∙ known-command _
+    (c .before .before .before .before .before .before .before .before .before .asked2 .given .1)
+    (c .before .before .before .before .before .before .before .before .before .before .before .asked .ensures)) (c .commanded .ensures)))

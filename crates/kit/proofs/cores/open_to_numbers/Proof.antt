@@ -10,4 +10,5 @@ open-to-numbers-spec = tie.close (tie.spec
     (λ c κs. search needs)
     (λ c. search needs)
     (λ c. search needs)
-    (λ c. commanded-as (c .before .before .before .before .before .open-by-value .result) (c .commanded .result) _ _ (c .before .before .before .before .before .open-by-value .ensures) (c .commanded .ensures)))
+    (λ c. commanded-as (c .before .before .before .before .before .open-by-value .result) (c .commanded .result) _ _
+    (c .before .before .before .before .before .open-by-value .ensures) (c .commanded .ensures)))

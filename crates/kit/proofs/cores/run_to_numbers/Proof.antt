@@ -11,4 +11,6 @@ run-to-numbers-spec = tie.close (tie.spec
     (λ c κs. search needs)
     (λ c. search needs)
     (λ c. search needs)
-    (λ c. ran-as (c .before .before .before .before .before .before .before .before .run-by-value .result) (c .before .of-ending .result) (c .of-last .result) _ _ _ _ _ (c .before .before .before .before .before .before .before .before .run-by-value .ensures) (c .before .of-ending .ensures) (c .of-last .ensures)))
+    (λ c. ran-as (c .before .before .before .before .before .before .before .before .run-by-value .result) (c .before .of-ending .result)
+    (c .of-last .result) _ _ _ _ _ (c .before .before .before .before .before .before .before .before .run-by-value .ensures)
+    (c .before .of-ending .ensures) (c .of-last .ensures)))

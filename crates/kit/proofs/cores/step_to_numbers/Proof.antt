@@ -10,4 +10,6 @@ step-to-numbers-spec = tie.close (tie.spec
     (λ c κs. search needs)
     (λ c. search needs)
     (λ c. search needs)
-    (λ c. replied-as (c .before .before .before .before .before .step-by-value .result) (c .replied .result) _ _ (c .before .before .before .before .before .step-by-value .ensures .says) (c .before .before .before .before .before .step-by-value .ensures .leaves) (c .replied .ensures)))
+    (λ c. replied-as (c .before .before .before .before .before .step-by-value .result) (c .replied .result) _ _
+    (c .before .before .before .before .before .step-by-value .ensures .says)
+    (c .before .before .before .before .before .step-by-value .ensures .leaves) (c .replied .ensures)))

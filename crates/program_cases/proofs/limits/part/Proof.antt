@@ -6,4 +6,6 @@ use Rattle.program_cases.proofs.limits.part.Statement.{statement}
 use Rattle.program_cases.proofs.limits.part.Tie as tie
 
 pub part-spec : {M : Type 1} → statement M
-part-spec = tie.close (tie.spec (λ c. sym (length-take-le (c .before .before .before .args .length) (c .before .before .before .args .bytes .now) (c .before .if1 .taken))) (λ c κs. search needs) (λ c. search needs) (λ c. search needs))
+part-spec =
+    tie.close (tie.spec (λ c. sym (length-take-le (c .before .before .before .args .length) (c .before .before .before .args .bytes .now)
+    (c .before .if1 .taken))) (λ c κs. search needs) (λ c. search needs) (λ c. search needs))
