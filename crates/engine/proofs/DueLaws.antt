@@ -2,7 +2,7 @@
 -- for.
 use Prim.Native.Nat.{ℕ, _+_, _-_, _*_, _<_, _≤_}
 use mathlib.Core.Path.{_≡_, refl, sym, _∙_, ap}
-use mathlib.Core.Bool.{Bool, true, false, not, cond, true≢false}
+use mathlib.Core.Bool.{Bool, true, false, not, cond}
 use mathlib.Core.List.{List}
 use mathlib.Core.Logic.{⊎-elim}
 use native.Mathlib.Omega.{arith}
@@ -13,11 +13,10 @@ use Rattle.graph.specs.declared.Tally.{Tally}
 use Rattle.graph.specs.Tables.{Lent, lent, NEW, RELEASED, FINISHED, vertexWords, placeWord, scopeWord, phaseWord, madeWord, vertexWord, status}
 use Rattle.graph.specs.declared.Command.the-variants.{Start}
 use Rattle.graph.specs.Sound.{sound}
-use Rattle.graph.proofs.TestLaws.{decide, equal?, both-true, both-false-left, both-false-right, not-of-true, not-of-false}
+use Rattle.graph.proofs.TestLaws.{decide, both-true, both-false-left, both-false-right, not-of-true, not-of-false}
 use Rattle.graph.proofs.CallLaws.{answered-yes, answered-no}
 use Rattle.graph.proofs.SoundChecks.{sound-rows}
 use Rattle.program.specs.Limits.{programBytes}
-use Rattle.program.specs.Bytes.{asyncByte, finishByte, forkByte}
 use Rattle.program.specs.Answers.{Stands}
 use Rattle.program.specs.Located.{itemAt, startsAt, Marked}
 use Rattle.machine.specs.Stepping.{stepLimit, steppable, place, task}
@@ -25,9 +24,8 @@ use Rattle.machine.specs.Demand2 as machine
 use Rattle.machine.specs.Demand2.{Due, refusal-due, command-due, ownOf, nextAt, orRefused, due}
 use Rattle.engine.specs.declared.Own.{Own}
 use Rattle.engine.specs.Answers.{ownWords}
-use Rattle.engine.specs.Private.{OwnIn, DueThere, Next, NextAt, isTold, ToldNext}
-use Rattle.program.proofs.PlaceLaws.{starts-beyond, not-starting, first-tells}
-use Rattle.engine.proofs.NextLaws.{told-test-none}
+use Rattle.engine.specs.Private.{OwnIn, DueThere, Next, NextAt}
+use Rattle.program.proofs.PlaceLaws.{starts-beyond, not-starting}
 
 own-place : (s : Lent) (v : ℕ) (w : Own) → ownOf s v ≡ ownWords w → place s v ≡ w .place
 unfolding ownOf
@@ -45,34 +43,6 @@ next-nothing bytes v σ w made e = next-item bytes v σ w made e (λ s p q r. re
 
 pub next-unstarted : (bytes : List ℕ) (v σ : ℕ) (w : Own) (made : ℕ) → startsAt bytes (w .place) ≡ false → Next bytes v σ (ownWords w) made (refusal-due 13)
 next-unstarted bytes v σ w made h = next-nothing bytes v σ w made (sym (not-starting bytes (w .place) h))
-
--- where the item's first byte alone tells the command
-pub next-told :
-    (bytes : List ℕ) (first v σ : ℕ) (w : Own) (made : ℕ) {d : Due} → first ≡ getD bytes (w .place) 0 → startsAt bytes (w .place) ≡ true
-    → isTold first (w .phase) ≡ true → ToldNext first (length bytes - 1) v σ (ownWords w) made d → Next bytes v σ (ownWords w) made d
-next-told bytes first v σ w made {d} e is t told =
-    ⊎-elim (by-async (first-tells bytes (w .place) is .0))
-    (λ n1. ⊎-elim (by-finish (first-tells bytes (w .place) is .1))
-    (λ n2. ⊎-elim (by-fork (first-tells bytes (w .place) is .2))
-    (λ n3. absurd (true≢false (sym t ∙ sym (told-test-none first (w .phase) n1 n2 n3))))
-    (equal? first forkByte))
-    (equal? first finishByte))
-    (equal? first asyncByte)
-  where
-    by-async :
-        (getD bytes (w .place) 0 ≡ asyncByte → (past : ℕ) × (Stands.async (w .place + 1) past ≡ itemAt bytes (w .place)))
-        → first ≡ asyncByte → Next bytes v σ (ownWords w) made d
-    by-async tells f = let (past, at) = tells (sym e ∙ f) in next-item bytes v σ w made at (told .0 f past)
-
-    by-finish :
-        (getD bytes (w .place) 0 ≡ finishByte → (past : ℕ) × (Stands.finish (w .place + 1) past ≡ itemAt bytes (w .place)))
-        → first ≡ finishByte → Next bytes v σ (ownWords w) made d
-    by-finish tells f = let (past, at) = tells (sym e ∙ f) in next-item bytes v σ w made at (told .1 f past)
-
-    by-fork :
-        (getD bytes (w .place) 0 ≡ forkByte → (left right past : ℕ) × (Stands.fork left right past ≡ itemAt bytes (w .place)))
-        → first ≡ forkByte → Next bytes v σ (ownWords w) made d
-    by-fork tells f = let (left, right, past, at) = tells (sym e ∙ f) in next-item bytes v σ w made at (told .2 f left right past)
 
 -- what the mark of a place tells; beyond the marks nothing starts
 mark-is : (b : Bool) → eqb (cond b 1 0) 1 ≡ b

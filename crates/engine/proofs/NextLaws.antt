@@ -2,24 +2,22 @@
 -- The definition reads the tables; `from` says the same of the vertex's words alone, and computes where the phase is a numeral.
 use Prim.Native.Nat.{ℕ, zero, suc, _+_, _<_, _≤_}
 use mathlib.Core.Path.{_≡_, refl, sym, _∙_, ap}
-use mathlib.Core.Bool.{Bool, true, false}
 use mathlib.Core.List.{List, [], _∷_}
 use mathlib.Core.Option.{Option, none, some}
 use native.Mathlib.Omega.{arith}
-use lib.Dec.{eqb, ltb}
+use lib.Dec.{eqb}
 use lib.ListN.{length}
-use borrow.Author.Tests.{ne-eqb, ltb-true}
+use borrow.Author.Tests.{ne-eqb}
 use Rattle.graph.specs.Tables.{Lent}
 use Rattle.graph.specs.declared.Command as single
 use Rattle.graph.specs.declared.Command.the-variants.{NewTd, NewEdge, Release, Transfer, Stop}
 use Rattle.program.specs.Trees.{jobs, asyncs, finishes, forks}
-use Rattle.program.specs.Bytes.{asyncByte, finishByte, forkByte}
 use Rattle.program.specs.Encodings.{Name, own-scope, made-1, made-2, made-3, Spot, Command, perform, newTd, newEdge, transfer, release, Row, firstEdition, weight, makes}
 use Rattle.program.specs.Answers.{Stands}
 use Rattle.machine.specs.Answers.{unreadable}
 use Rattle.machine.specs.Stepping.{scope, named, Task, item, ends, nothing, spots, task, nth}
 use Rattle.machine.specs.Demand2.{Own, own, ownOf, withMade, withKept, withPhase, movedOn, Due, refusal-due, job-due, command-due, orRefused, filledIn, nextOf, nextAt}
-use Rattle.engine.specs.Private.{NextAt, EndNext, JobNext, AsyncNext, ForkNext, ForkLast, isTold, ToldNext}
+use Rattle.engine.specs.Private.{NextAt, EndNext, JobNext, AsyncNext, ForkNext, ForkLast}
 
 -- what a name stands for, by the vertex's scope and own words
 unfoldable namedFrom : ℕ → Own → Name → ℕ
@@ -279,112 +277,3 @@ pub fork-beyond :
 unfolding task firstEdition
 fork-beyond L v {p} {φ} {a} {b} {c} h0 h1 h2 h3 σ m left right past =
     told L v σ (own p φ a b c) m (Stands.fork left right past) (beyond v σ m 0 (firstEdition forks) (spots left right past L) p φ a b c (omega arith))
-
--- THE FIRST BYTE
--- the same is due at two items where the words alone give the same
-alike :
-    (L v σ : ℕ) (w : Own) (m : ℕ) (t t' : Stands) {d : Due} → from v σ w m (task L t) ≡ from v σ w m (task L t') → NextAt L v σ w m t d
-    → NextAt L v σ w m t' d
-alike L v σ w m t t' e h s hw hσ hm =
-    told L v σ w m t' (h s hw hσ hm ∙ at-is s v (task L t) ∙ (λ i. from v (hσ i) (hw i) (hm i) (task L t)) ∙ e) s hw hσ hm
-
--- the commands that go neither to a fork's bodies nor past the item
-async-alike :
-    (L v σ m body past past' p φ a b c : ℕ) → φ < 2
-    → from v σ (own p φ a b c) m (task L (Stands.async body past)) ≡ from v σ (own p φ a b c) m (task L (Stands.async body past'))
-unfolding from nextFrom filledFrom namedFrom task nth firstEdition spots movedOn withMade withKept withPhase weight makes
-async-alike L v σ m body past past' p zero a b c h = refl
-async-alike L v σ m body past past' p (suc zero) a b c h = refl
-async-alike L v σ m body past past' p (suc (suc φ)) a b c h = absurd (omega arith)
-
-finish-alike :
-    (L v σ m body past past' p φ a b c : ℕ) → 0 < φ
-    → from v σ (own p φ a b c) m (task L (Stands.finish body past)) ≡ from v σ (own p φ a b c) m (task L (Stands.finish body past'))
-unfolding from nextFrom filledFrom namedFrom task nth firstEdition spots movedOn withMade withKept withPhase weight makes
-finish-alike L v σ m body past past' p zero a b c h = absurd (omega arith)
-finish-alike L v σ m body past past' p (suc zero) a b c h = refl
-finish-alike L v σ m body past past' p (suc (suc zero)) a b c h = refl
-finish-alike L v σ m body past past' p (suc (suc (suc zero))) a b c h = refl
-finish-alike L v σ m body past past' p (suc (suc (suc (suc zero)))) a b c h = refl
-finish-alike L v σ m body past past' p (suc (suc (suc (suc (suc zero))))) a b c h = refl
-finish-alike L v σ m body past past' p (suc (suc (suc (suc (suc (suc φ)))))) a b c h = refl
-
-fork-alike :
-    (L v σ m left left' right right' past past' p φ a b c : ℕ) → 2 < φ
-    → from v σ (own p φ a b c) m (task L (Stands.fork left right past)) ≡ from v σ (own p φ a b c) m (task L (Stands.fork left' right' past'))
-unfolding from nextFrom filledFrom namedFrom task nth firstEdition spots movedOn withMade withKept withPhase weight makes
-fork-alike L v σ m l l' r r' past past' p zero a b c h = absurd (omega arith)
-fork-alike L v σ m l l' r r' past past' p (suc zero) a b c h = absurd (omega arith)
-fork-alike L v σ m l l' r r' past past' p (suc (suc zero)) a b c h = absurd (omega arith)
-fork-alike L v σ m l l' r r' past past' p (suc (suc (suc zero))) a b c h = refl
-fork-alike L v σ m l l' r r' past past' p (suc (suc (suc (suc zero)))) a b c h = refl
-fork-alike L v σ m l l' r r' past past' p (suc (suc (suc (suc (suc zero))))) a b c h = refl
-fork-alike L v σ m l l' r r' past past' p (suc (suc (suc (suc (suc (suc zero)))))) a b c h = refl
-fork-alike L v σ m l l' r r' past past' p (suc (suc (suc (suc (suc (suc (suc zero))))))) a b c h = refl
-fork-alike L v σ m l l' r r' past past' p (suc (suc (suc (suc (suc (suc (suc (suc zero)))))))) a b c h = refl
-fork-alike L v σ m l l' r r' past past' p (suc (suc (suc (suc (suc (suc (suc (suc (suc φ))))))))) a b c h = refl
-
--- the phases at which the first byte tells the command
-phase-async : (first φ : ℕ) → first ≡ asyncByte → isTold first φ ≡ true → φ < 2
-unfolding isTold
-phase-async first φ q h = ltb-true φ 2 (ap (λ (x : ℕ). isTold x φ) (sym q) ∙ h)
-
-phase-finish : (first φ : ℕ) → first ≡ finishByte → isTold first φ ≡ true → 0 < φ
-unfolding isTold
-phase-finish first φ q h = ltb-true 0 φ (ap (λ (x : ℕ). isTold x φ) (sym q) ∙ h)
-
-phase-fork : (first φ : ℕ) → first ≡ forkByte → isTold first φ ≡ true → 2 < φ
-unfolding isTold
-phase-fork first φ q h = ltb-true 2 φ (ap (λ (x : ℕ). isTold x φ) (sym q) ∙ h)
-
--- what is due then, by the first byte
-pub told-async :
-    (first L v σ m : ℕ) {p φ a b c : ℕ} {d : Due} → first ≡ asyncByte → isTold first φ ≡ true
-    → AsyncNext v σ (own p φ a b c) m (p + 1) 0 d → ToldNext first L v σ (own p φ a b c) m d
-told-async first L v σ m {p} {φ} {a} {b} {c} q t h = (
-  λ e past.
-      alike L v σ (own p φ a b c) m (Stands.async (p + 1) 0) (Stands.async (p + 1) past)
-      (async-alike L v σ m (p + 1) 0 past p φ a b c (phase-async first φ q t)) (h L),
-  λ e. absurd (omega arith),
-  λ e. absurd (omega arith),
-)
-
-pub told-finish :
-    (first L v σ m : ℕ) {p φ a b c : ℕ} {d : Due} → first ≡ finishByte → isTold first φ ≡ true
-    → NextAt L v σ (own p φ a b c) m (Stands.finish (p + 1) 0) d → ToldNext first L v σ (own p φ a b c) m d
-told-finish first L v σ m {p} {φ} {a} {b} {c} q t h = (
-  λ e. absurd (omega arith),
-  λ e past.
-      alike L v σ (own p φ a b c) m (Stands.finish (p + 1) 0) (Stands.finish (p + 1) past)
-      (finish-alike L v σ m (p + 1) 0 past p φ a b c (phase-finish first φ q t)) h,
-  λ e. absurd (omega arith),
-)
-
-pub told-fork :
-    (first L v σ m : ℕ) {p φ a b c : ℕ} {d : Due} → (first ≡ asyncByte → ⊥) → (first ≡ finishByte → ⊥) → isTold first φ ≡ true
-    → NextAt L v σ (own p φ a b c) m (Stands.fork 0 0 0) d → ToldNext first L v σ (own p φ a b c) m d
-told-fork first L v σ m {p} {φ} {a} {b} {c} n1 n2 t h = (
-  λ e. absurd (n1 e),
-  λ e. absurd (n2 e),
-  λ e left right past.
-      alike L v σ (own p φ a b c) m (Stands.fork 0 0 0) (Stands.fork left right past)
-      (fork-alike L v σ m 0 left 0 right 0 past p φ a b c (phase-fork first φ e t)) h,
-)
-
--- the tests of the code
-pub told-test-async : (first φ : ℕ) {r : Bool} → first ≡ asyncByte → r ≡ ltb φ 2 → r ≡ isTold first φ
-unfolding isTold
-told-test-async first φ q e = e ∙ ap (λ (x : ℕ). isTold x φ) (sym q)
-
-pub told-test-finish : (first φ : ℕ) {r : Bool} → first ≡ finishByte → r ≡ ltb 0 φ → r ≡ isTold first φ
-unfolding isTold
-told-test-finish first φ q e = e ∙ ap (λ (x : ℕ). isTold x φ) (sym q)
-
-pub told-test-fork : (first φ : ℕ) {r : Bool} → first ≡ forkByte → r ≡ ltb 2 φ → r ≡ isTold first φ
-unfolding isTold
-told-test-fork first φ q e = e ∙ ap (λ (x : ℕ). isTold x φ) (sym q)
-
-pub told-test-none :
-    (first φ : ℕ) → (first ≡ asyncByte → ⊥) → (first ≡ finishByte → ⊥) → (first ≡ forkByte → ⊥) → false ≡ isTold first φ
-unfolding isTold
-told-test-none first φ n1 n2 n3 = rw (ne-eqb first asyncByte n1, ne-eqb first finishByte n2, ne-eqb first forkByte n3) refl

@@ -5,14 +5,12 @@ use mathlib.Core.Path.{_≡_}
 use mathlib.Core.Bool.{Bool, true, false, cond}
 use mathlib.Core.List.{List}
 use mathlib.Core.Option.{Option, none, some}
-use lib.Dec.{eqb, ltb}
 use lib.ListN.{length, getD}
 use Rattle.graph.specs.Tables.{Lent, lent, RELEASED, EXECUTING, usableLimit, status, placeWord, phaseWord, madeWord, setVertexWord}
 use Rattle.graph.specs.Paths.{leadsInto}
 use Rattle.graph.specs.Answers as of-graph
 use Rattle.graph.specs.Commands.{hasStatus, command}
 use Rattle.graph.specs.declared.Command.the-variants.{Start}
-use Rattle.program.specs.Bytes.{asyncByte, finishByte, forkByte}
 use Rattle.program.specs.Answers.{Stands}
 use Rattle.program.specs.Located.{itemAt}
 use Rattle.machine.specs.Answers.{Said}
@@ -113,18 +111,3 @@ ForkNext v σ w made left right past d = (L : ℕ) → NextAt L v σ w made (Sta
 
 abbrev pub ForkLast : ℕ → ℕ → Own → Due → Type 0
 ForkLast L v w d = (σ made left right past : ℕ) → NextAt L v σ w made (Stands.fork left right past) d
-
--- an item's first byte alone tells the command at this phase: one that goes neither to a fork's right body nor past the item
-unfoldable pub isTold : ℕ → ℕ → Bool
-isTold first φ =
-    cond (eqb first asyncByte) (ltb φ 2)
-    (cond (eqb first finishByte) (ltb 0 φ)
-    (cond (eqb first forkByte) (ltb 2 φ)
-    false))
-
--- d is that command, whatever stands behind
-abbrev pub ToldNext : ℕ → ℕ → ℕ → ℕ → Own → ℕ → Due → Type 0
-ToldNext first L v σ (own p φ a b c) made d =
-    (first ≡ asyncByte → (past : ℕ) → NextAt L v σ (own p φ a b c) made (Stands.async (p + 1) past) d)
-    × (first ≡ finishByte → (past : ℕ) → NextAt L v σ (own p φ a b c) made (Stands.finish (p + 1) past) d)
-    × (first ≡ forkByte → (left right past : ℕ) → NextAt L v σ (own p φ a b c) made (Stands.fork left right past) d)

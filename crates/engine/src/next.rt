@@ -18,11 +18,8 @@ use graph::rows::STATUS;
 use graph::rows::VERTEX_WORDS;
 use graph::sound::is_sound;
 use program::ItemRead;
-use program::format::ASYNC;
-use program::format::FINISH;
-use program::format::FORK;
+use program::Reader;
 use program::format::NOTHING_STARTS;
-use program::items::item_starting_at;
 use program::starts::starts_at;
 ghost use mathlib.Core.Path.{_≡_};
 ghost use mathlib.Core.Bool.{true};
@@ -37,7 +34,7 @@ ghost use Rattle.program.specs.Located.{startsAt, Marked};
 ghost use Rattle.machine.specs.Demand2 as machine;
 ghost use Rattle.machine.specs.Demand2.{due};
 ghost use Rattle.engine.specs.Answers.{ownWords, dueOf};
-ghost use Rattle.engine.specs.Private.{DueThere, OwnIn, Next, NextAt, isTold, ToldNext, EndNext, JobNext, AsyncNext, ForkNext, ForkLast};
+ghost use Rattle.engine.specs.Private.{DueThere, OwnIn, Next, NextAt, EndNext, JobNext, AsyncNext, ForkNext, ForkLast};
 
 // The words of the vertices that the item at hand made.
 pub const FIRST: usize = MADE;
@@ -140,7 +137,7 @@ fn own_words(vertices: &[u32], vertex: usize) -> Own
 }
 
 // What is due at the step of an executing vertex with these words, where so many vertices are made; `starts` tells whether an item or
-// an end byte starts at its place.
+// an end byte starts at its place. Then the program from that place on is passed to the item reader.
 fn executing(program: &[u8], starts: bool, vertex: u32, scope: u32, own: Own, made: u32) -> Due
     requires { ⌜ starts ≡ startsAt (now program) (own .place) ⌝ }
     ensures { λ r. ⌜ Next (now (program .entry)) vertex scope (ownWords own) made (dueOf r) ⌝ }
@@ -149,51 +146,20 @@ fn executing(program: &[u8], starts: bool, vertex: u32, scope: u32, own: Own, ma
         return Due::Refused(NOTHING_STARTS);
     }
     let last = (program.len() - 1) as u32;
-    let first = program[own.place as usize];
-    if is_told(first, own.phase) {
-        return told_next(first, vertex, scope, own, made, last);
-    }
-    let item = item_starting_at(program, own.place);
+    let place = own.place as usize;
+    let item = Reader::at(own.place).item_here(&program[place..]);
     match item {
         ItemRead::Refused(refusal) => Due::Refused(NOTHING_STARTS),
-        ItemRead::End => end_next(vertex, own),
-        ItemRead::Job { number, past } => job_next(vertex, own, number, past),
-        ItemRead::Async { body, past } => async_next(vertex, scope, own, made, body, past),
-        ItemRead::Finish { body, past } => finish_next(vertex, scope, own, made, body, past, last),
+        ItemRead::End { past } => end_next(vertex, own),
+        ItemRead::Job { number, past } => job_next(vertex, own, number, past.place),
+        ItemRead::Async { body, past } => async_next(vertex, scope, own, made, body, past.place),
+        ItemRead::Finish { body, past } => {
+            finish_next(vertex, scope, own, made, body, past.place, last)
+        }
         ItemRead::Fork { left, right, past } => {
-            fork_next(vertex, scope, own, made, left, right, past, last)
+            fork_next(vertex, scope, own, made, left, right, past.place, last)
         }
     }
-}
-
-// Whether an item's first byte alone tells the command at this phase: one that goes neither to a fork's right body nor past the item.
-fn is_told(first: u8, phase: u32) -> bool
-    ensures { λ r. ⌜ r ≡ isTold first phase ⌝ }
-{
-    if first == ASYNC {
-        return phase < 2;
-    }
-    if first == FINISH {
-        return 0 < phase;
-    }
-    if first == FORK {
-        return 2 < phase;
-    }
-    false
-}
-
-// That command. What it does not use, 0 stands for.
-fn told_next(first: u8, vertex: u32, scope: u32, own: Own, made: u32, last: u32) -> Due
-    requires { ⌜ (isTold first (own .phase) ≡ true) × (own .place < programBytes) ⌝ }
-    ensures { λ r. ⌜ ToldNext first last vertex scope (ownWords own) made (dueOf r) ⌝ }
-{
-    if first == ASYNC {
-        return async_next(vertex, scope, own, made, own.place + 1, 0);
-    }
-    if first == FINISH {
-        return finish_next(vertex, scope, own, made, own.place + 1, 0, last);
-    }
-    fork_next(vertex, scope, own, made, 0, 0, 0, last)
 }
 
 // At an end byte: stop, which moves nothing.

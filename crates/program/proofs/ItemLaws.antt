@@ -1,14 +1,18 @@
--- What the item reader tells at a place, where a body's bytes start: one law for each path through `item_here` and `job_here`.
+-- What the item reader tells at its place, where a body's bytes start, and the reader that it hands back: one law for each path through
+-- `item_here` and `job_here`.
 use Prim.Native.Nat.{ℕ, suc, _+_, _≤_}
 use mathlib.Core.Path.{_≡_, refl, ap, ap₂, _∙_}
 use mathlib.Core.List.{List, _++_}
+use mathlib.Core.Option.{Option, some}
 use native.Mathlib.Omega.{arith}
 use lib.ListN.{length, getD, length-append}
+use Rattle.program.specs.declared.ItemCounts.{ItemCounts}
+use Rattle.program.specs.declared.Reader.{Reader}
 use Rattle.program.specs.Limits.{jobLimit}
 use Rattle.program.specs.Trees.{Counts, Body, end, job, async, finish, fork}
 use Rattle.program.specs.Bytes.{endByte, jobByte, asyncByte, finishByte, forkByte, encodeNumber, encode, numberSize, size}
-use Rattle.program.specs.Reader.{number}
-use Rattle.program.specs.Answers.{Stands}
+use Rattle.program.specs.Reader.{Read, took, refused, number}
+use Rattle.program.specs.Answers.{itemCounts, Stands}
 use Rattle.program.specs.Located.{locate, head}
 use Rattle.program.specs.Progress.{NumberProgress, value, stopped, numberProgress, Sized, Shows, ShowsJob}
 use Rattle.program.proofs.NumberLaws.{number-complete}
@@ -47,37 +51,39 @@ unfolding locate head
 shows-end xs p is b rest f e = on-end (λ b. Stands.end ≡ head (locate p b)) xs b rest e is refl
 
 -- a job
-pub shows-job : (xs : List ℕ) (p : ℕ) (s : Stands) → getD xs 0 0 ≡ jobByte → ShowsJob (part 1 xs) (p + 1) s → Shows xs p s
+pub shows-job : (xs : List ℕ) (p : ℕ) (s : Stands) → getD xs 0 0 ≡ jobByte → ShowsJob xs p s → Shows xs p s
 shows-job xs p s is shown b rest f e =
     on-job (λ b. s ≡ head (locate p b)) xs b rest f e is
-    (λ n r low fr tail. shown n (encode r ++ rest) low (part-is 1 xs ∙ tail) ∙ head-job p n r)
+    (λ n r low fr tail. shown n (encode r ++ rest) low tail ∙ head-job p n r)
 
 -- an async
 pub shows-async :
-    (xs : List ℕ) (p s : ℕ) → getD xs 0 0 ≡ asyncByte → Sized (part 1 xs) s → Shows xs p (Stands.async (p + 1) (p + (1 + s)))
-shows-async xs p s is sized b rest f e =
-    on-one (λ b. Stands.async (p + 1) (p + (1 + s)) ≡ head (locate p b)) xs b rest f e (omega arith) (omega arith)
-    (λ c r is fc fr tail. head-async p s c r (sized c (encode r ++ rest) fc (part-is 1 xs ∙ tail)))
+    (xs : List ℕ) (p s : ℕ) {past : ℕ} → getD xs 0 0 ≡ asyncByte → Sized (part 1 xs) s → past ≡ p + (1 + s)
+    → Shows xs p (Stands.async (p + 1) past)
+shows-async xs p s {past} is sized q b rest f e =
+    on-one (λ b. Stands.async (p + 1) past ≡ head (locate p b)) xs b rest f e (omega arith) (omega arith)
+    (λ c r is fc fr tail. rw q (head-async p s c r (sized c (encode r ++ rest) fc (part-is 1 xs ∙ tail))))
     (λ c r is' fc fr tail. absurd (omega arith))
 
 -- a finish
 pub shows-finish :
-    (xs : List ℕ) (p s : ℕ) → getD xs 0 0 ≡ finishByte → Sized (part 1 xs) s → Shows xs p (Stands.finish (p + 1) (p + (1 + s)))
-shows-finish xs p s is sized b rest f e =
-    on-one (λ b. Stands.finish (p + 1) (p + (1 + s)) ≡ head (locate p b)) xs b rest f e (omega arith) (omega arith)
+    (xs : List ℕ) (p s : ℕ) {past : ℕ} → getD xs 0 0 ≡ finishByte → Sized (part 1 xs) s → past ≡ p + (1 + s)
+    → Shows xs p (Stands.finish (p + 1) past)
+shows-finish xs p s {past} is sized q b rest f e =
+    on-one (λ b. Stands.finish (p + 1) past ≡ head (locate p b)) xs b rest f e (omega arith) (omega arith)
     (λ c r is' fc fr tail. absurd (omega arith))
-    (λ c r is fc fr tail. head-finish p s c r (sized c (encode r ++ rest) fc (part-is 1 xs ∙ tail)))
+    (λ c r is fc fr tail. rw q (head-finish p s c r (sized c (encode r ++ rest) fc (part-is 1 xs ∙ tail))))
 
 -- a fork
 pub shows-fork :
-    (xs : List ℕ) (p s t : ℕ) → getD xs 0 0 ≡ forkByte → Sized (part 1 xs) s → Sized (part (1 + s) xs) t
-    → Shows xs p (Stands.fork (p + 1) (p + (1 + s)) (p + (1 + s) + t))
-shows-fork xs p s t is sized sized' b rest f e =
-    on-fork (λ b. Stands.fork (p + 1) (p + (1 + s)) (p + (1 + s) + t) ≡ head (locate p b)) xs b rest f e is
+    (xs : List ℕ) (p s t : ℕ) {right past : ℕ} → getD xs 0 0 ≡ forkByte → Sized (part 1 xs) s → Sized (part (1 + s) xs) t
+    → right ≡ p + (1 + s) → past ≡ right + t → Shows xs p (Stands.fork (p + 1) right past)
+shows-fork xs p s t {right} {past} is sized sized' q q' b rest f e =
+    on-fork (λ b. Stands.fork (p + 1) right past ≡ head (locate p b)) xs b rest f e is
     (λ c d r fc fd fr tail.
     let long = sized c (encode d ++ (encode r ++ rest)) fc (part-is 1 xs ∙ tail) in
     let next = past-body xs 1 s c (encode d ++ (encode r ++ rest)) tail long in
-    head-fork p s t c d r long (sized' d (encode r ++ rest) fd (part-is (1 + s) xs ∙ next)))
+    rw (q', q) (head-fork p s t c d r long (sized' d (encode r ++ rest) fd (part-is (1 + s) xs ∙ next))))
 
 -- a number within the limit is read
 job-progress :
@@ -95,6 +101,21 @@ jobOr (stopped n place) = Stands.refused n place
 
 -- the job with the number
 pub job-shown :
-    (xs : List ℕ) (p : ℕ) (seen : Counts) (g : NumberProgress) → g ≡ numberProgress (p + length xs) seen (number xs)
-    → ShowsJob xs p (jobOr g)
-job-shown xs p seen g is n rest le e = ap jobOr (is ∙ job-progress xs p seen n rest le e)
+    (xs : List ℕ) (p q : ℕ) (seen : Counts) (g : NumberProgress) → q ≡ p + 1
+    → g ≡ numberProgress (q + length (part 1 xs)) seen (number (part 1 xs)) → ShowsJob xs p (jobOr g)
+job-shown xs p q seen g at is n rest le e =
+    ap jobOr (is ∙ job-progress (part 1 xs) q seen n rest le (part-is 1 xs ∙ e)) ∙ ap (λ (o : ℕ). Stands.job n (o + numberSize n)) at
+
+-- the reader handed back is at this place, and has seen what was seen before
+pub handed : (r : Reader) {p : ℕ} {seen : ItemCounts} → r .place ≡ p → r .seen ≡ seen → some r ≡ some (record { place = p; seen = seen })
+handed r e q = λ i. some (record { place = e i; seen = q i })
+
+-- reading a number counts nothing
+pub number-seen :
+    (len : ℕ) (before : Counts) (x : Read ℕ) (n p : ℕ) (now : Counts) → value n p now ≡ numberProgress len before x → now ≡ before
+unfolding numberProgress
+number-seen len before (took m rest) n p now is = cc
+number-seen len before (refused m left) n p now is = cc
+
+pub same-seen : (a b : ItemCounts) → itemCounts a ≡ itemCounts b → a ≡ b
+same-seen a b q = λ i. record { jobs = q i .w; asyncs = q i .a; finishes = q i .f; forks = q i .k }

@@ -1,26 +1,26 @@
 -- What starts and what stands at a place of a whole program: one law for each path through `starts_at`, and what follows where an item
 -- or an end byte starts and where none does.
-use Prim.Native.Nat.{ℕ, suc, _+_, _<_, _≤_}
+use Prim.Native.Nat.{ℕ, _+_, _<_, _≤_}
 use mathlib.Core.Path.{_≡_, refl, sym, ap, _∙_, subst}
 use mathlib.Core.Bool.{Bool, true, false, not, true≢false}
 use mathlib.Core.List.{List, _++_}
 use mathlib.Core.Option.{Option, none, some, Option·none-ne-some}
 use native.Mathlib.Omega.{arith}
 use lib.Dec.{ltb}
-use lib.ListN.{length, getD, drop}
+use lib.ListN.{length, drop}
 use borrow.Author.Tests.{ltb-true, ltb-false}
 use Rattle.program.specs.Limits.{programBytes}
-use Rattle.program.specs.Trees.{Body, end, job, async, finish, fork, Counts}
-use Rattle.program.specs.Bytes.{asyncByte, finishByte, forkByte, encode, size}
+use Rattle.program.specs.Trees.{Body, Counts}
+use Rattle.program.specs.Bytes.{encode, size}
 use Rattle.program.specs.Reader.{Reading, program, refusal, reading}
 use Rattle.program.specs.Answers.{Said, loads, refused, told, Stands, nothing-starts}
-use Rattle.program.specs.Located.{Code, locate, place, codeAt, head, found, standsIn, itemAt, isSome, startsIn, startsAt}
+use Rattle.program.specs.Located.{Code, locate, codeAt, head, found, standsIn, itemAt, isSome, startsIn, startsAt}
 use Rattle.program.specs.Claims.{Fits, Loadable, Encoding, encoding}
 use Rattle.program.specs.Progress.{Holds, holds, Shows, inNumber}
 use Rattle.program.proofs.Exactness.{reading-sound}
-use Rattle.program.proofs.LocatedLaws.{item-stands, place-locate}
+use Rattle.program.proofs.LocatedLaws.{item-stands}
 use Rattle.program.proofs.StartLaws.{Placed, placed, code-bytes, starts, starts-within}
-use Rattle.program.proofs.SkipLaws.{part, part-is, part-length, first-behind}
+use Rattle.program.proofs.SkipLaws.{part, part-is, part-length}
 
 -- a program is read from bytes: they are those of its tree
 data Loads (bytes : List ℕ) : Type 0 where
@@ -169,45 +169,3 @@ not-starting bytes p is = go (reading bytes) is
     go : (r : Reading) → startsIn r p ≡ false → standsIn r p ≡ Stands.refused nothing-starts 0
     go (program b) is = ap found (code-none (codeAt (locate 0 b) p) is)
     go (refusal n q) is = refl
-
--- what an item's first byte tells of an item at p: whether it is an async, a finish or a fork, and where the body of the first two starts
-abbrev pub Tells : ℕ → ℕ → Stands → Type 0
-Tells first p item =
-    (first ≡ asyncByte → (past : ℕ) × (Stands.async (p + 1) past ≡ item))
-    × (first ≡ finishByte → (past : ℕ) × (Stands.finish (p + 1) past ≡ item))
-    × (first ≡ forkByte → (left right past : ℕ) × (Stands.fork left right past ≡ item))
-
--- an item's first body starts behind its first byte
-body-place : (p : ℕ) (b : Body) → p + 1 ≡ place (locate (suc p) b)
-body-place p b = omega (arith, place-locate (suc p) b)
-
--- the first byte of a body's bytes
-body-tells : (b : Body) (p : ℕ) (rest : List ℕ) → Tells (getD (encode b ++ rest) 0 0) p (head (locate p b))
-unfolding encode locate head
-body-tells end p rest = (λ q. absurd (omega arith), λ q. absurd (omega arith), λ q. absurd (omega arith))
-body-tells (job n r) p rest = (λ q. absurd (omega arith), λ q. absurd (omega arith), λ q. absurd (omega arith))
-body-tells (async b r) p rest = (
-  λ q. (place (locate (suc (p + size b)) r), ap (λ (x : ℕ). Stands.async x (place (locate (suc (p + size b)) r))) (body-place p b)),
-  λ q. absurd (omega arith),
-  λ q. absurd (omega arith),
-)
-body-tells (finish b r) p rest = (
-  λ q. absurd (omega arith),
-  λ q. (place (locate (suc (p + size b)) r), ap (λ (x : ℕ). Stands.finish x (place (locate (suc (p + size b)) r))) (body-place p b)),
-  λ q. absurd (omega arith),
-)
-body-tells (fork b c r) p rest = (
-  λ q. absurd (omega arith),
-  λ q. absurd (omega arith),
-  λ q. (place (locate (suc p) b), place (locate (suc (p + size b)) c), place (locate (suc (p + size b + size c)) r), refl),
-)
-
--- where something starts, its first byte tells that
-pub first-tells : (bytes : List ℕ) (p : ℕ) → startsAt bytes p ≡ true → Tells (getD bytes p 0) p (itemAt bytes p)
-first-tells bytes p is = go (starts-there bytes p is)
-  where
-    go : Starts bytes p → Tells (getD bytes p 0) p (itemAt bytes p)
-    go (starting b rest fits tail stands few lt) =
-        subst (λ (x : ℕ). Tells x p (itemAt bytes p))
-        (sym (ap (λ (l : List ℕ). getD l 0 0) tail) ∙ first-behind p bytes)
-        (subst (λ (t : Stands). Tells (getD (encode b ++ rest) 0 0) p t) stands (body-tells b p rest))

@@ -1,6 +1,6 @@
 -- What reading a whole program comes to: one law for each path through `read` and `at_end`.
 use Prim.Native.Nat.{ℕ, _+_, _-_, _<_, _≤_}
-use mathlib.Core.Path.{_≡_, refl, sym, ap, ap₂, _∙_}
+use mathlib.Core.Path.{_≡_, refl, sym, ap, ap₂, _∙_, subst}
 use mathlib.Core.Bool.{Bool, true, false, cond}
 use mathlib.Core.List.{List, [], _∷_}
 use native.Mathlib.Nat.{zero-add, sub-zero}
@@ -8,12 +8,13 @@ use native.Mathlib.Omega.{arith}
 use lib.Dec.{leb}
 use lib.ListN.{length}
 use borrow.Author.Tests.{lt-ltb, le-ltb, le-leb, lt-leb}
-use Rattle.program.specs.Limits.{vertexLimit}
+use Rattle.program.specs.declared.Reader.{Reader}
+use Rattle.program.specs.Limits.{programBytes, vertexLimit}
 use Rattle.program.specs.Trees.{Body, Counts, counts}
 use Rattle.program.specs.Encodings.{vertexFormula}
 use Rattle.program.specs.Reader.{Read, took, refused, bytes-after-end, length-outside, too-many-vertices, body, program, refusal, counted, whole, reading}
-use Rattle.program.specs.Answers.{Said, loads, told}
-use Rattle.program.specs.Progress.{plus, Progress, past, stopped, progress, finished}
+use Rattle.program.specs.Answers.{Said, loads, told, itemCounts, readerAt}
+use Rattle.program.specs.Progress.{plus, Progress, past, stopped, progress, finished, Ready}
 use Rattle.program.proofs.Formulas.{vertices-formula}
 use Rattle.program.proofs.ReadingLaws.{Within, Outside, reading-outside, reading-within}
 
@@ -66,11 +67,20 @@ body-said len (took b []) some = ap₂ (λ (o : ℕ) (d : Counts). finished len 
 body-said len (took b (x ∷ left)) some = sym (bytes-left len (len - length (x ∷ left)) (plus none-seen (counts b)) (omega arith))
 body-said len (refused n left) some = refl
 
+-- a reader at the first byte is ready
+pub start-ready : (r : Reader) (xs : List ℕ) → r ≡ readerAt 0 → length xs ≤ programBytes → Ready r xs
+start-ready r xs is few =
+    subst (λ (r : Reader). Ready r xs) (sym is)
+    (record { within = omega arith; jobs = omega arith; asyncs = omega arith; finishes = omega arith; forks = omega arith })
+
 -- the program comes to what its main body does
 pub main-said :
-    (xs : List ℕ) (g : Progress) → Within xs → g ≡ progress counts (0 + length xs) none-seen (body 1 xs)
-    → concluded (length xs) g ≡ told (reading xs)
-main-said xs g within is =
-    ap (concluded (length xs)) (is ∙ ap (λ (m : ℕ). progress counts m none-seen (body 1 xs)) (zero-add (length xs)))
+    (r : Reader) (xs : List ℕ) (g : Progress) → r ≡ readerAt 0 → Within xs
+    → g ≡ progress counts (r .place + length xs) (itemCounts (r .seen)) (body 1 xs) → concluded (length xs) g ≡ told (reading xs)
+main-said r xs g start within is =
+    ap (concluded (length xs))
+    (is
+    ∙ ap (λ (r : Reader). progress counts (r .place + length xs) (itemCounts (r .seen)) (body 1 xs)) start
+    ∙ ap (λ (m : ℕ). progress counts m none-seen (body 1 xs)) (zero-add (length xs)))
     ∙ body-said (length xs) (body 1 xs) (within .0)
     ∙ ap told (sym (reading-within xs within))

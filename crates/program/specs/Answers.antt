@@ -1,7 +1,9 @@
 -- What reading a program and reading an item answer. "Where an answer is an enum, a definition gives this paper's number and values for
 -- each of its cases."
-use Prim.Native.Nat.{ℕ}
+use Prim.Native.Nat.{ℕ, _+_}
+use mathlib.Core.Option.{Option, none, some}
 use Rattle.program.specs.declared.ItemCounts.{ItemCounts}
+use Rattle.program.specs.declared.Reader.{Reader}
 use Rattle.program.specs.declared.ProgramRead.{ProgramRead}
 use Rattle.program.specs.declared.ProgramRead.the-variants as of-program
 use Rattle.program.specs.declared.ItemRead.{ItemRead}
@@ -40,9 +42,31 @@ pub data Stands : Type 0 where
   refused : ℕ → ℕ → Stands
 
 abbrev pub stands : ItemRead → Stands
-stands (of-item.Job number past) = job number past
-stands (of-item.Async body past) = async body past
-stands (of-item.Finish body past) = finish body past
-stands (of-item.Fork left right past) = fork left right past
-stands of-item.End = end
+stands (of-item.Job number past) = job number (past .place)
+stands (of-item.Async body past) = async body (past .place)
+stands (of-item.Finish body past) = finish body (past .place)
+stands (of-item.Fork left right past) = fork left right (past .place)
+stands (of-item.End past) = end
 stands (of-item.Refused r) = Stands.refused (r .number) (r .place)
+
+-- "with a reader handed back moved past it": the reader that an item reader hands back
+abbrev pub handedBack : ItemRead → Option Reader
+handedBack (of-item.Job number past) = some past
+handedBack (of-item.Async body past) = some past
+handedBack (of-item.Finish body past) = some past
+handedBack (of-item.Fork left right past) = some past
+handedBack (of-item.End past) = some past
+handedBack (of-item.Refused r) = none
+
+-- a reader moved past what stands at its place, an item or an end byte; what it has seen stays
+abbrev pub movedPast : Reader → Stands → Option Reader
+movedPast r (job number past) = some (record { place = past; seen = r .seen })
+movedPast r (async body past) = some (record { place = past; seen = r .seen })
+movedPast r (finish body past) = some (record { place = past; seen = r .seen })
+movedPast r (fork left right past) = some (record { place = past; seen = r .seen })
+movedPast r end = some (record { place = r .place + 1; seen = r .seen })
+movedPast r (refused number place) = none
+
+-- a reader at a place, which has seen nothing
+abbrev pub readerAt : ℕ → Reader
+readerAt p = record { place = p; seen = record { jobs = 0; asyncs = 0; finishes = 0; forks = 0 } }

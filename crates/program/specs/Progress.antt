@@ -1,10 +1,11 @@
--- A reading under way. Nobody has to believe this file: contracts of private functions cite it.
+-- A reading under way. Nobody has to believe this file: contracts of private functions cite it, and that of the item reader, which is
+-- public for the engine alone.
 use Prim.Native.Nat.{ℕ, zero, suc, _+_, _-_, _<_, _≤_}
 use mathlib.Core.Path.{_≡_}
 use mathlib.Core.Bool.{Bool, true, false, cond}
 use mathlib.Core.List.{List, [], _∷_, _++_}
 use lib.Dec.{eqb, ltb, leb}
-use lib.ListN.{length, getD}
+use lib.ListN.{length, getD, drop}
 use Rattle.program.specs.declared.Reader.{Reader}
 use Rattle.program.specs.declared.Advanced.{Advanced}
 use Rattle.program.specs.declared.Advanced.the-variants as of-reader
@@ -103,9 +104,9 @@ Sized xs r = (b : Body) (rest : List ℕ) → Fits b → xs ≡ encode b ++ rest
 abbrev pub Shows : List ℕ → ℕ → Stands → Type 0
 Shows xs p s = (b : Body) (rest : List ℕ) → Fits b → xs ≡ encode b ++ rest → s ≡ head (locate p b)
 
--- s is the job whose number stands at a place, where these bytes start
+-- s is the job that stands at a place, where these bytes start
 abbrev pub ShowsJob : List ℕ → ℕ → Stands → Type 0
-ShowsJob xs p s = (n : ℕ) (rest : List ℕ) → n ≤ jobLimit → xs ≡ encodeNumber n ++ rest → s ≡ Stands.job n (p + numberSize n)
+ShowsJob xs p s = (n : ℕ) (rest : List ℕ) → n ≤ jobLimit → drop 1 xs ≡ encodeNumber n ++ rest → s ≡ Stands.job n (p + 1 + numberSize n)
 
 -- how many bytes a number has, from its first on: up to the first whose top bit is clear
 unfoldable pub numberEnd : List ℕ → ℕ

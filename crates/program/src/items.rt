@@ -14,16 +14,15 @@ use crate::numbers::number_end;
 use crate::starts::starts_at;
 ghost use mathlib.Core.Path.{_≡_};
 ghost use Prim.Native.Nat.{_+_, _≤_};
-ghost use mathlib.Core.Bool.{true};
 ghost use lib.ListN.{length};
 ghost use Rattle.program.specs.Limits.{programBytes};
-ghost use Rattle.program.specs.Located.{itemAt, startsAt};
-ghost use Rattle.program.specs.Answers.{stands};
+ghost use Rattle.program.specs.Located.{itemAt};
+ghost use Rattle.program.specs.Answers.{stands, readerAt, handedBack, movedPast};
 ghost use Rattle.program.specs.Progress.{Holds, Shows, ShowsJob, Sized};
 
 // What stands at a place of a program; refused where the program is, and where no item or end byte starts.
 pub fn item_at(program: &[u8], place: u32) -> ItemRead
-    ensures { λ r. ⌜ stands r ≡ itemAt (now (program .entry)) place ⌝ }
+    ensures { λ r. ⌜ (stands r ≡ itemAt (now (program .entry)) place) × (handedBack r ≡ movedPast (readerAt place) (stands r)) ⌝ }
 {
     if !starts_at(program, place) {
         return ItemRead::Refused(Refusal {
@@ -31,73 +30,68 @@ pub fn item_at(program: &[u8], place: u32) -> ItemRead
             place: 0,
         });
     }
-    item_starting_at(program, place)
+    let from = place as usize;
+    Reader::at(place).item_here(&program[from..])
 }
 
-// The item or end byte that starts at a place of a program.
-pub fn item_starting_at(program: &[u8], place: u32) -> ItemRead
-    requires { ⌜ startsAt (now program) place ≡ true ⌝ }
-    ensures { λ r. ⌜ stands r ≡ itemAt (now (program .entry)) place ⌝ }
-{
-    item_here(&program[place as usize..], place)
-}
-
-// What stands at a place, where `bytes` start: the bytes of a body, or of what is left of one.
-fn item_here(bytes: &[u8], place: u32) -> ItemRead
-    requires { ⌜ Holds (now bytes) × (place + length (now bytes) ≤ programBytes) ⌝ }
-    ensures { λ r. ⌜ Shows (now (bytes .entry)) place (stands r) ⌝ }
-{
-    let first = bytes[0];
-    if first == END {
-        return ItemRead::End;
-    }
-    let body = place + 1;
-    if first == JOB {
-        return job_here(&bytes[1..], body);
-    }
-    let behind = 1 + body_size(&bytes[1..]);
-    let past = place + behind as u32;
-    if first == ASYNC {
-        return ItemRead::Async {
-            body: body,
-            past: past,
+impl Reader {
+    // A reader at a place, which has seen nothing.
+    pub fn at(place: u32) -> Reader
+        ensures { λ r. ⌜ r ≡ readerAt place ⌝ }
+    {
+        let nothing = ItemCounts {
+            jobs: 0,
+            asyncs: 0,
+            finishes: 0,
+            forks: 0,
         };
+        Reader {
+            place,
+            seen: nothing,
+        }
     }
-    if first == FINISH {
-        return ItemRead::Finish {
-            body: body,
-            past: past,
-        };
-    }
-    ItemRead::Fork {
-        left: body,
-        right: past,
-        past: past + body_size(&bytes[behind..]) as u32,
-    }
-}
 
-// The job whose number stands at a place, where `bytes` start.
-fn job_here(bytes: &[u8], place: u32) -> ItemRead
-    requires { ⌜ place + length (now bytes) ≤ programBytes ⌝ }
-    ensures { λ r. ⌜ ShowsJob (now (bytes .entry)) place (stands r) ⌝ }
-{
-    let nothing = ItemCounts {
-        jobs: 0,
-        asyncs: 0,
-        finishes: 0,
-        forks: 0,
-    };
-    let start = Reader {
-        place: place,
-        seen: nothing,
-    };
-    let read = start.number(bytes);
-    match read {
-        NumberRead::Refused(refusal) => ItemRead::Refused(refusal),
-        NumberRead::Number(number, reader) => ItemRead::Job {
-            number: number,
-            past: reader.place,
-        },
+    // What stands at this reader's place, where `bytes` start: the bytes of a body, or of what is left of one. The reader is handed back
+    // moved past it. What it has seen stays: the bodies' ends are searched for, and nothing is counted.
+    pub fn item_here(self, bytes: &[u8]) -> ItemRead
+        requires { ⌜ Holds (now bytes) × (self .place + length (now bytes) ≤ programBytes) ⌝ }
+        ensures { λ r. ⌜ Shows (now (bytes .entry)) (self .place) (stands r) × (handedBack r ≡ movedPast self (stands r)) ⌝ }
+    {
+        let first = bytes[0];
+        if first == END {
+            return ItemRead::End {
+                past: self.moved(1),
+            };
+        }
+        if first == JOB {
+            return self.job_here(bytes);
+        }
+        let body = self.place + 1;
+        let behind = 1 + body_size(&bytes[1..]);
+        let past = self.moved(behind as u32);
+        if first == ASYNC {
+            return ItemRead::Async { body, past };
+        }
+        if first == FINISH {
+            return ItemRead::Finish { body, past };
+        }
+        ItemRead::Fork {
+            left: body,
+            right: past.place,
+            past: past.moved(body_size(&bytes[behind..]) as u32),
+        }
+    }
+
+    // The job at this reader's place, where `bytes` start.
+    fn job_here(self, bytes: &[u8]) -> ItemRead
+        requires { ⌜ (1 ≤ length (now bytes)) × (self .place + length (now bytes) ≤ programBytes) ⌝ }
+        ensures { λ r. ⌜ ShowsJob (now (bytes .entry)) (self .place) (stands r) × (handedBack r ≡ movedPast self (stands r)) ⌝ }
+    {
+        let read = self.moved(1).number(&bytes[1..]);
+        match read {
+            NumberRead::Refused(refusal) => ItemRead::Refused(refusal),
+            NumberRead::Number(number, past) => ItemRead::Job { number, past },
+        }
     }
 }
 

@@ -52,12 +52,12 @@ pub enum ProgramRead {
     Refused(Refusal),
 }
 
-// What stands at a place, with the places where its bodies start and where it ends.
+// What stands at a place, with the places where its bodies start, and a reader moved past it; or a refusal.
 pub enum ItemRead {
-    Job { number: u32, past: u32 },
-    Async { body: u32, past: u32 },
-    Finish { body: u32, past: u32 },
-    Fork { left: u32, right: u32, past: u32 },
-    End,
+    Job { number: u32, past: Reader },
+    Async { body: u32, past: Reader },
+    Finish { body: u32, past: Reader },
+    Fork { left: u32, right: u32, past: Reader },
+    End { past: Reader },
     Refused(Refusal),
 }

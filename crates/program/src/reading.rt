@@ -52,17 +52,7 @@ pub fn read(program: &[u8]) -> ProgramRead
     if PROGRAM_BYTES < length {
         return refused(LENGTH_OUTSIDE, 0);
     }
-    let nothing = ItemCounts {
-        jobs: 0,
-        asyncs: 0,
-        finishes: 0,
-        forks: 0,
-    };
-    let start = Reader {
-        place: 0,
-        seen: nothing,
-    };
-    let main = start.body(program, Inside { level: 1 });
+    let main = Reader::at(0).body(program, Inside { level: 1 });
     match main {
         Advanced::Refused(refusal) => ProgramRead::Refused(refusal),
         Advanced::Past(end) => at_end(end, length),

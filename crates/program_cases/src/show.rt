@@ -29,14 +29,14 @@ pub(crate) fn item(program: &[u8], place: u32) {
     number(b"  ", place);
     let found = item_at(program, place);
     match found {
-        ItemRead::Job { number: n, past } => two(b" job ", n, past),
-        ItemRead::Async { body, past } => two(b" async ", body, past),
-        ItemRead::Finish { body, past } => two(b" finish ", body, past),
+        ItemRead::Job { number: n, past } => two(b" job ", n, past.place),
+        ItemRead::Async { body, past } => two(b" async ", body, past.place),
+        ItemRead::Finish { body, past } => two(b" finish ", body, past.place),
         ItemRead::Fork { left, right, past } => {
             number(b" fork ", left);
-            two(b" ", right, past);
+            two(b" ", right, past.place);
         }
-        ItemRead::End => text(b" end\n"),
+        ItemRead::End { past } => text(b" end\n"),
         ItemRead::Refused(refusal) => two(b" refused ", refusal.number, refusal.place),
     }
 }

@@ -4,7 +4,7 @@ use mathlib.Core.Logic.{inl, inr}
 use native.Mathlib.Omega.{arith}
 use borrow.Author.Needs.{needs}
 use Rattle.program.specs.Progress.{reached}
-use Rattle.program.proofs.WholeLaws.{read-outside, main-said}
+use Rattle.program.proofs.WholeLaws.{read-outside, start-ready, main-said}
 use Rattle.program.proofs.reading.read.Statement.{statement}
 use Rattle.program.proofs.reading.read.Tie as tie
 
@@ -17,13 +17,14 @@ read-spec =
     (λ c κs. search needs)
     (λ c. c .refused2 .ensures ∙ read-outside _ (inr (c .before .if2 .taken)))
     (λ c κs. search needs)
+    (λ c κs. start-ready _ _ (c .at .ensures) (c .before .if2 .left))
     (λ c. search needs)
     (λ c. search needs)
     (λ c κs. search needs)
     (λ c.
-    main-said _ _ (omega arith, c .before .before .before .before .if2 .left)
+    main-said _ _ _ (c .before .before .before .before .at .ensures) (omega arith, c .before .before .before .before .before .if2 .left)
     (ap reached (sym (c .before .main .given .1)) ∙ c .before .before .before .body .ensures))
     (λ c.
     c .at-end .ensures
-    ∙ main-said _ _ (omega arith, c .before .before .before .before .before .if2 .left)
+    ∙ main-said _ _ _ (c .before .before .before .before .before .at .ensures) (omega arith, c .before .before .before .before .before .before .if2 .left)
     (ap reached (sym (c .before .before .main2 .given .1)) ∙ c .before .before .before .before .body .ensures)))
