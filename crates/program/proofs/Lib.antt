@@ -15,7 +15,7 @@
 --     WholeLaws     reading a whole program
 --     NumberEnds    where a number ends, and which bytes stand inside one
 --     SkipLaws      the search for a body's end
---     ItemLaws      what the item reader tells at a place
+--     ItemLaws      what the item reader of a step tells at its place, and the reader that it hands back
 --     PlaceLaws     what starts and what stands at a place of a whole program
 --     MarkLaws      marks for the places of a whole program
 -- The theorems:

@@ -20,7 +20,8 @@ ghost use Rattle.program.specs.Located.{itemAt};
 ghost use Rattle.program.specs.Answers.{stands, readerAt, handedBack, movedPast};
 ghost use Rattle.program.specs.Progress.{Holds, Shows, ShowsJob, Sized};
 
-// What stands at a place of a program; refused where the program is, and where no item or end byte starts.
+// What stands at a place of a program, with a reader moved past it that has seen nothing; refused where the program is, and where no item
+// or end byte starts.
 pub fn item_at(program: &[u8], place: u32) -> ItemRead
     ensures { λ r. ⌜ (stands r ≡ itemAt (now (program .entry)) place) × (handedBack r ≡ movedPast (readerAt place) (stands r)) ⌝ }
 {

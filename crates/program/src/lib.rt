@@ -1,7 +1,7 @@
 // Reading programs: the bytes of a program to its items, their counts, and the refusals of its writer.
 //
 // `reading::read` reads a whole program, `items::item_at` tells what stands at a place of it, `starts::mark_starts` marks where items and
-// end bytes start. None of them asks anything of the bytes.
+// end bytes start. None of them asks anything of the bytes. `Reader::item_here`, the item reader of a step, serves the engine.
 mod bodies;
 pub mod format;
 pub mod items;
