@@ -36,7 +36,8 @@ item-here-requires c κs = rw (c .before .at .ensures) (starting-holds _ _ (star
 -- what the item reader tells stands there
 found :
     (c : tie.After-item-here)
-    → stands (c .item-here .result) ≡ itemAt (c .before .before .before .before .before .before .args .program .now) (c .before .before .before .before .before .before .args .own .place)
+    → stands (c .item-here .result)
+    ≡ itemAt (c .before .before .before .before .before .before .args .program .now) (c .before .before .before .before .before .before .args .own .place)
 found c =
     starting-shown (c .before .before .before .before .before .before .args .program .now) _ _ (started (c .before .before .before .before))
     ((rw (c .before .before .at .ensures) at (c .item-here .ensures)) .0)
@@ -45,10 +46,14 @@ returns-2 : tie.Need-returns-2
 returns-2 c = next-nothing _ _ _ _ _ (ap stands (sym (c .before .item .given .1)) ∙ found (c .before .before .before))
 
 returns-3 : tie.Need-returns-3
-returns-3 c = next-item _ _ _ _ _ (ap stands (sym (c .before .before .item2 .given .1)) ∙ found (c .before .before .before .before)) (c .end-next .ensures _ _ _)
+returns-3 c =
+    next-item _ _ _ _ _ (ap stands (sym (c .before .before .item2 .given .1)) ∙ found (c .before .before .before .before))
+    (c .end-next .ensures _ _ _)
 
 returns-4 : tie.Need-returns-4
-returns-4 c = next-item _ _ _ _ _ (ap stands (sym (c .before .before .item3 .given .1)) ∙ found (c .before .before .before .before)) (c .job-next .ensures _ _ _)
+returns-4 c =
+    next-item _ _ _ _ _ (ap stands (sym (c .before .before .item3 .given .1)) ∙ found (c .before .before .before .before))
+    (c .job-next .ensures _ _ _)
 
 returns-5 : tie.Need-returns-5
 returns-5 c = next-item _ _ _ _ _ (ap stands (sym (c .before .before .item4 .given .1)) ∙ found (c .before .before .before .before)) (c .async-next .ensures _)

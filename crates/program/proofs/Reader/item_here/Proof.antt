@@ -21,9 +21,11 @@ forked c = omega (arith, skip-none _ (c .before .before .before .before .before 
 -- so does a fork's second
 second :
     (c : tie.After-body-size2)
-    → 1 + c .before .before .before .before .before .body-size .result + c .body-size2 .result < length (c .before .before .before .before .before .before .before .before .before .before .before .before .args .bytes .now)
+    → 1 + c .before .before .before .before .before .body-size .result + c .body-size2 .result
+    < length (c .before .before .before .before .before .before .before .before .before .before .before .before .args .bytes .now)
 second c =
-    skip-fork _ 0 _ _ (skip-none _ (c .before .before .before .before .before .before .before .before .before .before .before .before .pre .0)) (forked (c .before .before)) (c .before .before .before .before .before .body-size .ensures) (c .body-size2 .ensures) .0
+    skip-fork _ 0 _ _ (skip-none _ (c .before .before .before .before .before .before .before .before .before .before .before .before .pre .0))
+    (forked (c .before .before)) (c .before .before .before .before .before .body-size .ensures) (c .body-size2 .ensures) .0
 
 returns-3 : tie.Need-returns-3
 returns-3 c = (
@@ -39,8 +41,8 @@ returns-4 c = (
 
 returns-5 : tie.Need-returns-5
 returns-5 c = (
-  shows-fork _ _ _ _ (forked (c .before .before .before)) (c .before .before .before .before .before .before .body-size .ensures) (c .before .body-size2 .ensures) (c .before .before .before .before .before .moved2 .ensures .0)
-      (c .moved3 .ensures .0),
+  shows-fork _ _ _ _ (forked (c .before .before .before)) (c .before .before .before .before .before .before .body-size .ensures)
+      (c .before .body-size2 .ensures) (c .before .before .before .before .before .moved2 .ensures .0) (c .moved3 .ensures .0),
   handed _ refl (c .moved3 .ensures .1 ∙ c .before .before .before .before .before .moved2 .ensures .1),
 )
 
@@ -66,7 +68,9 @@ item-here-spec =
     (λ c. omega (arith, first (c .before .before .before)))
     (λ c. omega (arith, first (c .before .before .before)))
     (λ c. search needs)
-    (λ c κs. second-holds _ 0 _ (skip-none _ (c .before .before .before .before .before .before .before .before .before .before .before .pre .0)) (forked (c .before)) (c .before .before .before .before .body-size .ensures))
+    (λ c κs.
+    second-holds _ 0 _ (skip-none _ (c .before .before .before .before .before .before .before .before .before .before .before .pre .0))
+    (forked (c .before)) (c .before .before .before .before .body-size .ensures))
     (λ c. omega (arith, second c))
     (λ c κs. omega (arith, second c, c .before .before .before .before .moved2 .ensures .0))
     returns-5)

@@ -16,8 +16,10 @@ returns c = (
 returns-2 : tie.Need-returns-2
 returns-2 c =
     let read = ap reachedNumber (sym (c .before .read2 .given .1)) ∙ c .before .before .before .number .ensures in
-    let moved = c .before .before .before .before .before .moved .ensures in
-    (job-shown (c .before .before .before .before .before .before .before .args .bytes .now) _ _ _ _ (moved .0) read, handed _ refl (same-seen _ _ (number-seen _ _ _ _ _ _ read) ∙ moved .1))
+    let moved = c .before .before .before .before .before .moved .ensures in (
+      job-shown (c .before .before .before .before .before .before .before .args .bytes .now) _ _ _ _ (moved .0) read,
+      handed _ refl (same-seen _ _ (number-seen _ _ _ _ _ _ read) ∙ moved .1),
+    )
 
 pub job-here-spec : {M : Type 1} → statement M
 job-here-spec =
