@@ -1,6 +1,6 @@
 -- A vertex that may step: it executes, or it is released and no edge leads into it. No other can; of one that may, what is due is known.
 use Prim.Native.Nat.{ℕ, _<_}
-use mathlib.Core.Path.{_≡_, refl, sym, _∙_, ap, subst}
+use mathlib.Core.Path.{_≡_, refl, sym, _∙_, ap}
 use mathlib.Core.Bool.{Bool, true, false, cond}
 use mathlib.Core.Logic.{_⊎_, inl, inr, ⊎-elim}
 use mathlib.Core.List.{List}
@@ -16,10 +16,10 @@ use Rattle.graph.specs.Paths.{leadsInto}
 use Rattle.graph.proofs.TestLaws.{both-left, either-cases, either-false-left, either-false-right}
 use Rattle.graph.proofs.SoundChecks.{sound-rows}
 use Rattle.machine.specs.Answers.{Outcome, accepted}
-use Rattle.machine.specs.Stepping.{stepLimit, step}
+use Rattle.machine.specs.Stepping.{stepLimit, Due, refusal-due, job-due, command-due, due}
 use Rattle.machine.specs.Running.{canStep}
-use Rattle.machine.specs.Demand2.{Due, refusal-due, job-due, command-due, due, Does}
-use Rattle.machine.proofs.StepDemand2.{step-does, job-step, command-step}
+use Rattle.machine.proofs.StepLaws.{step-is}
+use Rattle.machine.proofs.StepDemand2.{command-step}
 use Rattle.machine.proofs.LookLaws.{idle-cannot}
 use Rattle.engine.specs.Private.{DueThere, Blocked, takes}
 use Rattle.engine.proofs.DueLaws.{due-there}
@@ -69,7 +69,6 @@ candidate-due bytes v e marks t k known few lt p q h =
 -- a vertex can step exactly where what is due would be accepted
 pub can-takes : (bytes v e : List ℕ) (t : Tally) (k : ℕ) {d : Due} → d ≡ due bytes (lent v e t) k → canStep bytes (lent v e t) k ≡ takes (lent v e t) d
 unfolding takes
-can-takes bytes v e t k {d = refusal-due n} h =
-    ap (λ (o : Outcome). accepted (o .answer)) (subst (λ (d : Due). Does (lent v e t) k (step bytes (lent v e t) k) d) (sym h) (step-does bytes (lent v e t) k))
-can-takes bytes v e t k {d = job-due n o w} h = ap accepted (job-step bytes (lent v e t) k n o w (sym h) .0)
+can-takes bytes v e t k {d = refusal-due n} h = ap (λ (o : Outcome). accepted (o .answer)) (step-is bytes (lent v e t) k (sym h))
+can-takes bytes v e t k {d = job-due n o w} h = ap (λ (o : Outcome). accepted (o .answer)) (step-is bytes (lent v e t) k (sym h))
 can-takes bytes v e t k {d = command-due c w} h = command-step bytes (lent v e t) k c w (sym h)

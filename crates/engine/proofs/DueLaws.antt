@@ -19,9 +19,8 @@ use Rattle.graph.proofs.SoundChecks.{sound-rows}
 use Rattle.program.specs.Limits.{programBytes}
 use Rattle.program.specs.Answers.{Stands}
 use Rattle.program.specs.Located.{itemAt, startsAt, Marked}
-use Rattle.machine.specs.Stepping.{stepLimit, steppable, place, task}
-use Rattle.machine.specs.Demand2 as machine
-use Rattle.machine.specs.Demand2.{Due, refusal-due, command-due, ownOf, nextAt, orRefused, due}
+use Rattle.machine.specs.Stepping as machine
+use Rattle.machine.specs.Stepping.{stepLimit, steppable, place, task, ownOf, Due, refusal-due, command-due, dueIf, nextAt, due}
 use Rattle.engine.specs.declared.Own.{Own}
 use Rattle.engine.specs.Answers.{ownWords}
 use Rattle.engine.specs.Private.{OwnIn, DueThere, Next, NextAt}
@@ -61,13 +60,13 @@ marked-starts bytes marks p marked full e =
 
 -- The chain, test by test: one that passes hands over to the rest, one that does not answers its number. Start is due where its test
 -- holds.
-pub passed : {b : Bool} (n : ℕ) {d rest : Due} → b ≡ true → d ≡ rest → d ≡ orRefused b n rest
-unfolding orRefused
-passed n {d} {rest} p q = q ∙ ap (λ (x : Bool). orRefused x n rest) (sym p)
+pub passed : {b : Bool} (n : ℕ) {d rest : Due} → b ≡ true → d ≡ rest → d ≡ dueIf b n rest
+unfolding dueIf
+passed n {d} {rest} p q = q ∙ ap (λ (x : Bool). dueIf x n rest) (sym p)
 
-pub halted : {b : Bool} (n : ℕ) (rest : Due) → b ≡ false → refusal-due n ≡ orRefused b n rest
-unfolding orRefused
-halted n rest p = ap (λ (x : Bool). orRefused x n rest) (sym p)
+pub halted : {b : Bool} (n : ℕ) (rest : Due) → b ≡ false → refusal-due n ≡ dueIf b n rest
+unfolding dueIf
+halted n rest p = ap (λ (x : Bool). dueIf x n rest) (sym p)
 
 first-of : {b : Bool} {d : Due} (rest : Due) → b ≡ true → d ≡ cond b d rest
 first-of {d = d} rest p = ap (λ (x : Bool). cond x d rest) (sym p)

@@ -23,9 +23,8 @@ use Rattle.graph.specs.Commands.{command}
 use Rattle.graph.proofs.TestLaws.{equal?, below-suc, either-left, either-skip, both-true, both-false-left, both-false-right, any-empty}
 use Rattle.graph.proofs.Chains.{blank-long}
 use Rattle.machine.specs.Answers.{unsound-tables}
-use Rattle.machine.specs.Stepping.{stepLimit, steppable}
+use Rattle.machine.specs.Stepping.{stepLimit, steppable, Due}
 use Rattle.machine.specs.Running.{canStep, lowest, chosen, choice, Choice, choose, no-choice, choice-refused}
-use Rattle.machine.specs.Demand2.{Due}
 use Rattle.machine.proofs.LookLaws.{lowest-none, lowest-is, late-none}
 use Rattle.engine.specs.declared.Due as of-code
 use Rattle.engine.specs.Answers.{dueOf}

@@ -15,8 +15,8 @@ use Rattle.program.specs.Trees.{jobs, asyncs, finishes, forks}
 use Rattle.program.specs.Encodings.{Name, own-scope, made-1, made-2, made-3, Spot, Command, perform, newTd, newEdge, transfer, release, Row, firstEdition, weight, makes}
 use Rattle.program.specs.Answers.{Stands}
 use Rattle.machine.specs.Answers.{unreadable}
-use Rattle.machine.specs.Stepping.{scope, named, Task, item, ends, nothing, spots, task, nth}
-use Rattle.machine.specs.Demand2.{Own, own, ownOf, withMade, withKept, withPhase, movedOn, Due, refusal-due, job-due, command-due, orRefused, filledIn, nextOf, nextAt}
+use Rattle.machine.specs.Stepping.{scope, named, Task, item, ends, nothing, spots, task, nth, Own, own, ownOf, withMade, withKept}
+use Rattle.machine.specs.Stepping.{withPhase, movedOn, Due, refusal-due, job-due, command-due, dueIf, filledIn, nextOf, nextAt}
 use Rattle.engine.specs.Private.{NextAt, EndNext, JobNext, AsyncNext, ForkNext, ForkLast}
 
 -- what a name stands for, by the vertex's scope and own words
@@ -47,7 +47,7 @@ nextFrom v σ w m row n spot (some c) = filledFrom v σ w n spot (movedOn row sp
 -- what is due, by the vertex's scope and own words and the number made
 unfoldable from : ℕ → ℕ → Own → ℕ → Task → Due
 from v σ w m (item row n spot) = nextFrom v σ w m row n spot (nth (row .commands) (phaseIn w))
-from v σ w m ends = orRefused (eqb (phaseIn w) 0) unreadable (command-due (Stop v) w)
+from v σ w m ends = dueIf (eqb (phaseIn w) 0) unreadable (command-due (Stop v) w)
 from v σ w m nothing = refusal-due unreadable
 
 named-is : (s : Lent) (v : ℕ) (x : Name) → named s v x ≡ namedFrom (scope s v) (ownOf s v) x
@@ -115,11 +115,11 @@ two l h i = omega arith
 -- THE ITEMS
 -- an end byte
 pub end-stop : (v : ℕ) {p φ a b c : ℕ} → φ ≡ 0 → EndNext v (own p φ a b c) (command-due (Stop v) (own p φ a b c))
-unfolding from task orRefused
+unfolding from task dueIf
 end-stop v {p} {φ} {a} {b} {c} q L σ m = told L v σ (own p φ a b c) m Stands.end (rw q refl)
 
 pub end-beyond : (v : ℕ) {p φ a b c : ℕ} → (φ ≡ 0 → ⊥) → EndNext v (own p φ a b c) (refusal-due unreadable)
-unfolding from task orRefused
+unfolding from task dueIf
 end-beyond v {p} {φ} {a} {b} {c} q L σ m = told L v σ (own p φ a b c) m Stands.end (rw (ne-eqb φ 0 q) refl)
 
 -- so a phase there is refused

@@ -30,9 +30,8 @@ use Rattle.graph.specs.Sound.{sound}
 use Rattle.graph.proofs.TestLaws.{below-suc, both-true, both-false-left, both-false-right, at-end}
 use Rattle.graph.proofs.SoundChecks.{sound-rows}
 use Rattle.machine.specs.Answers.{Said, accepted, unsound-tables}
-use Rattle.machine.specs.Stepping.{stepLimit, steppable, step}
+use Rattle.machine.specs.Stepping.{stepLimit, steppable, Due, due, step}
 use Rattle.machine.specs.Running.{canStep, lowest, chosen, choose, no-choice, choice-refused, Ending, spent, refused, allFinished, RunOutcome, ended, runOn, run}
-use Rattle.machine.specs.Demand2.{Due, due}
 use Rattle.machine.specs.Traces.{Stepped, Ran}
 use Rattle.machine.proofs.LookLaws.{step-sound, idle-cannot, lowest-none, lowest-is, run-turned, run-goes, rests, used-up, goes-on}
 use Rattle.machine.proofs.GhostLaws.{clash}

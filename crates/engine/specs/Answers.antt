@@ -4,7 +4,7 @@ use mathlib.Core.Option.{Option, none, some}
 use Rattle.machine.specs.Answers.{Said}
 use Rattle.machine.specs.Running.{done, stuck, spent, refused, Choice, choose, no-choice, choice-refused}
 use Rattle.machine.specs.Running as machine-run
-use Rattle.machine.specs.Demand2 as machine
+use Rattle.machine.specs.Stepping as machine
 use Rattle.engine.specs.declared.Answer.{Answer}
 use Rattle.engine.specs.declared.Answer.the-variants as of-answer
 use Rattle.engine.specs.declared.Ending.{Ending}

@@ -2,7 +2,7 @@
 --     Answers    which of the plain machine's answers each case of the code's enums is
 --     Promise    demand 3 of a loading and a list of steps
 -- Nobody has to believe this one, which the contracts of private functions cite:
---     Private    what is due at a step, from a vertex's own words, and words stored in a row
+--     Private    what is due at a step, from a vertex's own words
 pub mod Answers
 pub mod Promise
 pub mod Private

@@ -1,12 +1,11 @@
--- What is due at a step, from a vertex's own words, and words stored in a row. Nobody has to believe this file: contracts of private
--- functions cite it.
+-- What is due at a step, from a vertex's own words. Nobody has to believe this file: contracts of private functions cite it.
 use Prim.Native.Nat.{ℕ, _+_, _-_, _<_, _≤_}
 use mathlib.Core.Path.{_≡_}
 use mathlib.Core.Bool.{Bool, true, false, cond}
 use mathlib.Core.List.{List}
 use mathlib.Core.Option.{Option, none, some}
 use lib.ListN.{length, getD}
-use Rattle.graph.specs.Tables.{Lent, lent, RELEASED, EXECUTING, usableLimit, status, placeWord, phaseWord, madeWord, setVertexWord}
+use Rattle.graph.specs.Tables.{Lent, lent, RELEASED, EXECUTING, usableLimit, status}
 use Rattle.graph.specs.Paths.{leadsInto}
 use Rattle.graph.specs.Answers as of-graph
 use Rattle.graph.specs.Commands.{hasStatus, command}
@@ -14,9 +13,8 @@ use Rattle.graph.specs.declared.Command.the-variants.{Start}
 use Rattle.program.specs.Answers.{Stands}
 use Rattle.program.specs.Located.{itemAt}
 use Rattle.machine.specs.Answers.{Said}
-use Rattle.machine.specs.Stepping.{scope, place, task}
+use Rattle.machine.specs.Stepping.{scope, place, task, Own, own, ownOf, Due, refusal-due, job-due, command-due, nextAt, due}
 use Rattle.machine.specs.Running.{canStep, lowest, allFinished, Ending, done, stuck, spent}
-use Rattle.machine.specs.Demand2.{Own, own, ownOf, Due, refusal-due, job-due, command-due, nextAt, due}
 use Rattle.machine.specs.Traces.{Stepped}
 use Rattle.engine.specs.declared.Attempt.{Attempt}
 use Rattle.engine.specs.declared.Attempt.the-variants as of-attempt
@@ -86,15 +84,6 @@ endsWith none finished = atRest finished
 
 abbrev pub whenUsed : List ℕ → Lent → Ending
 whenUsed bytes s = endsWith (lowest bytes s) (allFinished s)
-
--- the table with these own words in the row of vertex k
-unfoldable pub stored : List ℕ → ℕ → Own → List ℕ
-stored t k (own p φ a b c) =
-    setVertexWord
-    (setVertexWord (setVertexWord (setVertexWord (setVertexWord t k placeWord p) k phaseWord φ) k madeWord a) k (madeWord + 1) b)
-    k
-    (madeWord + 2)
-    c
 
 -- by the kind of item; what does not matter there is left open
 abbrev pub EndNext : ℕ → Own → Due → Type 0

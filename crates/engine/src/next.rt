@@ -31,8 +31,8 @@ ghost use Rattle.graph.specs.declared.Command.the-variants.{NewTd, NewEdge, Rel
 ghost use Rattle.program.specs.Limits.{programBytes};
 ghost use Rattle.program.specs.Answers.{Stands};
 ghost use Rattle.program.specs.Located.{startsAt, Marked};
-ghost use Rattle.machine.specs.Demand2 as machine;
-ghost use Rattle.machine.specs.Demand2.{due};
+ghost use Rattle.machine.specs.Stepping as machine;
+ghost use Rattle.machine.specs.Stepping.{due};
 ghost use Rattle.engine.specs.Answers.{ownWords, dueOf};
 ghost use Rattle.engine.specs.Private.{DueThere, OwnIn, Next, NextAt, EndNext, JobNext, AsyncNext, ForkNext, ForkLast};
 

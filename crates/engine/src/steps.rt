@@ -18,11 +18,11 @@ ghost use Prim.Native.Nat.{_+_, _<_};
 ghost use mathlib.Core.Bool.{not};
 ghost use Rattle.graph.specs.Tables.{lent, vertexRows};
 ghost use Rattle.graph.specs.Answers as of-graph;
-ghost use Rattle.machine.specs.Stepping.{stepLimit};
-ghost use Rattle.machine.specs.Demand2.{saidAs};
+ghost use Rattle.machine.specs.Answers.{saidAs};
+ghost use Rattle.machine.specs.Stepping.{stepLimit, stored};
 ghost use Rattle.machine.specs.Traces.{Stepped};
 ghost use Rattle.engine.specs.Answers.{said, ownWords, dueOf};
-ghost use Rattle.engine.specs.Private.{IsDue, DoesDue, stored};
+ghost use Rattle.engine.specs.Private.{IsDue, DoesDue};
 
 // One step of `vertex`, with the tally by value.
 pub fn step_by_value(

@@ -31,7 +31,7 @@ refusal (Transfer t t') s = transferRefusal s t t'
 refusal (Start t) s = startRefusal s t
 refusal (Stop t) s = stopRefusal s t
 
-abbrev says : Command → Lent → Said
+abbrev pub says : Command → Lent → Said
 says (NewTd t place scope) s = Said.new (s .made)
 says (NewEdge t t1 t2) s = Said.edge t1 t2
 says (Release t t') s = Said.release t'
@@ -56,7 +56,7 @@ command-is (Transfer t t') s = refl
 command-is (Start t) s = refl
 command-is (Stop t) s = refl
 
-says-accepted : (c : Command) (s : Lent) → accepted (says c s) ≡ true
+pub says-accepted : (c : Command) (s : Lent) → accepted (says c s) ≡ true
 says-accepted (NewTd t place scope) s = refl
 says-accepted (NewEdge t t1 t2) s = refl
 says-accepted (Release t t') s = refl
@@ -68,11 +68,14 @@ says-accepted (Stop t) s = refl
 pub not-refused : (c : Command) (s : Lent) → accepted (command c s .answer) ≡ true → refusal c s ≡ 0
 not-refused c s h = decided-taken s (refusal c s) (says c s) (leaves c s) (rw (command-is c s) at h)
 
+pub taken-is : (c : Command) (s : Lent) → refusal c s ≡ 0 → command c s ≡ record { answer = says c s; after = leaves c s }
+taken-is c s h = command-is c s ∙ decided-is s (refusal c s) (says c s) (leaves c s) h
+
 pub is-accepted : (c : Command) (s : Lent) → refusal c s ≡ 0 → accepted (command c s .answer) ≡ true
-is-accepted c s h = rw (command-is c s, decided-is s (refusal c s) (says c s) (leaves c s) h) (says-accepted c s)
+is-accepted c s h = rw (taken-is c s h) (says-accepted c s)
 
 pub after-is : (c : Command) (s : Lent) → refusal c s ≡ 0 → command c s .after ≡ leaves c s
-after-is c s h = rw (command-is c s, decided-is s (refusal c s) (says c s) (leaves c s) h)
+after-is c s h = rw (taken-is c s h)
 
 pub after-refused : (c : Command) (s : Lent) → accepted (command c s .answer) ≡ false → command c s .after ≡ s
 after-refused c s h = rw (command-is c s) (decided-keeps s (refusal c s) (says c s) (leaves c s) (says-accepted c s) (rw (command-is c s) at h))

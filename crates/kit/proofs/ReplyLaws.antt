@@ -16,8 +16,7 @@ use Rattle.graph.specs.declared.Tally.{Tally}
 use Rattle.graph.specs.Tables.{Lent, lent}
 use Rattle.graph.specs.Answers as of-graph
 use Rattle.graph.specs.Commands.{command}
-use Rattle.machine.specs.Answers.{Outcome}
-use Rattle.machine.specs.Demand2.{saidAs}
+use Rattle.machine.specs.Answers.{Outcome, saidAs}
 use Rattle.machine.specs.Running.{run}
 use Rattle.machine.specs.Traces.{Ran}
 use Rattle.engine.specs.declared.Done.{Done}

@@ -11,8 +11,7 @@ use Rattle.graph.specs.declared.Command.the-variants.{NewTd, NewEdge, Release, 
 use Rattle.graph.specs.Tables.{Lent}
 use Rattle.graph.specs.Answers as of-graph
 use Rattle.graph.specs.Commands.{command}
-use Rattle.machine.specs.Answers.{Said, Outcome}
-use Rattle.machine.specs.Demand2.{saidAs}
+use Rattle.machine.specs.Answers.{Said, Outcome, saidAs}
 use Rattle.machine.specs.Running.{Ending, done, stuck, spent, refused, RunOutcome, Choice, choose, no-choice, choice-refused, choice}
 use Rattle.kit.specs.declared.Reply.{Reply}
 use Rattle.kit.specs.declared.RunReply.{RunReply}

@@ -23,10 +23,10 @@ ghost use mathlib.Core.Path.{_≡_};
 ghost use Rattle.graph.specs.Tables.{lent};
 ghost use Rattle.graph.specs.Answers as of-graph;
 ghost use Rattle.graph.specs.Commands.{opening};
+ghost use Rattle.machine.specs.Answers.{saidAs};
 ghost use Rattle.machine.specs.Loading.{load};
 ghost use Rattle.machine.specs.Stepping.{step};
 ghost use Rattle.machine.specs.Running.{run};
-ghost use Rattle.machine.specs.Demand2.{saidAs};
 ghost use Rattle.engine.specs.Answers.{said};
 ghost use Rattle.kit.specs.Numbers.{Commanded, Replied, RunReplied, LowestReplied, byNumbers, replyNumbers, saidNumbers, commandOf, askedOf};
 

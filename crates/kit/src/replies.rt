@@ -6,7 +6,7 @@ use engine::LastStep;
 use engine::Lowest;
 ghost use mathlib.Core.Path.{_≡_};
 ghost use Rattle.graph.specs.Answers as of-graph;
-ghost use Rattle.machine.specs.Demand2.{saidAs};
+ghost use Rattle.machine.specs.Answers.{saidAs};
 ghost use Rattle.engine.specs.Answers.{said, endingOf, lastOf, choiceOf};
 ghost use Rattle.kit.specs.Numbers.{replyNumbers, saidNumbers, endingNumbers, lastNumbers, choiceNumbers, numbers};
 

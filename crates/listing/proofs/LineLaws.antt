@@ -14,8 +14,8 @@ use Rattle.program.specs.Encodings.{vertexFormula, stepFormula}
 use Rattle.program.specs.Reader.{reading}
 use Rattle.program.specs.Answers.{loads, told}
 use Rattle.program.specs.Answers as of-program
-use Rattle.machine.specs.Answers.{Said, accepted, unsound-tables, unless}
-use Rattle.machine.specs.Stepping.{steppable, step}
+use Rattle.machine.specs.Answers.{Said, accepted, unsound-tables}
+use Rattle.machine.specs.Stepping.{steppable, dueIf, due, step}
 use Rattle.machine.specs.Running.{lowest, chosen, choice, choose, no-choice, choice-refused}
 use Rattle.machine.specs.Demand2.{unread}
 use Rattle.machine.specs.Traces.{Loaded, Stepped}
@@ -110,7 +110,7 @@ unsteppable true none h = clash cc
 unsteppable false o h = refl
 
 unsteppable-none : (bytes : List ℕ) (s : Lent) → steppable s ≡ false → lowest bytes s ≡ none
-unfolding step unless
+unfolding step due dueIf
 unsteppable-none bytes s h = lowest-none bytes s (λ u lt. rw h refl)
 
 pub unsteppable-line :

@@ -7,81 +7,41 @@ use mathlib.Core.Logic.{_⊎_, inl, inr, ⊎-elim}
 use mathlib.Core.List.{List}
 use native.Mathlib.Omega.{arith}
 use lib.Dec.{ltb}
-use borrow.Author.Tests.{lt-ltb, ltb-true, ltb-false, ne-eqb, eqb-true}
+use borrow.Author.Tests.{ltb-true, ltb-false, eqb-true}
 use Rattle.graph.specs.Tables.{Lent, NEW, RELEASED, EXECUTING, FINISHED, edgeRows, status, source}
-use Rattle.graph.specs.Answers.{edge-leads-in}
-use Rattle.graph.specs.Answers as of-graph
 use Rattle.graph.specs.Sound.{sound}
 use Rattle.graph.specs.Paths.{holds, leadsInto, reaches}
-use Rattle.graph.specs.Commands.{command, newTd, newEdge, release, transfer, start, stop, startRefusal}
 use Rattle.graph.specs.declared.Command.{Command}
-use Rattle.graph.specs.declared.Command.the-variants.{NewTd, NewEdge, Release, Transfer, Start, Stop}
-use Rattle.graph.proofs.TestLaws.{true-false, decide, not-so, not-of-false, not-of-true, any-found}
+use Rattle.graph.specs.declared.Command.the-variants.{NewEdge, Release, Transfer, Start}
+use Rattle.graph.proofs.TestLaws.{true-false, decide, not-so, any-found}
 use Rattle.graph.proofs.PathLaws.{holds-at, reaches-path}
-use Rattle.graph.proofs.RefusalLaws.{unless-pass, unless-stop, decided-is}
 use Rattle.graph.proofs.EdgeLaws.{none-out-of}
 use Rattle.graph.proofs.CycleLaws.{target-reaches}
-use Rattle.graph.proofs.TakenLaws.{refusal, leaves, Runs, Taken, taken, after-is}
+use Rattle.graph.proofs.TakenLaws as of-taken
+use Rattle.graph.proofs.TakenLaws.{leaves, says-accepted, taken-is, after-is, Runs, Taken, taken}
 use Rattle.graph.proofs.Demand2.{stays-sound}
 use Rattle.program.specs.Located.{Code}
-use Rattle.machine.specs.Answers.{Said, Outcome, refuse, byCommand, oneStep}
-use Rattle.machine.specs.Stepping.{calls}
+use Rattle.machine.specs.Answers.{Said, oneStep, saidAs}
+use Rattle.machine.specs.Stepping.{Own, command-due, withOwn, doDue}
 use Rattle.machine.proofs.Ghost.{Do, link, hand, free, Control, draft, fresh, ready, busy, joining, over, State}
 use Rattle.machine.proofs.Invariant.{In, here, tasks, tasksOf, waits, planned, Shape, Ranks, Roads}
 use Rattle.machine.proofs.Acyclic.{path-rises}
 use Rattle.machine.proofs.Follows.{Follows}
 use Rattle.machine.proofs.FollowLaws.{statusOf, follows-status}
 
--- what a step by a command says
+-- what a step by a command that is taken says
 abbrev pub says : Command → Lent → Said
-says (NewTd t place scope) s = Said.new (s .made)
-says (NewEdge t t1 t2) s = Said.edge t1 t2
-says (Release t t') s = Said.release t'
-says (Transfer t t') s = Said.transfer t'
-says (Start t) s = Said.start
-says (Stop t) s = Said.stop
+says c s = saidAs (of-taken.says c s)
 
--- a step by a command that is taken
+-- and all that it comes to
 pub called :
-    (c : Command) (s : Lent) (moved : Lent → Lent) → Taken c s
-    → calls c s moved ≡ record { answer = says c s; after = oneStep (moved (leaves c s)) }
-unfolding byCommand command newTd newEdge release transfer start stop
-called c s moved h = go c (taken c s .1 h)
-  where
-    by : of-graph.Outcome → Outcome
-    by o = byCommand s (o .answer) (o .after) moved
-
-    go : (c : Command) → refusal c s ≡ 0 → calls c s moved ≡ record { answer = says c s; after = oneStep (moved (leaves c s)) }
-    go (NewTd t place scope) q = ap by (decided-is s _ (of-graph.new (s .made)) (leaves (NewTd t place scope) s) q)
-    go (NewEdge t t1 t2) q = ap by (decided-is s _ (of-graph.edge t1 t2) (leaves (NewEdge t t1 t2) s) q)
-    go (Release t t') q = ap by (decided-is s _ (of-graph.release t') (leaves (Release t t') s) q)
-    go (Transfer t t') q = ap by (decided-is s _ (of-graph.transfer t') (leaves (Transfer t t') s) q)
-    go (Start t) q = ap by (decided-is s _ of-graph.start (leaves (Start t) s) q)
-    go (Stop t) q = ap by (decided-is s _ of-graph.stop (leaves (Stop t) s) q)
+    (c : Command) (s : Lent) (v : ℕ) (w : Own) → Taken c s
+    → doDue s v (command-due c w) ≡ record { answer = says c s; after = oneStep (withOwn (leaves c s) v w) }
+called c s v w h = rw (taken-is c s (taken c s .1 h), says-accepted c s)
 
 -- it leaves sound tables
 pub leaves-sound : (c : Command) (s : Lent) → sound s ≡ true → Taken c s → sound (leaves c s) ≡ true
 leaves-sound c s known h = subst (λ (z : Lent). sound z ≡ true) (after-is c s (taken c s .1 h)) (stays-sound c s known)
-
--- a start that an edge forbids
-start-refusal :
-    (s : Lent) (v : ℕ) → sound s ≡ true → v < s .made → status (s .vertices) v ≡ RELEASED → leadsInto (s .edges) (s .held) v ≡ true
-    → startRefusal s v ≡ edge-leads-in
-unfolding startRefusal
-start-refusal s v known made released into =
-    unless-pass _ _ known
-    ∙ unless-pass _ _ (lt-ltb _ _ made)
-    ∙ unless-pass _ _ (not-of-false (ne-eqb (status (s .vertices) v) NEW (omega arith)))
-    ∙ unless-pass _ _ (not-of-false (ne-eqb (status (s .vertices) v) EXECUTING (omega arith)))
-    ∙ unless-pass _ _ (not-of-false (ne-eqb (status (s .vertices) v) FINISHED (omega arith)))
-    ∙ unless-stop _ _ (not-of-true into)
-
--- so the step is refused
-pub blocked-start :
-    (s : Lent) (v : ℕ) (moved : Lent → Lent) → sound s ≡ true → v < s .made → status (s .vertices) v ≡ RELEASED
-    → leadsInto (s .edges) (s .held) v ≡ true → calls (Start v) s moved ≡ refuse s edge-leads-in 0
-unfolding byCommand command start of-graph.decided
-blocked-start s v moved known made released into = rw (start-refusal s v known made released into) refl
 
 -- an edge that leads in
 pub into-from : (e : List ℕ) (n v : ℕ) → leadsInto e n v ≡ true → (u : ℕ) × (holds e n u v ≡ true)

@@ -11,23 +11,24 @@ use Rattle.program.specs.Bytes.{encode, groupBytes, encodeNumber, size, numberS
 use Rattle.program.specs.Encodings.{vertices, edgeRows, firstEdition, weight, makes, links, itemsWeight}
 use Rattle.program.specs.Reader as r
 use Rattle.program.specs.Located as l
-use Rattle.machine.specs.Answers.{unless, byCommand}
+use Rattle.machine.specs.Answers.{unless}
 use Rattle.machine.specs.Loading.{load, loadRead, loadedTables}
-use Rattle.machine.specs.Stepping.{step, doTask, doNth, doCommand, advanced, kept, nth, task, spots, named, steppable}
+use Rattle.machine.specs.Stepping.{steppable, named, spots, task, nth, ownOf, withMade, withKept, withPhase, movedOn, dueIf}
+use Rattle.machine.specs.Stepping.{filledIn, nextOf, nextAt, due, stored, step}
 use Rattle.machine.specs.Running.{run, runOn, look, lowest, lowestBelow, orThis, allFinished}
 use Rattle.machine.specs.Examples.{anything, saidBy, leftBy, saidBare, runs, steps, commands, table, Each, none, _&_}
 
 -- Every example of the table holds.
 pub examples : Each table
-unfolding anything runs steps commands saidBy leftBy saidBare run runOn look lowest lowestBelow orThis allFinished step doTask doNth
-    doCommand advanced kept nth task spots named steppable byCommand unless load loadRead loadedTables r.reading r.whole r.body r.bodyOf
-    r.item r.itemOf r.deeper r.kindOf r.number r.groups r.andThen r.unless r.jobOf r.counted vertices edgeRows itemsWeight firstEdition
-    weight makes links total ahead l.itemAt l.standsIn l.found l.head l.codeAt l.here l.orElse l.locate l.place size encode encodeNumber
-    groupBytes numberSize g.openingRefusal g.openedTables g.opening g.command g.newTd g.newEdge g.release g.transfer g.start g.stop
-    g.callerRefusal g.newTdRefusal g.newEdgeRefusal g.releaseRefusal g.transferRefusal g.startRefusal g.stopRefusal g.newRow
-    g.withVertex g.withEdge g.appended g.targetReaches g.movedRow g.moved g.withMoved g.keptRows g.kept g.withoutEdgesOf g.stopped clear
-    sound tallyFits statusKnown statusesKnown endsMade edgesMade both either every any holds leadsInto leadsOutOf reaches a.decided
-    a.unless
+unfolding anything runs steps commands saidBy leftBy saidBare run runOn look lowest lowestBelow orThis allFinished step stored due nextAt
+    nextOf filledIn dueIf movedOn withPhase withKept withMade ownOf nth task spots named steppable unless load loadRead loadedTables
+    r.reading r.whole r.body r.bodyOf r.item r.itemOf r.deeper r.kindOf r.number r.groups r.andThen r.unless r.jobOf r.counted vertices
+    edgeRows itemsWeight firstEdition weight makes links total ahead l.itemAt l.standsIn l.found l.head l.codeAt l.here l.orElse l.locate
+    l.place size encode encodeNumber groupBytes numberSize g.openingRefusal g.openedTables g.opening g.command g.newTd g.newEdge g.release
+    g.transfer g.start g.stop g.callerRefusal g.newTdRefusal g.newEdgeRefusal g.releaseRefusal g.transferRefusal g.startRefusal
+    g.stopRefusal g.newRow g.withVertex g.withEdge g.appended g.targetReaches g.movedRow g.moved g.withMoved g.keptRows g.kept
+    g.withoutEdgesOf g.stopped clear sound tallyFits statusKnown statusesKnown endsMade edgesMade both either every any holds leadsInto
+    leadsOutOf reaches a.decided a.unless
 examples =
     refl
     & refl

@@ -13,12 +13,12 @@ use Rattle.program.specs.Encodings.{Name, own-scope, made-1, Spot, first-body, 
 use Rattle.program.specs.Encodings.{transfer, release, firstEdition, weight}
 use Rattle.program.specs.Encodings as table
 use Rattle.program.specs.Located.{Code, end-at, job-at, async-at, finish-at, fork-at, place, codeAt}
-use Rattle.machine.specs.Stepping.{nth}
+use Rattle.machine.specs.Stepping.{nth, Own, own, withMade, withKept, withPhase, movedOn}
 use Rattle.machine.proofs.Ghost.{Do, link, hand, free, joining, kids, goes, kindOf, commandsOf, resolved, joins, todo, onward}
 use Rattle.machine.proofs.Invariant.{isItem}
 use Rattle.machine.proofs.Unsplit.{MoreToMake}
 use Rattle.machine.proofs.Follows.{Words, row, Shows, shows-busy, shows-joining}
-use Rattle.machine.proofs.RowLaws.{setAt, gone, keeping, Keeps, advancing}
+use Rattle.machine.proofs.RowLaws.{ownIn, putOwn, advancing}
 use Rattle.machine.proofs.StepLaws.{ItemOf, rowOf, job-item, item-of}
 
 -- no list is empty and not
@@ -121,15 +121,11 @@ next-of σ ms (transfer a ∷ cs) d ds j h = next-by (joins-hand a) h refl j
 next-of σ ms (release a ∷ cs) d ds j h = next-by (joins-free a) h refl j
 
 -- a command that joins keeps no vertex in the row
-pub joins-keeps : {σ : ℕ} {ms : List ℕ} {c : Command} {d : Do} (k : ℕ) → Joins σ ms c d → Keeps c k
-joins-keeps k (joins-link a b) = tt
-joins-keeps k (joins-hand a) = tt
-joins-keeps k (joins-free a) = tt
-
-joins-keeping : {σ : ℕ} {ms : List ℕ} {c : Command} {d : Do} (k x : ℕ) (w : Words) → Joins σ ms c d → keeping c k x w ≡ w
-joins-keeping k x w (joins-link a b) = refl
-joins-keeping k x w (joins-hand a) = refl
-joins-keeping k x w (joins-free a) = refl
+joins-kept : {σ : ℕ} {ms : List ℕ} {c : Command} {d : Do} (k x : ℕ) (w : Own) → Joins σ ms c d → withKept c k x w ≡ w
+unfolding withKept
+joins-kept k x w (joins-link a b) = refl
+joins-kept k x w (joins-hand a) = refl
+joins-kept k x w (joins-free a) = refl
 
 -- the kind's commands are the code's
 commands-are : {L : ℕ} {c : Code} (i : ItemOf L c) → commandsOf (kindOf c) ≡ rowOf i .commands
@@ -154,24 +150,26 @@ busyRow c σ ms = row EXECUTING (place c) σ (length ms) (getD ms 0 0) (getD ms 
 
 module _ {p : Code} {L : ℕ} (σ : ℕ) (w : Words) (k : Code) (φ : ℕ) (ms : List ℕ) (i : ItemOf L k) (is-row : w ≡ itemRow k σ φ ms) where
   -- the row after an item's last command
-  shows-last : Shows p L (gone (i .spot (rowOf i .next)) w) σ (onward (goes L k) [])
+  shows-last : Shows p L (putOwn (own (i .spot (rowOf i .next)) 0 0 0 0) w) σ (onward (goes L k) [])
   unfolding onward
-  shows-last = shows-busy (ap (gone (i .spot (rowOf i .next))) is-row ∙ ap (λ (z : ℕ). row EXECUTING z σ 0 0 0 0) (i .goes-on))
+  shows-last =
+      shows-busy (ap (putOwn (own (i .spot (rowOf i .next)) 0 0 0 0)) is-row ∙ ap (λ (z : ℕ). row EXECUTING z σ 0 0 0 0) (i .goes-on))
 
   -- and after another one of those that join
   shows-next :
       (ds : List Do) → codeAt p (place k) ≡ some k → length (kids k) ≤ φ → joins σ ms (drop (suc φ) (commandsOf (kindOf k))) ≡ ds
-      → (ds ≡ [] → ⊥) → Shows p L (setAt 3 (suc φ) w) σ (onward (goes L k) ds)
-  unfolding onward
+      → (ds ≡ [] → ⊥) → Shows p L (putOwn (withPhase (suc φ) (ownIn w)) w) σ (onward (goes L k) ds)
+  unfolding onward withPhase
   shows-next [] at le h full = absurd (full refl)
-  shows-next (d ∷ ds) at le h full = shows-joining k (suc φ) ms (ap (setAt 3 (suc φ)) is-row) at refl (omega arith) h
+  shows-next (d ∷ ds) at le h full =
+      shows-joining k (suc φ) ms (ap (λ (y : Words). putOwn (withPhase (suc φ) (ownIn y)) y) is-row) at refl (omega arith) h
 
   -- by what is left
   shows-onward :
       (x : ℕ) (c : Command) (rest : List Command) (d : Do) (ds : List Do) → codeAt p (place k) ≡ some k → length (kids k) ≤ φ
       → drop (suc φ) (commandsOf (kindOf k)) ≡ rest → suc φ + length rest ≡ length (commandsOf (kindOf k)) → Joining rest → Joins σ ms c d
       → joins σ ms rest ≡ ds → Shows p L (advancing (rowOf i) (i .spot) c φ x w) σ (onward (goes L k) ds)
-  unfolding joins
+  unfolding joins movedOn
   shows-onward x c [] d ds at le left count j does h =
       rw (eq-eqb (suc φ) (length (rowOf i .commands)) (omega (arith, count, all)), sym h) shows-last
     where
@@ -179,7 +177,7 @@ module _ {p : Code} {L : ℕ} (σ : ℕ) (w : Words) (k : Code) (φ : ℕ) (ms :
       all = ap (λ (l : List Command). length l) (commands-are i)
   shows-onward x c (c' ∷ rest) d ds at le left count j does h =
       rw (ne-eqb (suc φ) (length (rowOf i .commands)) (λ q. omega (arith, q, count, all)))
-      (rw (joins-keeping (weight table.makes (take φ (rowOf i .commands))) x w does)
+      (rw (joins-kept (weight table.makes (take φ (rowOf i .commands))) x (ownIn w) does)
       (shows-next ds at le (ap (λ (l : List Command). joins σ ms l) left ∙ h) (λ q. joins-some σ ms c' rest j (h ∙ q))))
     where
       all : length (commandsOf (kindOf k)) ≡ length (rowOf i .commands)
@@ -197,7 +195,7 @@ pub record Acting (p : Code) (L σ : ℕ) (w : Words) (d : Do) (ds : List Do) (t
   pub command : Command
   pub next-is : nth (rowOf item .commands) φ ≡ some command
   pub does : Joins σ ms command d
-  pub shows : (x : ℕ) (w' : Words) → w' ≡ w → Shows p L (advancing (rowOf item) (item .spot) command φ x w') σ (onward to ds)
+  pub shows : (x : ℕ) → Shows p L (advancing (rowOf item) (item .spot) command φ x w) σ (onward to ds)
 
 -- an end byte has no commands
 left-item : (k : Code) (φ : ℕ) {c : Command} {rest : List Command} → drop φ (commandsOf (kindOf k)) ≡ c ∷ rest → isItem k ≡ true
@@ -226,9 +224,9 @@ acting {p} {L} {σ} {w} {c} {d} {ds} (shows-joining k φ ms is-row at to le left
       next-is = ap (λ (l : List Command). nth l φ) (sym (commands-are i)) ∙ at-φ;
       does = n .does;
       shows =
-          λ x w' q.
-          subst (λ (z : Code). Shows p L (advancing (rowOf i) (i .spot) (n .command) φ x w') σ (onward z ds)) to
-          (shows-onward σ w' k φ ms i (q ∙ is-row) x (n .command) (n .rest) d ds at le further count (n .still) (n .does) (n .then-does));
+          λ x.
+          subst (λ (z : Code). Shows p L (advancing (rowOf i) (i .spot) (n .command) φ x w) σ (onward z ds)) to
+          (shows-onward σ w k φ ms i is-row x (n .command) (n .rest) d ds at le further count (n .still) (n .does) (n .then-does));
     }
 
 -- an item that has made ms next makes a vertex with the code k and the scope that a names
@@ -237,7 +235,6 @@ pub record Making (L : ℕ) (c : Code) (ms : List ℕ) (k : Code) (a : Name) : T
   pub spot-of : Spot
   pub next-is : nth (rowOf item .commands) (length ms) ≡ some (newTd spot-of a)
   pub spot-is : item .spot spot-of ≡ place k
-  pub keeps : Keeps (newTd spot-of a) (weight table.makes (take (length ms) (rowOf item .commands)))
   pub row-is :
       (σ x : ℕ) → advancing (rowOf item) (item .spot) (newTd spot-of a) (length ms) x (busyRow c σ ms) ≡ busyRow c σ (ms ++ (x ∷ []))
 
@@ -260,74 +257,68 @@ pub data Busy (L : ℕ) : Code → List ℕ → Type 0 where
 
 -- the items' vertices
 async-makes : (L o : ℕ) (b r : Code) → Making L (async-at o b r) [] b own-scope
-unfolding nth weight item-of
+unfolding nth weight table.makes item-of movedOn withPhase withKept withMade
 async-makes L o b r =
     record {
       item = item-of L (async-at o b r) refl;
       spot-of = first-body;
       next-is = refl;
       spot-is = refl;
-      keeps = omega arith;
       row-is = λ σ x. refl;
     }
 
 finish-makes-1 : (L o : ℕ) (b r : Code) → Making L (finish-at o b r) [] r own-scope
-unfolding nth weight item-of
+unfolding nth weight table.makes item-of movedOn withPhase withKept withMade
 finish-makes-1 L o b r =
     record {
       item = item-of L (finish-at o b r) refl;
       spot-of = past-item;
       next-is = refl;
       spot-is = refl;
-      keeps = omega arith;
       row-is = λ σ x. refl;
     }
 
 finish-makes-2 : (L o : ℕ) (b r : Code) (m : ℕ) → Making L (finish-at o b r) (m ∷ []) b made-1
-unfolding nth weight table.makes item-of
+unfolding nth weight table.makes item-of movedOn withPhase withKept withMade
 finish-makes-2 L o b r m =
     record {
       item = item-of L (finish-at o b r) refl;
       spot-of = first-body;
       next-is = refl;
       spot-is = refl;
-      keeps = omega arith;
       row-is = λ σ x. refl;
     }
 
 fork-makes-1 : (L o : ℕ) (b c r : Code) → Making L (fork-at o b c r) [] b own-scope
-unfolding nth weight item-of
+unfolding nth weight table.makes item-of movedOn withPhase withKept withMade
 fork-makes-1 L o b c r =
     record {
       item = item-of L (fork-at o b c r) refl;
       spot-of = first-body;
       next-is = refl;
       spot-is = refl;
-      keeps = omega arith;
       row-is = λ σ x. refl;
     }
 
 fork-makes-2 : (L o : ℕ) (b c r : Code) (m : ℕ) → Making L (fork-at o b c r) (m ∷ []) c own-scope
-unfolding nth weight table.makes item-of
+unfolding nth weight table.makes item-of movedOn withPhase withKept withMade
 fork-makes-2 L o b c r m =
     record {
       item = item-of L (fork-at o b c r) refl;
       spot-of = second-body;
       next-is = refl;
       spot-is = refl;
-      keeps = omega arith;
       row-is = λ σ x. refl;
     }
 
 fork-makes-3 : (L o : ℕ) (b c r : Code) (m m' : ℕ) → Making L (fork-at o b c r) (m ∷ (m' ∷ [])) r own-scope
-unfolding nth weight table.makes item-of
+unfolding nth weight table.makes item-of movedOn withPhase withKept withMade
 fork-makes-3 L o b c r m m' =
     record {
       item = item-of L (fork-at o b c r) refl;
       spot-of = past-item;
       next-is = refl;
       spot-is = refl;
-      keeps = omega arith;
       row-is = λ σ x. refl;
     }
 
@@ -369,5 +360,5 @@ job-next L o n r = refl
 pub job-row :
     (L o n : ℕ) (r : Code) (σ x : ℕ)
     → advancing (rowOf (job-item L o n r)) (job-item L o n r .spot) perform 0 x (busyRow (job-at o n r) σ []) ≡ busyRow r σ []
-unfolding job-item
+unfolding job-item movedOn
 job-row L o n r σ x = refl

@@ -57,12 +57,12 @@
 -- The tables follow the ghost machine:
 --     Follows         how tables and states belong together
 --     RowLaws         what a vertex's row is after an update
---     OwnLaws         what a step does to its vertex's row besides its command
+--     OwnLaws         a vertex's own words, stored and read
 --     FollowLaws      tables go on following, one law for each effect
 --     CommandLaws     the commands that are due are taken
 --     DoneLaws        what the tables follow after a command
---     AnswerLaws      chains of tests before an outcome
---     StepLaws        what a step is, by its vertex's row
+--     AnswerLaws      chains of tests before an outcome, and before what is due
+--     StepLaws        what is due at a step, by its vertex's row
 --     ItemLaws        the table of commands, from where an item has come to
 --     MoveLaws        what each move does to the tables
 --     StepFollows     a step is a move, or is refused for a reason that the state shows

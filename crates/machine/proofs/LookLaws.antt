@@ -23,7 +23,6 @@ use native.Mathlib.Omega.{arith}
 use lib.Dec.{ltb}
 use borrow.Author.Tests.{ltb-true, ltb-false}
 use Rattle.graph.specs.Tables.{Lent, NEW, RELEASED, EXECUTING, FINISHED, vertexWords, statusWord, status}
-use Rattle.graph.specs.Answers.{edge-leads-in}
 use Rattle.graph.specs.Sound.{sound}
 use Rattle.graph.specs.Paths.{holds, leadsInto}
 use Rattle.graph.specs.Commands.{command}
@@ -31,17 +30,14 @@ use Rattle.graph.proofs.TestLaws.{true-false, decide, not-so, equal?, both-righ
 use Rattle.graph.proofs.SoundLaws.{Known, sound-fits, fits-sound}
 use Rattle.graph.proofs.Demand2.{stays-sound}
 use Rattle.machine.specs.Answers.{Said, Outcome, accepted, unsound-tables}
-use Rattle.machine.specs.Stepping.{stepLimit, steppable, step}
+use Rattle.machine.specs.Stepping.{stepLimit, steppable, Own, Due, refusal-due, job-due, command-due, due, step}
 use Rattle.machine.specs.Running.{canStep, lowest, allFinished, done, stuck, spent, refused, RunOutcome, ended, look, runOn, run}
-use Rattle.machine.specs.Demand2.{Own, Due, refusal-due, job-due, command-due, due, OwnWord, Adds, Does}
-use Rattle.machine.proofs.AnswerLaws.{unless-passed}
-use Rattle.machine.proofs.StepLaws.{step-new, step-over}
-use Rattle.machine.proofs.StepDemand2.{step-does, released-step}
+use Rattle.machine.specs.Demand2.{Adds, Does}
+use Rattle.machine.proofs.OwnLaws.{status-not-own}
+use Rattle.machine.proofs.AnswerLaws.{if-passed}
+use Rattle.machine.proofs.StepLaws.{step-is, due-new, due-over}
+use Rattle.machine.proofs.StepDemand2.{step-does, blocked-step}
 use Rattle.machine.proofs.RunDemand2.{Finds, lowest-finds, can-made, finished-all}
-
--- no vertex's status is one of the own words of a vertex
-status-not-own : (v k : ℕ) → OwnWord v (vertexWords * k + statusWord) → ⊥
-status-not-own v k = ⊎-elim (λ q. omega arith) (λ q. omega (arith, q .0, q .1))
 
 -- what a step adds leaves sound tables sound
 adds-sound : (v : ℕ) (w : Own) (left after : Lent) → Adds v w left after → sound left ≡ true → sound after ≡ true
@@ -79,8 +75,8 @@ step-sound bytes s v = does-sound s v (step bytes s v) (due bytes s v) (step-doe
 
 -- where a vertex can step the tables take steps
 can-steppable : (bytes : List ℕ) (s : Lent) (v : ℕ) → canStep bytes s v ≡ true → steppable s ≡ true
-unfolding step
-can-steppable bytes s v h = unless-passed s (steppable s) _ _ h .0
+unfolding step due
+can-steppable bytes s v h = if-passed s v (steppable s) _ _ h .0
 
 -- a vertex that can step has steps left to take
 can-early : (bytes : List ℕ) (s : Lent) (v : ℕ) → canStep bytes s v ≡ true → s .steps < stepLimit
@@ -91,13 +87,13 @@ can-early bytes s v h = ltb-true (s .steps) stepLimit (both-right _ _ (can-stepp
 finished-cannot : (bytes : List ℕ) (s : Lent) (v : ℕ) → v < s .made → status (s .vertices) v ≡ FINISHED → canStep bytes s v ≡ false
 finished-cannot bytes s v made over =
     not-so (canStep bytes s v)
-    (λ h. true-false h (ap (λ (o : Outcome). accepted (o .answer)) (step-over bytes s v (can-steppable bytes s v h) made over)))
+    (λ h. true-false h (ap (λ (o : Outcome). accepted (o .answer)) (step-is bytes s v (due-over bytes s v (can-steppable bytes s v h) made over))))
 
 -- nor can a new one
 new-cannot : (bytes : List ℕ) (s : Lent) (v : ℕ) → v < s .made → status (s .vertices) v ≡ NEW → canStep bytes s v ≡ false
 new-cannot bytes s v made new =
     not-so (canStep bytes s v)
-    (λ h. true-false h (ap (λ (o : Outcome). accepted (o .answer)) (step-new bytes s v (can-steppable bytes s v h) made new)))
+    (λ h. true-false h (ap (λ (o : Outcome). accepted (o .answer)) (step-is bytes s v (due-new bytes s v (can-steppable bytes s v h) made new))))
 
 -- nor a released one with an edge into it
 blocked-cannot :
@@ -105,11 +101,7 @@ blocked-cannot :
     → canStep bytes s v ≡ false
 blocked-cannot bytes s v made released into =
     not-so (canStep bytes s v)
-    (λ h.
-    true-false h
-    (ap accepted
-    (released-step bytes s v (can-steppable bytes s v h) made released
-    ∙ ap (λ (b : Bool). cond b (Said.refused edge-leads-in 0) Said.start) into)))
+    (λ h. true-false h (ap (λ (o : Outcome). accepted (o .answer)) (blocked-step bytes s v (can-steppable bytes s v h) made released into)))
 
 -- A vertex that does not execute can step only if it is released, with no edge into it.
 pub idle-cannot :

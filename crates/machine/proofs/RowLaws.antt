@@ -1,22 +1,21 @@
 -- What a vertex's row is after an update of the tables. `Rowed s s' v f`: s' is s, but that f is done to the row of v. Such are a status
--- that is set and what a step does to the row of its vertex besides its command; so is nothing at all. Proofs above this file see no word
--- numbers.
-use Prim.Native.Nat.{ℕ, suc, _+_, _*_, _<_}
+-- that is set, and own words that are stored. Proofs above this file see no word numbers.
+use Prim.Native.Nat.{ℕ, _+_, _*_, _<_}
 use mathlib.Core.Path.{_≡_, refl, _∙_, ap, subst}
-use mathlib.Core.Bool.{Bool, true, false, cond}
+use mathlib.Core.Bool.{cond}
 use mathlib.Core.Logic.{⊎-elim}
 use mathlib.Core.List.{List}
 use native.Mathlib.Omega.{arith}
 use lib.Dec.{eqb}
-use lib.ListN.{length, getD, set, take, length-set}
+use lib.ListN.{length, getD, set, length-set}
 use lib.Seq.{getD-set-same, getD-set-other}
 use borrow.Author.Tests.{eq-eqb, ne-eqb}
-use Rattle.graph.specs.Tables.{Lent, NEW, vertexWords, statusWord, placeWord, phaseWord, madeWord, vertexRows, vertexWord}
+use Rattle.graph.specs.Tables.{Lent, NEW, vertexWords, statusWord, placeWord, phaseWord, madeWord, vertexRows, vertexWord, setVertexWord}
 use Rattle.graph.specs.Commands.{withStatus, withVertex}
 use Rattle.graph.proofs.TestLaws.{equal?}
 use Rattle.graph.proofs.TableLaws.{vertex-in, vertex-apart, newRow-other, newRow-status, newRow-place, newRow-scope, newRow-zero}
-use Rattle.program.specs.Encodings.{Command, perform, newTd, newEdge, transfer, release, Spot, Row, weight, makes}
-use Rattle.machine.specs.Stepping.{withWord, cleared, kept, advanced}
+use Rattle.program.specs.Encodings.{Command, Spot, Row}
+use Rattle.machine.specs.Stepping.{Own, own, ownOf, movedOn, stored, withOwn}
 use Rattle.machine.proofs.Follows.{Words, row, wordsOf}
 
 -- word number w of a row set to x
@@ -60,20 +59,11 @@ pub record Rowed (s s' : Lent) (v : ℕ) (f : Words → Words) : Type 0 where
   pub others : (u : ℕ) → (u ≡ v → ⊥) → wordsOf s' u ≡ wordsOf s u
   pub here : wordsOf s' v ≡ f (wordsOf s v)
 
--- nothing is done
-pub rowed-none : (s : Lent) (v : ℕ) → Rowed s s v (λ w. w)
-rowed-none s v =
-    record {
-      edges-same = refl;
-      made-same = refl;
-      held-same = refl;
-      steps-same = refl;
-      length-same = refl;
-      others = λ u ne. refl;
-      here = refl;
-    }
+-- one word set
+abbrev withWord : Lent → ℕ → ℕ → ℕ → Lent
+withWord s v w x =
+    record { vertices = setVertexWord (s .vertices) v w x; edges = s .edges; made = s .made; held = s .held; steps = s .steps }
 
--- one word
 rowed-word : (s : Lent) (v w x : ℕ) → w < vertexWords → v < vertexRows (s .vertices) → Rowed s (withWord s v w x) v (setAt w x)
 unfolding wordsOf
 rowed-word s v w x lw lt =
@@ -126,69 +116,32 @@ rowed-more {s' = s'} {v = v} w x lw lt p = rowed-then p (rowed-word s' v w x lw 
 pub rowed-status : (s : Lent) (v x : ℕ) → v < vertexRows (s .vertices) → Rowed s (withStatus s v x) v (setAt 0 x)
 rowed-status s v x lt = rowed-word s v statusWord x (omega arith) lt
 
--- what a step does to a row besides its command
-abbrev pub gone : ℕ → Words → Words
-gone place w = setAt 1 place (setAt 6 0 (setAt 5 0 (setAt 4 0 (setAt 3 0 w))))
+-- the own words of a row
+abbrev pub ownIn : Words → Own
+ownIn (row st pl sc ph a b c) = own pl ph a b c
 
--- a vertex that was made is kept in the made word k
-abbrev pub keeping : Command → ℕ → ℕ → Words → Words
-keeping (newTd p n) k x w = setAt (4 + k) x w
-keeping perform k x w = w
-keeping (newEdge a b) k x w = w
-keeping (transfer a) k x w = w
-keeping (release a) k x w = w
+pub own-is : (s : Lent) (v : ℕ) → ownOf s v ≡ ownIn (wordsOf s v)
+unfolding ownOf wordsOf
+own-is s v = refl
 
--- the item goes on behind its command c, which was at phase φ and made x if it made a vertex
+-- a row with other ones
+abbrev pub putOwn : Own → Words → Words
+putOwn (own p φ a b c) w =
+    setAt (madeWord + 2) c (setAt (madeWord + 1) b (setAt madeWord a (setAt phaseWord φ (setAt placeWord p w))))
+
+-- own words that are stored
+pub rowed-own : (s : Lent) (v : ℕ) (w : Own) → v < vertexRows (s .vertices) → Rowed s (withOwn s v w) v (putOwn w)
+unfolding stored
+rowed-own s v (own p φ a b c) lt =
+    rowed-more (madeWord + 2) c (omega arith) lt
+    (rowed-more (madeWord + 1) b (omega arith) lt
+    (rowed-more madeWord a (omega arith) lt
+    (rowed-more phaseWord φ (omega arith) lt
+    (rowed-word s v placeWord p (omega arith) lt))))
+
+-- the row after an item's command c, which was at phase φ and made x if it made a vertex
 abbrev pub advancing : Row → (Spot → ℕ) → Command → ℕ → ℕ → Words → Words
-advancing r spot c φ x w =
-    cond (eqb (suc φ) (length (r .commands))) (gone (spot (r .next)) w)
-    (setAt 3 (suc φ) (keeping c (weight makes (take φ (r .commands))) x w))
-
--- the last command of an item
-rowed-gone :
-    (s : Lent) (v place : ℕ) → v < vertexRows (s .vertices) → Rowed s (withWord (cleared s v) v placeWord place) v (gone place)
-rowed-gone s v place lt =
-    rowed-more placeWord place (omega arith) lt
-    (rowed-more (madeWord + 2) 0 (omega arith) lt
-    (rowed-more (madeWord + 1) 0 (omega arith) lt
-    (rowed-more madeWord 0 (omega arith) lt
-    (rowed-word s v phaseWord 0 (omega arith) lt))))
-
--- the made word k is one of the row, where the command makes a vertex
-abbrev pub Keeps : Command → ℕ → Type 0
-Keeps (newTd p n) k = madeWord + k < vertexWords
-Keeps perform k = Unit {0}
-Keeps (newEdge a b) k = Unit {0}
-Keeps (transfer a) k = Unit {0}
-Keeps (release a) k = Unit {0}
-
--- another one
-rowed-kept :
-    (c : Command) (s : Lent) (v k x : ℕ) → v < vertexRows (s .vertices) → Keeps c k → Rowed s (kept c s v k x) v (keeping c k x)
-unfolding kept
-rowed-kept (newTd p n) s v k x lt lk = rowed-word s v (madeWord + k) x lk lt
-rowed-kept perform s v k x lt lk = rowed-none s v
-rowed-kept (newEdge a b) s v k x lt lk = rowed-none s v
-rowed-kept (transfer a) s v k x lt lk = rowed-none s v
-rowed-kept (release a) s v k x lt lk = rowed-none s v
-
--- so the tables are what `advancing` says
-pub rowed-advanced :
-    (r : Row) (spot : Spot → ℕ) (c : Command) (v φ x : ℕ) (s : Lent) → v < vertexRows (s .vertices)
-    → Keeps c (weight makes (take φ (r .commands)))
-    → Rowed s (advanced r spot c v φ x s) v (advancing r spot c φ x)
-unfolding advanced
-rowed-advanced r spot c v φ x s lt lk = go (eqb (suc φ) (length (r .commands)))
-  where
-    k : ℕ
-    k = weight makes (take φ (r .commands))
-
-    go :
-        (b : Bool)
-        → Rowed s (cond b (withWord (cleared s v) v placeWord (spot (r .next))) (withWord (kept c s v k x) v phaseWord (suc φ))) v
-        (λ w. cond b (gone (spot (r .next)) w) (setAt 3 (suc φ) (keeping c k x w)))
-    go true = rowed-gone s v (spot (r .next)) lt
-    go false = rowed-more phaseWord (suc φ) (omega arith) lt (rowed-kept c s v k x lt lk)
+advancing r spot c φ x w = putOwn (movedOn r spot c φ x (ownIn w)) w
 
 -- the row that newTd makes, and the others
 pub new-row :

@@ -12,11 +12,11 @@ use Rattle.graph.specs.Tables.{Lent, FINISHED, status}
 use Rattle.graph.specs.Commands.{isMade, hasStatus}
 use Rattle.graph.proofs.TestLaws.{true-false, not-so, every-at, every-all, below-suc}
 use Rattle.machine.specs.Answers.{Said, unsound-tables}
-use Rattle.machine.specs.Stepping.{steppable, step}
+use Rattle.machine.specs.Stepping.{steppable, due, step}
 use Rattle.machine.specs.Running.{canStep, orThis, lowestBelow, lowest, allFinished, Ending, refused, RunOutcome, ended, look, runOn, run}
 use Rattle.machine.specs.Demand2.{Steps, no-step, one-more, AllFinished, Looks, Ran, run-refused, run-steps}
 use Rattle.machine.proofs.StepDemand2.{step-counts}
-use Rattle.machine.proofs.AnswerLaws.{unless-passed}
+use Rattle.machine.proofs.AnswerLaws.{if-passed}
 
 -- What a search below n comes to: no number, or the lowest of which the test holds.
 abbrev pub Finds : (ℕ → Bool) → ℕ → Option ℕ → Type 0
@@ -42,8 +42,8 @@ lowest-finds bytes s = below-finds (canStep bytes s) (s .made)
 
 -- only a made vertex can step
 pub can-made : (bytes : List ℕ) (s : Lent) (v : ℕ) → canStep bytes s v ≡ true → v < s .made
-unfolding step
-can-made bytes s v h = ltb-true v (s .made) (unless-passed s (isMade s v) _ _ (unless-passed s (steppable s) _ _ h .1) .0)
+unfolding step due
+can-made bytes s v h = ltb-true v (s .made) (if-passed s v (isMade s v) _ _ (if-passed s v (steppable s) _ _ h .1) .0)
 
 -- "all vertices made are finished", as a test and in words
 pub finished-all : (s : Lent) → allFinished s ≡ true → AllFinished s

@@ -23,7 +23,7 @@ use Rattle.program.specs.Encodings.{Name, perform, newTd}
 use Rattle.program.specs.Reader.{program, reading}
 use Rattle.program.specs.Located.{Code, end-at, job-at, locate, place, codeAt}
 use Rattle.machine.specs.Answers.{Said, Outcome, oneStep}
-use Rattle.machine.specs.Stepping.{stepLimit, steppable, advanced, doCommand, step}
+use Rattle.machine.specs.Stepping.{stepLimit, steppable, Own, ownOf, movedOn, filledIn, withOwn, step}
 use Rattle.machine.specs.Stepping as words
 use Rattle.machine.proofs.Ghost.{Do, link, hand, free, Control, draft, fresh, ready, busy, joining, over, State, resolved, a-start}
 use Rattle.machine.proofs.Ghost.{a-new, an-edge, a-job, a-stop, eventOf, Move, begins, performs, stops, makes, splits, acts}
@@ -33,16 +33,16 @@ use Rattle.machine.proofs.RoadLaws.{busy-code}
 use Rattle.machine.proofs.Unsplit.{MoreToMake, UnsplitAt, Unsplit}
 use Rattle.machine.proofs.Follows.{Words, wordsOf, Shows, shows-draft, shows-fresh, shows-busy, Follows, absent, blocked, is-new}
 use Rattle.machine.proofs.Follows.{is-over, Answers, says-start, says-new, says-job, says-stop, Followed, refused, moved}
-use Rattle.machine.proofs.RowLaws.{rowed-none, rowed-advanced}
+use Rattle.machine.proofs.OwnLaws.{length-stored, leaves-stored}
 use Rattle.machine.proofs.FollowLaws.{statusOf, follows-status, woken-follows, count-follows}
-use Rattle.machine.proofs.CommandLaws.{blocked-start, into-from, first-task, stands, runs, takes-start}
+use Rattle.machine.proofs.CommandLaws.{into-from, first-task, stands, runs, takes-start}
 use Rattle.machine.proofs.DoneLaws.{shown-as, start-done, stop-done, asked, Room, Joined, joined}
-use Rattle.machine.proofs.StepLaws.{rowOf, steppable-of, step-absent, step-new, step-over, step-released, row-place, job-item}
-use Rattle.machine.proofs.StepLaws.{step-command, step-end}
-use Rattle.machine.proofs.ItemLaws.{joins-keeps, Acting, acting, busyRow, Making, Busy, at-end, at-job, making, splitting}
+use Rattle.machine.proofs.StepLaws.{rowOf, steppable-of, step-is, due-absent, due-new, due-over, due-released, row-place, job-item}
+use Rattle.machine.proofs.StepLaws.{due-command, due-end}
+use Rattle.machine.proofs.StepDemand2.{blocked-step}
+use Rattle.machine.proofs.ItemLaws.{Acting, acting, busyRow, Making, Busy, at-end, at-job, making, splitting}
 use Rattle.machine.proofs.ItemLaws.{busy-cases, job-next}
-use Rattle.machine.proofs.MoveLaws.{tallied, joins-calls, new-calls, row-within, by-command, acts-follows, performs-follows}
-use Rattle.machine.proofs.MoveLaws.{makes-follows, new-held, stop-held}
+use Rattle.machine.proofs.MoveLaws.{joins-due, new-due, by-command, acts-follows, performs-follows, makes-follows, new-held, stop-held}
 
 -- the row of a busy vertex
 busy-row : {p : Code} {L σ : ℕ} {w : Words} {c : Code} {ms : List ℕ} → Shows p L w σ (busy c ms) → w ≡ busyRow c σ ms
@@ -110,35 +110,33 @@ module _
 
     -- refusals
     refuses-absent : S .count ≤ v → Result
-    refuses-absent le = refused no-such-vertex (absent le) (step-absent bytes s v ok (rw (F .made-is) le))
+    refuses-absent le = refused no-such-vertex (absent le) (step-is bytes s v (due-absent bytes s v ok (rw (F .made-is) le)))
 
     refuses-new : isNew (S .control v) ≡ true → Result
     refuses-new q =
         let (made, new) = stands shape F v NEW (new-is (S .control v) q) (omega arith) in
-        refused vertex-new (is-new q) (step-new bytes s v ok made new)
+        refused vertex-new (is-new q) (step-is bytes s v (due-new bytes s v ok made new))
 
     refuses-over : v < S .count → S .control v ≡ over → Result
     refuses-over lt q =
-        refused vertex-finished (is-over lt q) (step-over bytes s v ok (is-made lt) (follows-status s S v F lt ∙ over-is q))
+        refused vertex-finished (is-over lt q)
+        (step-is bytes s v (due-over bytes s v ok (is-made lt) (follows-status s S v F lt ∙ over-is q)))
 
     -- a released vertex starts, unless an edge leads in
     step-ready : (c : Code) → S .control v ≡ ready c → Result
     step-ready c q =
         let (made, released) = stands shape F v RELEASED (ready-is q) (omega arith) in
-        let starts = step-released bytes s v ok made released in
         ⊎-elim
         (λ h.
         let (u, held) = into-from (s .edges) (s .held) v h in
-        refused edge-leads-in (blocked q u (sym (F .edges-are u v) ∙ held))
-        (starts ∙ blocked-start s v (λ s'. s') (F .sound-is) made released h))
+        refused edge-leads-in (blocked q u (sym (F .edges-are u v) ∙ held)) (blocked-step bytes s v ok made released h))
         (λ h.
         let taken = takes-start shape F v (ready-is q) h in
-        by-command (Start v) (λ s'. s') a-start _ F starts taken
+        by-command (Start v) (ownOf s v) a-start _ F (step-is bytes s v (due-released bytes s v ok made released)) taken
         (begins q (λ u. sym (F .edges-are u v) ∙ none-into (s .edges) (s .held) v .0 h u))
-        (start-done F v c q taken)
+        (rw (leaves-stored (Start v) s v made) (start-done F v c q taken))
         says-start
-        (omega arith)
-        (rowed-none _ v))
+        (omega arith))
         (decide (leadsInto (s .edges) (s .held) v))
 
     -- a joining command
@@ -146,21 +144,15 @@ module _
         (c : Code) (d : Do) (ds : List Do) → S .control v ≡ joining c d ds → v < s .made → Acting p L (S .scope v) (wordsOf s v) d ds c
         → Joined p L s S v d → Result
     step-acts c d ds q made a j =
-        by-command (asked v d) (on a) (eventOf d) _ F
-        (step-command bytes t s v reads ok made (a .k) (a .is-row) (a .stands) (a .item) (a .command) (a .next-is)
-        ∙ joins-calls s v (a .item .number) (a .item .spot) (on a) (a .ms) (a .is-row) (a .does))
+        by-command (asked v d) _ (eventOf d) _ F
+        (step-is bytes s v
+        (due-command bytes t s v reads ok made (a .k) (a .is-row) (a .stands) (a .item) (a .command) (a .next-is)
+        ∙ joins-due s v (a .item .number) (a .item .spot) _ (a .ms) (a .is-row) (a .does)))
         (j .is-taken)
         (acts q)
-        (acts-follows F v c d ds a j (s .made) within)
+        (acts-follows F v c d ds a j made)
         (j .answers)
         (j .held-le)
-        (rowed-advanced _ _ (a .command) v (a .φ) (s .made) (leaves (asked v d) s) within (joins-keeps _ (a .does)))
-      where
-        on : {c : Code} {d : Do} {ds : List Do} → Acting p L (S .scope v) (wordsOf s v) d ds c → Lent → Lent
-        on a = advanced (rowOf (a .item)) (a .item .spot) (a .command) v (a .φ) (s .made)
-
-        within : v < vertexRows (leaves (asked v d) s .vertices)
-        within = row-within s (F .sound-is) (asked v d) v made
 
     step-joining :
         (c : Code) (d : Do) (ds : List Do) → S .control v ≡ joining c d ds
@@ -186,54 +178,48 @@ module _
           (k : Code) (a : Name) (m : Making L c ms k a) (S' : State) → Move L S v a-new S' → s .made < vertexRows (s .vertices)
           → (Taken (NewTd v (place k) (resolved (S .scope v) ms a)) s
           → Follows p L
-          (advanced (rowOf (m .item)) (m .item .spot) (newTd (m .spot-of) a) v (length ms) (s .made)
-          (leaves (NewTd v (place k) (resolved (S .scope v) ms a)) s))
+          (withOwn (leaves (NewTd v (place k) (resolved (S .scope v) ms a)) s) v
+          (movedOn (rowOf (m .item)) (m .item .spot) (newTd (m .spot-of) a) (length ms) (s .made) (ownOf s v)))
           S')
           → Result
       step-makes k a m S' move room follows =
-          by-command (NewTd v (place k) σ) on a-new S' F
-          (step-command bytes t s v reads ok busy-made c busy-shown busy-stands (m .item) (newTd (m .spot-of) a) (m .next-is)
-          ∙ new-calls s v (m .item .number) (m .item .spot) on ms (m .spot-of) a busy-shown (m .spot-is))
+          by-command (NewTd v (place k) σ) _ a-new S' F
+          (step-is bytes s v
+          (due-command bytes t s v reads ok busy-made c busy-shown busy-stands (m .item) (newTd (m .spot-of) a) (m .next-is)
+          ∙ new-due s v (m .item .number) (m .item .spot) _ ms (m .spot-of) a busy-shown (m .spot-is)))
           taken
           move
           (follows taken)
           (subst (λ (n : ℕ). Answers S v a-new (Said.new n)) (sym (F .made-is)) says-new)
           (new-held s v (place k) σ _)
-          (rowed-advanced _ _ (newTd (m .spot-of) a) v (length ms) (s .made) _ within (m .keeps))
         where
           σ : ℕ
           σ = resolved (S .scope v) ms a
 
-          on : Lent → Lent
-          on = advanced (rowOf (m .item)) (m .item .spot) (newTd (m .spot-of) a) v (length ms) (s .made)
-
           taken : Taken (NewTd v (place k) σ) s
           taken = (runs shape F v (busy-is q), room)
-
-          within : v < vertexRows (leaves (NewTd v (place k) σ) s .vertices)
-          within = row-within s (F .sound-is) (NewTd v (place k) σ) v busy-made
 
     -- an end byte
     step-stop : (o : ℕ) → S .control v ≡ busy (end-at o) [] → Result
     step-stop o q =
         let taken = runs shape F v (busy-is q) in
-        by-command (Stop v) (λ s'. s') a-stop _ F
-        (step-end bytes t s v reads ok (busy-made (end-at o) [] q) o (busy-shown (end-at o) [] q) (busy-stands (end-at o) [] q))
+        let made = busy-made (end-at o) [] q in
+        by-command (Stop v) (ownOf s v) a-stop _ F
+        (step-is bytes s v (due-end bytes t s v reads ok made o (busy-shown (end-at o) [] q) (busy-stands (end-at o) [] q)))
         taken
         (stops q)
-        (stop-done F v taken)
+        (rw (leaves-stored (Stop v) s v made) (stop-done F v taken))
         says-stop
         (stop-held s v _)
-        (rowed-none _ v)
 
     -- a job
     step-job : (o n : ℕ) (r : Code) → S .control v ≡ busy (job-at o n r) [] → Result
     step-job o n r q =
         subst (λ (o : Outcome). Followed p L s S v o) (sym is-step)
         (moved (a-job o) _ (performs q)
-        (count-follows (performs-follows F v o n r (s .made) shown within))
+        (count-follows (performs-follows F v o n r shown within))
         (subst (λ (z : ℕ). Answers S v (a-job o) (Said.job n z)) (sym at-o) (says-job q))
-        (tallied refl (omega arith) refl refl (rowed-advanced _ _ perform v 0 (s .made) s within tt)))
+        (record { steps-are = refl; held-le = omega arith; vertex-length = length-stored (s .vertices) v after; edge-length = refl }))
       where
         made : v < s .made
         made = busy-made (job-at o n r) [] q
@@ -247,14 +233,15 @@ module _
         at-o : words.place s v ≡ o
         at-o = unfold place in row-place s v shown
 
-        on : Lent → Lent
-        on = advanced (rowOf (job-item L o n r)) (job-item L o n r .spot) perform v 0 (s .made)
+        after : Own
+        after = movedOn (rowOf (job-item L o n r)) (job-item L o n r .spot) perform 0 (s .made) (ownOf s v)
 
-        is-step : step bytes s v ≡ record { answer = Said.job n (words.place s v); after = oneStep (on s) }
+        is-step : step bytes s v ≡ record { answer = Said.job n (words.place s v); after = oneStep (withOwn s v after) }
         is-step =
-            unfold doCommand job-item in
-            step-command bytes t s v reads ok made (job-at o n r) shown (busy-stands (job-at o n r) [] q) (job-item L o n r) perform
-            (job-next L o n r)
+            unfold filledIn job-item in
+            step-is bytes s v
+            (due-command bytes t s v reads ok made (job-at o n r) shown (busy-stands (job-at o n r) [] q) (job-item L o n r) perform
+            (job-next L o n r))
 
     -- a busy vertex
     step-busy :

@@ -1,8 +1,8 @@
--- What a step is, by the row of its vertex: a refusal, a start, or the next command of the item at its place. What stands at the place is
--- told by the vertex's code (`ItemOf`).
+-- What is due at a step, by the row of its vertex: a refusal, a start, or the next command of the item at its place. What stands at the
+-- place is told by the vertex's code (`ItemOf`).
 use Prim.Native.Nat.{ℕ, _-_, _<_, _≤_}
 use mathlib.Core.Path.{_≡_, refl, _∙_, ap}
-use mathlib.Core.Bool.{Bool, true, cond}
+use mathlib.Core.Bool.{Bool, true, false, cond}
 use mathlib.Core.List.{List}
 use mathlib.Core.Option.{Option, some}
 use native.Mathlib.Omega.{arith}
@@ -21,69 +21,66 @@ use Rattle.program.specs.Reader.{program, reading}
 use Rattle.program.specs.Located.{Code, end-at, job-at, async-at, finish-at, fork-at, locate, codeAt, head, itemAt}
 use Rattle.program.specs.Located as code
 use Rattle.program.proofs.LocatedLaws.{item-stands}
-use Rattle.machine.specs.Answers.{refuse}
-use Rattle.machine.specs.Stepping.{stepLimit, steppable, place, phase, named, Task, item, spots, task, nth, advanced, calls}
-use Rattle.machine.specs.Stepping.{doCommand, doNth, doTask, step}
+use Rattle.machine.specs.Stepping.{stepLimit, steppable, place, phase, named, Task, item, spots, task, nth, ownOf, movedOn, Due}
+use Rattle.machine.specs.Stepping.{refusal-due, command-due, filledIn, nextOf, nextAt, due, doDue, step}
 use Rattle.machine.proofs.Ghost.{kindOf, goes, resolved}
 use Rattle.machine.proofs.Invariant.{isItem}
 use Rattle.machine.proofs.Follows.{row, wordsOf}
-use Rattle.machine.proofs.AnswerLaws.{unless-pass, unless-stop}
+use Rattle.machine.proofs.AnswerLaws.{if-pass, if-stop}
 
 -- sound tables with steps to go
 pub steppable-of : (s : Lent) → sound s ≡ true → s .steps < stepLimit → steppable s ≡ true
 unfolding steppable
 steppable-of s known lt = both-true known (lt-ltb (s .steps) stepLimit lt)
 
+-- a step does what is due
+pub step-is : (bytes : List ℕ) (s : Lent) (v : ℕ) {d : Due} → due bytes s v ≡ d → step bytes s v ≡ doDue s v d
+unfolding step
+step-is bytes s v e = ap (doDue s v) e
+
 -- by the status
 module _ (bytes : List ℕ) (s : Lent) (v : ℕ) (ok : steppable s ≡ true) where
-  pub step-absent : s .made ≤ v → step bytes s v ≡ refuse s no-such-vertex 0
-  unfolding step
-  step-absent le = unless-pass s _ _ ok ∙ unless-stop s _ _ (le-ltb v (s .made) le)
+  pub due-absent : s .made ≤ v → due bytes s v ≡ refusal-due no-such-vertex
+  unfolding due
+  due-absent le = if-pass _ _ ok ∙ if-stop _ _ (le-ltb v (s .made) le)
 
   module _ (made : v < s .made) where
-    pub step-new : status (s .vertices) v ≡ NEW → step bytes s v ≡ refuse s vertex-new 0
-    unfolding step
-    step-new q =
-        unless-pass s _ _ ok
-        ∙ unless-pass s _ _ (lt-ltb v (s .made) made)
-        ∙ unless-stop s _ _ (not-of-true (eq-eqb (status (s .vertices) v) NEW q))
+    pub due-new : status (s .vertices) v ≡ NEW → due bytes s v ≡ refusal-due vertex-new
+    unfolding due
+    due-new q =
+        if-pass _ _ ok
+        ∙ if-pass _ _ (lt-ltb v (s .made) made)
+        ∙ if-stop _ _ (not-of-true (eq-eqb (status (s .vertices) v) NEW q))
 
-    pub step-over : status (s .vertices) v ≡ FINISHED → step bytes s v ≡ refuse s vertex-finished 0
-    unfolding step
-    step-over q =
-        unless-pass s _ _ ok
-        ∙ unless-pass s _ _ (lt-ltb v (s .made) made)
-        ∙ unless-pass s _ _ (not-of-false (ne-eqb (status (s .vertices) v) NEW (omega arith)))
-        ∙ unless-stop s _ _ (not-of-true (eq-eqb (status (s .vertices) v) FINISHED q))
+    pub due-over : status (s .vertices) v ≡ FINISHED → due bytes s v ≡ refusal-due vertex-finished
+    unfolding due
+    due-over q =
+        if-pass _ _ ok
+        ∙ if-pass _ _ (lt-ltb v (s .made) made)
+        ∙ if-pass _ _ (not-of-false (ne-eqb (status (s .vertices) v) NEW (omega arith)))
+        ∙ if-stop _ _ (not-of-true (eq-eqb (status (s .vertices) v) FINISHED q))
 
     -- one that is neither new nor finished
-    step-live :
-        (status (s .vertices) v ≡ NEW → ⊥) → (status (s .vertices) v ≡ FINISHED → ⊥)
-        → step bytes s v
-        ≡ cond (hasStatus s v RELEASED) (calls (Start v) s (λ s'. s')) (doTask s v (task (length bytes - 1) (itemAt bytes (place s v))))
-    unfolding step
-    step-live new over =
-        unless-pass s _ _ ok
-        ∙ unless-pass s _ _ (lt-ltb v (s .made) made)
-        ∙ unless-pass s _ _ (not-of-false (ne-eqb (status (s .vertices) v) NEW new))
-        ∙ unless-pass s _ _ (not-of-false (ne-eqb (status (s .vertices) v) FINISHED over))
+    due-live :
+        (status (s .vertices) v ≡ NEW → ⊥) → (status (s .vertices) v ≡ FINISHED → ⊥) → (b : Bool) → hasStatus s v RELEASED ≡ b
+        → due bytes s v
+        ≡ cond b (command-due (Start v) (ownOf s v)) (nextAt s v (task (length bytes - 1) (itemAt bytes (place s v))))
+    unfolding due
+    due-live new over b q =
+        if-pass _ _ ok
+        ∙ if-pass _ _ (lt-ltb v (s .made) made)
+        ∙ if-pass _ _ (not-of-false (ne-eqb (status (s .vertices) v) NEW new))
+        ∙ if-pass _ _ (not-of-false (ne-eqb (status (s .vertices) v) FINISHED over))
+        ∙ rw q refl
 
     -- a released one is started
-    pub step-released : status (s .vertices) v ≡ RELEASED → step bytes s v ≡ calls (Start v) s (λ s'. s')
-    step-released q =
-        step-live (omega arith) (omega arith)
-        ∙ ap
-        (λ (b : Bool). cond b (calls (Start v) s (λ s'. s')) (doTask s v (task (length bytes - 1) (itemAt bytes (place s v)))))
-        (eq-eqb (status (s .vertices) v) RELEASED q)
+    pub due-released : status (s .vertices) v ≡ RELEASED → due bytes s v ≡ command-due (Start v) (ownOf s v)
+    due-released q = due-live (omega arith) (omega arith) true (eq-eqb (status (s .vertices) v) RELEASED q)
 
     -- an executing one looks for its item
-    pub step-executing :
-        status (s .vertices) v ≡ EXECUTING → step bytes s v ≡ doTask s v (task (length bytes - 1) (itemAt bytes (place s v)))
-    step-executing q =
-        step-live (omega arith) (omega arith)
-        ∙ ap
-        (λ (b : Bool). cond b (calls (Start v) s (λ s'. s')) (doTask s v (task (length bytes - 1) (itemAt bytes (place s v)))))
-        (ne-eqb (status (s .vertices) v) RELEASED (omega arith))
+    pub due-executing :
+        status (s .vertices) v ≡ EXECUTING → due bytes s v ≡ nextAt s v (task (length bytes - 1) (itemAt bytes (place s v)))
+    due-executing q = due-live (omega arith) (omega arith) false (ne-eqb (status (s .vertices) v) RELEASED (omega arith))
 
 -- words of a row
 module _ (s : Lent) (v : ℕ) {st pl sc ph a b c : ℕ} (h : wordsOf s v ≡ row st pl sc ph a b c) where
@@ -168,7 +165,7 @@ item-of L (fork-at o b c r) h =
       goes-on = refl;
     }
 
--- the step of a vertex v that executes, with the place of c and the phase φ in its row
+-- what is due at the step of a vertex v that executes, with the place of c and the phase φ in its row
 module _
     (bytes : List ℕ) (t : Body) (s : Lent) (v : ℕ) (reads : reading bytes ≡ program t) (ok : steppable s ≡ true) (made : v < s .made)
   where
@@ -176,27 +173,27 @@ module _
         (c : Code) {σ φ x y z : ℕ} (h : wordsOf s v ≡ row EXECUTING (code.place c) σ φ x y z)
         (at : codeAt (locate 0 t) (code.place c) ≡ some c)
       where
-        step-task : step bytes s v ≡ doTask s v (task (length bytes - 1) (head c))
-        step-task =
-            step-executing bytes s v ok made (row-status s v h)
-            ∙ ap (λ (q : ℕ). doTask s v (task (length bytes - 1) (itemAt bytes q))) (row-place s v h)
-            ∙ ap (λ (q : Stands). doTask s v (task (length bytes - 1) q)) (item-stands bytes t (code.place c) reads at)
+        due-task : due bytes s v ≡ nextAt s v (task (length bytes - 1) (head c))
+        due-task =
+            due-executing bytes s v ok made (row-status s v h)
+            ∙ ap (λ (q : ℕ). nextAt s v (task (length bytes - 1) (itemAt bytes q))) (row-place s v h)
+            ∙ ap (λ (q : Stands). nextAt s v (task (length bytes - 1) q)) (item-stands bytes t (code.place c) reads at)
 
         -- an item's next command
-        pub step-command :
+        pub due-command :
             (i : ItemOf (length bytes - 1) c) (d : Command) → nth (rowOf i .commands) φ ≡ some d
-            → step bytes s v ≡ doCommand s v (i .number) (i .spot) (advanced (rowOf i) (i .spot) d v φ (s .made)) d
-        unfolding doTask doNth
-        step-command i d q =
-            step-task
-            ∙ ap (λ (k : Task). doTask s v k) (i .stands)
-            ∙ ap (λ (n : ℕ). doNth s v (rowOf i) (i .number) (i .spot) (nth (rowOf i .commands) n)) (row-phase s v h)
-            ∙ ap (λ (o : Option Command). doNth s v (rowOf i) (i .number) (i .spot) o) q
-            ∙ ap (λ (n : ℕ). doCommand s v (i .number) (i .spot) (advanced (rowOf i) (i .spot) d v n (s .made)) d) (row-phase s v h)
+            → due bytes s v ≡ filledIn s v (i .number) (i .spot) (movedOn (rowOf i) (i .spot) d φ (s .made) (ownOf s v)) d
+        unfolding nextAt nextOf
+        due-command i d q =
+            due-task
+            ∙ ap (λ (k : Task). nextAt s v k) (i .stands)
+            ∙ ap (λ (n : ℕ). nextOf s v (rowOf i) (i .number) (i .spot) (nth (rowOf i .commands) n)) (row-phase s v h)
+            ∙ ap (λ (o : Option Command). nextOf s v (rowOf i) (i .number) (i .spot) o) q
+            ∙ ap (λ (n : ℕ). filledIn s v (i .number) (i .spot) (movedOn (rowOf i) (i .spot) d n (s .made) (ownOf s v)) d) (row-phase s v h)
 
     -- an end byte
-    pub step-end :
+    pub due-end :
         (o : ℕ) {σ x y z : ℕ} → wordsOf s v ≡ row EXECUTING (code.place (end-at o)) σ 0 x y z
-        → codeAt (locate 0 t) (code.place (end-at o)) ≡ some (end-at o) → step bytes s v ≡ calls (Stop v) s (λ s'. s')
-    unfolding doTask task head
-    step-end o h at = step-task (end-at o) h at ∙ unless-pass s _ _ (eq-eqb (phase s v) 0 (row-phase s v h))
+        → codeAt (locate 0 t) (code.place (end-at o)) ≡ some (end-at o) → due bytes s v ≡ command-due (Stop v) (ownOf s v)
+    unfolding nextAt task head
+    due-end o h at = due-task (end-at o) h at ∙ if-pass _ _ (eq-eqb (phase s v) 0 (row-phase s v h))

@@ -59,14 +59,13 @@ abbrev pub oneStep : Lent → Lent
 oneStep s =
     record { vertices = s .vertices; edges = s .edges; made = s .made; held = s .held; steps = s .steps + 1 }
 
--- A step by a single command. Where the command is refused so is the step; else `moved` is done to the stepping vertex's row besides, and the
--- step is counted.
-unfoldable pub byCommand : Lent → of-graph.Said → Lent → (Lent → Lent) → Outcome
-byCommand s of-graph.opened after moved = record { answer = loaded; after = after }
-byCommand s of-graph.start after moved = record { answer = start; after = oneStep (moved after) }
-byCommand s (of-graph.new v) after moved = record { answer = new v; after = oneStep (moved after) }
-byCommand s (of-graph.edge a b) after moved = record { answer = edge a b; after = oneStep (moved after) }
-byCommand s (of-graph.release v) after moved = record { answer = release v; after = oneStep (moved after) }
-byCommand s (of-graph.transfer v) after moved = record { answer = transfer v; after = oneStep (moved after) }
-byCommand s of-graph.stop after moved = record { answer = stop; after = oneStep (moved after) }
-byCommand s (of-graph.refused n p) after moved = refuse s n p
+-- what a single command says, as a step says it
+abbrev pub saidAs : of-graph.Said → Said
+saidAs of-graph.opened = loaded
+saidAs of-graph.start = start
+saidAs (of-graph.new v) = new v
+saidAs (of-graph.edge a b) = edge a b
+saidAs (of-graph.release v) = release v
+saidAs (of-graph.transfer v) = transfer v
+saidAs of-graph.stop = stop
+saidAs (of-graph.refused n p) = refused n p

@@ -1,29 +1,25 @@
 -- The words in which demand 2 is stated of loading, of steps and of runs: "A step of a loaded program is the next command of the published
 -- encoding, taken where that command is, a run only such steps, and the reader takes exactly the programs of document 01's form, as
 -- loading does where the rows they need are lent." The theorems are in proofs/LoadLaws.antt, StepDemand2.antt and RunDemand2.antt.
-use Prim.Native.Nat.{ℕ, zero, suc, _+_, _-_, _*_, _<_, _≤_}
+use Prim.Native.Nat.{ℕ, suc, _+_, _*_, _<_, _≤_}
 use mathlib.Core.Path.{_≡_}
 use mathlib.Core.Logic.{_⊎_}
-use mathlib.Core.Bool.{Bool, true, false, not, cond}
+use mathlib.Core.Bool.{true, false}
 use mathlib.Core.List.{List}
 use mathlib.Core.Option.{Option, none, some}
-use lib.Dec.{eqb}
-use lib.ListN.{length, take}
-use Rattle.graph.specs.Tables.{Lent, NEW, RELEASED, FINISHED, vertexWords, edgeWords, placeWord, phaseWord, vertexRows, edgeRows}
-use Rattle.graph.specs.Tables.{status}
+use Rattle.graph.specs.Tables.{Lent, FINISHED, vertexWords, edgeWords, placeWord, phaseWord, madeWord, vertexRows, edgeRows, status}
 use Rattle.graph.specs.Answers.{no-such-vertex, vertex-new, vertex-finished}
 use Rattle.graph.specs.Answers as of-graph
-use Rattle.graph.specs.Commands.{isMade, hasStatus, command}
+use Rattle.graph.specs.Commands.{command}
 use Rattle.graph.specs.Demand2.{graph, SameBut}
 use Rattle.graph.specs.declared.Command as single
-use Rattle.graph.specs.declared.Command.the-variants.{NewTd, NewEdge, Release, Transfer, Start, Stop}
 use Rattle.program.specs.Trees.{Body}
 use Rattle.program.specs.Encodings as needs
-use Rattle.program.specs.Encodings.{Spot, Command, perform, newTd, newEdge, transfer, release, Row, firstEdition, weight, makes}
+use Rattle.program.specs.Encodings.{firstEdition}
 use Rattle.program.specs.Reader.{program, refusal, reading, number-malformed, job-too-large}
-use Rattle.program.specs.Located.{itemAt}
-use Rattle.machine.specs.Answers.{Said, Outcome, accepted, refuse, too-few-vertex-rows, too-few-edge-rows, unsound-tables, unreadable}
-use Rattle.machine.specs.Stepping.{steppable, place, phase, made, named, Task, item, ends, nothing, task, nth, step}
+use Rattle.machine.specs.Answers.{Said, Outcome, accepted, refuse, saidAs, too-few-vertex-rows, too-few-edge-rows, unsound-tables}
+use Rattle.machine.specs.Answers.{unreadable}
+use Rattle.machine.specs.Stepping.{steppable, Own, ownOf, Due, refusal-due, job-due, command-due, due, step}
 use Rattle.machine.specs.Running.{canStep, Ending, done, stuck, spent, refused, RunOutcome, ended}
 
 -- LOADING
@@ -53,92 +49,11 @@ abbrev pub HasPlace : ℕ → Type 0
 HasPlace n = (number-malformed ≤ n) × (n ≤ job-too-large)
 
 -- STEPS
--- The words of a vertex's row that only its steps move: its place, its phase, and the three vertices that this item made.
-pub data Own : Type 0 where
-  own : (place phase first second third : ℕ) → Own
-
-unfoldable pub ownOf : Lent → ℕ → Own
-ownOf s v = own (place s v) (phase s v) (made s v 0) (made s v 1) (made s v 2)
-
--- "three vertices that this item made, in order": x is the one behind so many others
-unfoldable pub withMade : ℕ → ℕ → Own → Own
-withMade zero x (own p φ a b c) = own p φ x b c
-withMade (suc zero) x (own p φ a b c) = own p φ a x c
-withMade (suc (suc k)) x (own p φ a b c) = own p φ a b x
-
--- a newTd keeps the vertex x that it made
-unfoldable pub withKept : Command → ℕ → ℕ → Own → Own
-withKept perform k x w = w
-withKept (newTd p a) k x w = withMade k x w
-withKept (newEdge a b) k x w = w
-withKept (transfer a) k x w = w
-withKept (release a) k x w = w
-
-unfoldable pub withPhase : ℕ → Own → Own
-withPhase n (own p φ a b c) = own p n a b c
-
--- What an item's command c makes of these words at the phase φ, "commands of the current item already done": "An item's last command sets
--- phase and made vertices to 0", and then the vertex goes where the item says; another one is counted, and a newTd keeps the vertex x that
--- it made.
-unfoldable pub movedOn : Row → (Spot → ℕ) → Command → ℕ → ℕ → Own → Own
-movedOn row spot c φ x w =
-    cond (eqb (suc φ) (length (row .commands))) (own (spot (row .next)) 0 0 0 0)
-    (withPhase (suc φ) (withKept c (weight makes (take φ (row .commands))) x w))
-
--- What is due at a step of a vertex: a refusal, before any command; or a job, with its number and offset; or a single command of the
--- calculus. With the last two comes what the vertex's own words are afterwards.
-pub data Due : Type 0 where
-  refusal-due : ℕ → Due
-  job-due : ℕ → ℕ → Own → Due
-  command-due : single.Command → Own → Due
-
--- refused with n unless a test holds
-unfoldable pub orRefused : Bool → ℕ → Due → Due
-orRefused true n next = next
-orRefused false n next = refusal-due n
-
--- a command of the table, done by v, with its names and places filled in; n is the job's number
-unfoldable pub filledIn : Lent → ℕ → ℕ → (Spot → ℕ) → Own → Command → Due
-filledIn s v n spot w perform = job-due n (place s v) w
-filledIn s v n spot w (newTd p a) = command-due (NewTd v (spot p) (named s v a)) w
-filledIn s v n spot w (newEdge a b) = command-due (NewEdge v (named s v a) (named s v b)) w
-filledIn s v n spot w (transfer a) = command-due (Transfer v (named s v a)) w
-filledIn s v n spot w (release a) = command-due (Release v (named s v a)) w
-
--- "a phase not below that item's commands"
-unfoldable pub nextOf : Lent → ℕ → Row → ℕ → (Spot → ℕ) → Option Command → Due
-nextOf s v row n spot none = refusal-due unreadable
-nextOf s v row n spot (some c) = filledIn s v n spot (movedOn row spot c (phase s v) (s .made) (ownOf s v)) c
-
--- "the next command of the item at its place"; "end byte: stop"; "A start or a stop changes no place, phase or made vertex."
-unfoldable pub nextAt : Lent → ℕ → Task → Due
-nextAt s v (item row n spot) = nextOf s v row n spot (nth (row .commands) (phase s v))
-nextAt s v ends = orRefused (eqb (phase s v) 0) unreadable (command-due (Stop v) (ownOf s v))
-nextAt s v nothing = refusal-due unreadable
-
--- "Step: 12, 20, 22, 23, then 21, or 13 and the command's own": 21 is start's own
-unfoldable pub due : List ℕ → Lent → ℕ → Due
-due bytes s v =
-    orRefused (steppable s) unsound-tables
-    (orRefused (isMade s v) no-such-vertex
-    (orRefused (not (hasStatus s v NEW)) vertex-new
-    (orRefused (not (hasStatus s v FINISHED)) vertex-finished
-    (cond (hasStatus s v RELEASED) (command-due (Start v) (ownOf s v)) (nextAt s v (task (length bytes - 1) (itemAt bytes (place s v))))))))
-
--- what a single command says, as a step says it
-abbrev pub saidAs : of-graph.Said → Said
-saidAs of-graph.opened = Said.loaded
-saidAs of-graph.start = Said.start
-saidAs (of-graph.new v) = Said.new v
-saidAs (of-graph.edge a b) = Said.edge a b
-saidAs (of-graph.release v) = Said.release v
-saidAs (of-graph.transfer v) = Said.transfer v
-saidAs of-graph.stop = Said.stop
-saidAs (of-graph.refused n p) = Said.refused n p
-
 -- where v's own words stand
 abbrev pub OwnWord : ℕ → ℕ → Type 0
-OwnWord v i = (i ≡ vertexWords * v + placeWord) ⊎ ((vertexWords * v + phaseWord ≤ i) × (i < vertexWords * v + vertexWords))
+OwnWord v i =
+    (i ≡ vertexWords * v + placeWord) ⊎ (i ≡ vertexWords * v + phaseWord)
+    ⊎ ((vertexWords * v + madeWord ≤ i) × (i ≤ vertexWords * v + (madeWord + 2)))
 
 -- what a step of v adds to what its command left: v's own words become w, no other word changes, and the step is counted
 pub record Adds (v : ℕ) (w : Own) (left after : Lent) : Type 0 where

@@ -1,6 +1,7 @@
--- "A step names a vertex. A released one is started. An executing one does the next command of the item at its place."
+-- "A step names a vertex. A released one is started. An executing one does the next command of the item at its place." What is due there is
+-- told first, and then done.
 use Prim.Native.Nat.{ℕ, zero, suc, _+_, _-_}
-use mathlib.Core.Bool.{Bool, not, cond}
+use mathlib.Core.Bool.{Bool, true, false, not, cond}
 use mathlib.Core.List.{List, [], _∷_}
 use mathlib.Core.Option.{Option, none, some}
 use lib.Dec.{eqb, ltb}
@@ -12,14 +13,14 @@ use Rattle.graph.specs.Answers as of-graph
 use Rattle.graph.specs.Sound.{sound}
 use Rattle.graph.specs.Commands.{isMade, hasStatus, command}
 use Rattle.graph.specs.declared.Command as single
-use Rattle.graph.specs.declared.Command.the-variants as single-command
+use Rattle.graph.specs.declared.Command.the-variants.{NewTd, NewEdge, Release, Transfer, Start, Stop}
 use Rattle.program.specs.Trees.{jobs, asyncs, finishes, forks}
 use Rattle.program.specs.Encodings.{Name, own-scope, made-1, made-2, made-3, Spot, first-body, second-body, past-item, last-byte}
 use Rattle.program.specs.Encodings.{Command, perform, newTd, newEdge, transfer, release, Row, firstEdition, weight, makes}
 use Rattle.program.specs.Answers as of-program
 use Rattle.program.specs.Answers.{Stands}
 use Rattle.program.specs.Located.{itemAt}
-use Rattle.machine.specs.Answers.{Said, Outcome, unless, refuse, byCommand, oneStep, unsound-tables, unreadable}
+use Rattle.machine.specs.Answers.{Said, Outcome, refuse, oneStep, saidAs, unsound-tables, unreadable}
 
 -- "steps 8,192 or more (at a step or run only)"
 abbrev pub stepLimit : ℕ
@@ -79,60 +80,101 @@ nth [] n = none
 nth (c ∷ cs) zero = some c
 nth (c ∷ cs) (suc n) = nth cs n
 
--- words of a vertex's row set
-abbrev pub withWord : Lent → ℕ → ℕ → ℕ → Lent
-withWord s v w x =
-    record { vertices = setVertexWord (s .vertices) v w x; edges = s .edges; made = s .made; held = s .held; steps = s .steps }
+-- The words of a vertex's row that only its steps move: its place, its phase, and the three vertices that this item made.
+pub data Own : Type 0 where
+  own : (place phase first second third : ℕ) → Own
 
--- the vertices that the item made, and the phase, set to 0
-abbrev pub cleared : Lent → ℕ → Lent
-cleared s v = withWord (withWord (withWord (withWord s v phaseWord 0) v madeWord 0) v (madeWord + 1) 0) v (madeWord + 2) 0
+unfoldable pub ownOf : Lent → ℕ → Own
+ownOf s v = own (place s v) (phase s v) (made s v 0) (made s v 1) (made s v 2)
 
--- a newTd keeps the vertex that it made, the k-th in the made word k
-unfoldable pub kept : Command → Lent → ℕ → ℕ → ℕ → Lent
-kept (newTd p n) s v k x = withWord s v (madeWord + k) x
-kept perform s v k x = s
-kept (newEdge a b) s v k x = s
-kept (transfer a) s v k x = s
-kept (release a) s v k x = s
+-- "three vertices that this item made, in order": x is the one behind so many others
+unfoldable pub withMade : ℕ → ℕ → Own → Own
+withMade zero x (own p φ a b c) = own p φ x b c
+withMade (suc zero) x (own p φ a b c) = own p φ a x c
+withMade (suc (suc k)) x (own p φ a b c) = own p φ a b x
 
--- What a command does to the row of the vertex that does it, besides: the next command is due, or, after the item's last command,
--- "phase and made vertices" are 0 and the vertex goes where the item says. The vertex made was number x.
-unfoldable pub advanced : Row → (Spot → ℕ) → Command → ℕ → ℕ → ℕ → Lent → Lent
-advanced row spot c v φ x s =
-    cond (eqb (suc φ) (length (row .commands)))
-    (withWord (cleared s v) v placeWord (spot (row .next)))
-    (withWord (kept c s v (weight makes (take φ (row .commands))) x) v phaseWord (suc φ))
+-- a newTd keeps the vertex x that it made
+unfoldable pub withKept : Command → ℕ → ℕ → Own → Own
+withKept perform k x w = w
+withKept (newTd p a) k x w = withMade k x w
+withKept (newEdge a b) k x w = w
+withKept (transfer a) k x w = w
+withKept (release a) k x w = w
 
--- a single command of the calculus as a step
-abbrev pub calls : single.Command → Lent → (Lent → Lent) → Outcome
-calls c s moved = byCommand s (command c s .answer) (command c s .after) moved
+unfoldable pub withPhase : ℕ → Own → Own
+withPhase n (own p φ a b c) = own p n a b c
 
--- one command of an item: the job's step, or the calculus' command with its names and places filled in
-unfoldable pub doCommand : Lent → ℕ → ℕ → (Spot → ℕ) → (Lent → Lent) → Command → Outcome
-doCommand s v n spot moved perform = record { answer = Said.job n (place s v); after = oneStep (moved s) }
-doCommand s v n spot moved (newTd p a) = calls (single-command.NewTd v (spot p) (named s v a)) s moved
-doCommand s v n spot moved (newEdge a b) = calls (single-command.NewEdge v (named s v a) (named s v b)) s moved
-doCommand s v n spot moved (transfer a) = calls (single-command.Transfer v (named s v a)) s moved
-doCommand s v n spot moved (release a) = calls (single-command.Release v (named s v a)) s moved
+-- What an item's command c makes of these words at the phase φ, "commands of the current item already done": "An item's last command sets
+-- phase and made vertices to 0", and then the vertex goes where the item says; another one is counted, and a newTd keeps the vertex x that
+-- it made.
+unfoldable pub movedOn : Row → (Spot → ℕ) → Command → ℕ → ℕ → Own → Own
+movedOn row spot c φ x w =
+    cond (eqb (suc φ) (length (row .commands))) (own (spot (row .next)) 0 0 0 0)
+    (withPhase (suc φ) (withKept c (weight makes (take φ (row .commands))) x w))
 
--- "13 .. or a phase not below that item's commands"
-unfoldable pub doNth : Lent → ℕ → Row → ℕ → (Spot → ℕ) → Option Command → Outcome
-doNth s v row n spot none = refuse s unreadable 0
-doNth s v row n spot (some c) = doCommand s v n spot (advanced row spot c v (phase s v) (s .made)) c
+-- What is due at a step of a vertex: a refusal, before any command; or a job, with its number and offset; or a single command of the
+-- calculus. With the last two comes what the vertex's own words are afterwards.
+pub data Due : Type 0 where
+  refusal-due : ℕ → Due
+  job-due : ℕ → ℕ → Own → Due
+  command-due : single.Command → Own → Due
 
--- "An executing one does the next command of the item at its place"; "end byte: stop", which "changes no place, phase or made vertex"
-unfoldable pub doTask : Lent → ℕ → Task → Outcome
-doTask s v (item row n spot) = doNth s v row n spot (nth (row .commands) (phase s v))
-doTask s v ends = unless s (eqb (phase s v) 0) unreadable (calls (single-command.Stop v) s (λ s'. s'))
-doTask s v nothing = refuse s unreadable 0
+-- refused with n unless a test holds
+unfoldable pub dueIf : Bool → ℕ → Due → Due
+dueIf true n next = next
+dueIf false n next = refusal-due n
 
--- "Step: 12, 20, 22, 23, then 21, or 13 and the command's own"
+-- a command of the table, done by v, with its names and places filled in; n is the job's number
+unfoldable pub filledIn : Lent → ℕ → ℕ → (Spot → ℕ) → Own → Command → Due
+filledIn s v n spot w perform = job-due n (place s v) w
+filledIn s v n spot w (newTd p a) = command-due (NewTd v (spot p) (named s v a)) w
+filledIn s v n spot w (newEdge a b) = command-due (NewEdge v (named s v a) (named s v b)) w
+filledIn s v n spot w (transfer a) = command-due (Transfer v (named s v a)) w
+filledIn s v n spot w (release a) = command-due (Release v (named s v a)) w
+
+-- "a phase not below that item's commands"
+unfoldable pub nextOf : Lent → ℕ → Row → ℕ → (Spot → ℕ) → Option Command → Due
+nextOf s v row n spot none = refusal-due unreadable
+nextOf s v row n spot (some c) = filledIn s v n spot (movedOn row spot c (phase s v) (s .made) (ownOf s v)) c
+
+-- "the next command of the item at its place"; "end byte: stop"; "A start or a stop changes no place, phase or made vertex."
+unfoldable pub nextAt : Lent → ℕ → Task → Due
+nextAt s v (item row n spot) = nextOf s v row n spot (nth (row .commands) (phase s v))
+nextAt s v ends = dueIf (eqb (phase s v) 0) unreadable (command-due (Stop v) (ownOf s v))
+nextAt s v nothing = refusal-due unreadable
+
+-- "Step: 12, 20, 22, 23, then 21, or 13 and the command's own": 21 is start's own
+unfoldable pub due : List ℕ → Lent → ℕ → Due
+due bytes s v =
+    dueIf (steppable s) unsound-tables
+    (dueIf (isMade s v) no-such-vertex
+    (dueIf (not (hasStatus s v NEW)) vertex-new
+    (dueIf (not (hasStatus s v FINISHED)) vertex-finished
+    (cond (hasStatus s v RELEASED) (command-due (Start v) (ownOf s v)) (nextAt s v (task (length bytes - 1) (itemAt bytes (place s v))))))))
+
+-- a vertex's own words are stored in its row
+unfoldable pub stored : List ℕ → ℕ → Own → List ℕ
+stored t v (own p φ a b c) =
+    setVertexWord
+    (setVertexWord (setVertexWord (setVertexWord (setVertexWord t v placeWord p) v phaseWord φ) v madeWord a) v (madeWord + 1) b)
+    v
+    (madeWord + 2)
+    c
+
+abbrev pub withOwn : Lent → ℕ → Own → Lent
+withOwn s v w =
+    record { vertices = stored (s .vertices) v w; edges = s .edges; made = s .made; held = s .held; steps = s .steps }
+
+-- What is due is done. A refusal changes nothing, and neither does a command that is refused. A job, or a command that is taken, leaves v's
+-- own words besides, and the step is counted.
+abbrev pub doDue : Lent → ℕ → Due → Outcome
+doDue s v (refusal-due n) = refuse s n 0
+doDue s v (job-due n p w) = record { answer = Said.job n p; after = oneStep (withOwn s v w) }
+doDue s v (command-due c w) =
+    record {
+      answer = saidAs (command c s .answer);
+      after = cond (of-graph.accepted (command c s .answer)) (oneStep (withOwn (command c s .after) v w)) s;
+    }
+
 unfoldable pub step : List ℕ → Lent → ℕ → Outcome
-step bytes s v =
-    unless s (steppable s) unsound-tables
-    (unless s (isMade s v) no-such-vertex
-    (unless s (not (hasStatus s v NEW)) vertex-new
-    (unless s (not (hasStatus s v FINISHED)) vertex-finished
-    (cond (hasStatus s v RELEASED) (calls (single-command.Start v) s (λ s'. s'))
-    (doTask s v (task (length bytes - 1) (itemAt bytes (place s v))))))))
+step bytes s v = doDue s v (due bytes s v)

@@ -2,8 +2,7 @@
 use borrow.Author.Needs.{needs}
 use native.Mathlib.Omega.{arith}
 use Rattle.graph.proofs.CallLaws.{answered-yes}
-use Rattle.machine.specs.Stepping.{steppable}
-use Rattle.machine.specs.Demand2.{due}
+use Rattle.machine.specs.Stepping.{steppable, due}
 use Rattle.engine.proofs.DueLaws.{row-there, word-there, there-start, there-executing, due-there, dues}
 use Rattle.engine.proofs.next.next_due.Statement.{statement}
 use Rattle.engine.proofs.next.next_due.Tie as tie

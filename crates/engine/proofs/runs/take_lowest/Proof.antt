@@ -7,7 +7,7 @@ use native.Mathlib.Omega.{arith}
 use lib.ListN.{length}
 use Rattle.graph.specs.Tables.{lent}
 use Rattle.graph.proofs.SoundChecks.{sound-rows}
-use Rattle.machine.specs.Demand2.{due}
+use Rattle.machine.specs.Stepping.{due}
 use Rattle.machine.proofs.LookLaws.{late-none}
 use Rattle.engine.specs.Answers.{dueOf}
 use Rattle.engine.specs.Private.{CannotBelow, is-due}

@@ -3,7 +3,7 @@ use borrow.Author.Needs.{needs}
 use mathlib.Core.Path.{_≡_, sym, ap}
 use Rattle.graph.specs.declared.Answer.{Answer}
 use Rattle.graph.specs.Answers as of-graph
-use Rattle.machine.specs.Demand2.{saidAs}
+use Rattle.machine.specs.Answers.{saidAs}
 use Rattle.engine.proofs.steps.as_step.Statement.{statement}
 use Rattle.engine.proofs.steps.as_step.Tie as tie
 

@@ -3,7 +3,7 @@ use borrow.Author.Needs.{needs}
 use native.Mathlib.Omega.{arith}
 use mathlib.Core.Path.{refl}
 use lib.ListN.{length-set}
-use Rattle.engine.specs.Private.{stored}
+use Rattle.machine.specs.Stepping.{stored}
 use Rattle.engine.proofs.steps.store.Statement.{statement}
 use Rattle.engine.proofs.steps.store.Tie as tie
 

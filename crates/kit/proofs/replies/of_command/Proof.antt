@@ -2,7 +2,7 @@
 use borrow.Author.Needs.{needs}
 use Rattle.graph.specs.declared.Answer.{Answer}
 use Rattle.graph.specs.Answers.{said}
-use Rattle.machine.specs.Demand2.{saidAs}
+use Rattle.machine.specs.Answers.{saidAs}
 use Rattle.kit.specs.Numbers.{saidNumbers}
 use Rattle.kit.proofs.ReplyLaws.{told}
 use Rattle.kit.proofs.replies.of_command.Statement.{statement}
