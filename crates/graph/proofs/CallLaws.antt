@@ -14,10 +14,10 @@ use Rattle.graph.specs.declared.Done.{Done}
 use Rattle.graph.specs.declared.Tally.{Tally}
 use Rattle.graph.specs.Tables.{Lent, lent, usableLimit, vertexWords, statusWord, edgeWords, vertexRows, edgeRows, RELEASED, FINISHED}
 use Rattle.graph.specs.Tables.{status, setStatus, clear}
-use Rattle.graph.specs.Answers.{Said, said, Outcome, outcome, unless, decided, no-vertex-rows, unsound-tables}
+use Rattle.graph.specs.Answers.{Said, said, Outcome, outcome, opened, opening-refused, unless, decided, no-vertex-rows, unsound-tables}
 use Rattle.graph.specs.Sound.{sound}
 use Rattle.graph.specs.Search.{Searchable}
-use Rattle.graph.specs.Commands.{openingRefusal, openedTables, callerRefusal, newTdRefusal, newEdgeRefusal, releaseRefusal}
+use Rattle.graph.specs.Commands.{openedTables, opening, callerRefusal, newTdRefusal, newEdgeRefusal, releaseRefusal}
 use Rattle.graph.specs.Commands.{transferRefusal, startRefusal, stopRefusal, command}
 use Rattle.graph.proofs.SoundChecks.{sound-rows, searchable}
 use Rattle.graph.proofs.TestLaws.{both-true, both-false-left, both-false-right, not-of-true, not-of-false}
@@ -186,19 +186,22 @@ stop-room s t h =
     (row-room s t (k .known) (k .is-made), let r = sound-rows s (k .known) in (r .1 .0, r .1 .1 .1))
 
 -- the opening
-pub opening-refused : (s : Lent) {rows : ℕ} → rows ≡ vertexRows (s .vertices) → rows ≡ 0 → no-vertex-rows ≡ openingRefusal s
-unfolding openingRefusal
-opening-refused s p q = halt _ _ (le-ltb 0 (vertexRows (s .vertices)) (omega arith))
+pub opening-stops :
+    (s : Lent) {rows : ℕ} → rows ≡ vertexRows (s .vertices) → rows ≡ 0
+    → record { answer = opening-refused no-vertex-rows 0; after = s } ≡ opening s
+unfolding opening
+opening-stops s p q = rw (le-ltb 0 (vertexRows (s .vertices)) (omega arith)) refl
 
-pub opening-accepted : (s : Lent) {rows : ℕ} → rows ≡ vertexRows (s .vertices) → (rows ≡ 0 → ⊥) → 0 ≡ openingRefusal s
-unfolding openingRefusal
-opening-accepted s p q = pass _ (lt-ltb 0 (vertexRows (s .vertices)) (omega arith)) refl
+pub opening-opens :
+    (s : Lent) {rows : ℕ} → rows ≡ vertexRows (s .vertices) → (rows ≡ 0 → ⊥)
+    → record { answer = opened; after = openedTables s } ≡ opening s
+unfolding opening
+opening-opens s p q = rw (lt-ltb 0 (vertexRows (s .vertices)) (omega arith)) refl
 
 pub opened-is :
     (s : Lent) {v v' e : List ℕ} {rows rows' : ℕ} → rows ≡ vertexRows (s .vertices) → rows' ≡ edgeRows (s .edges)
     → v ≡ clear (s .vertices) 0 (vertexWords * rows) → v' ≡ setStatus v 0 RELEASED → e ≡ clear (s .edges) 0 (edgeWords * rows')
-    → _≡_ {A = Outcome} (record { answer = Said.opened; after = record { vertices = v'; edges = e; made = 1; held = 0; steps = 0 } })
-    (record { answer = Said.opened; after = openedTables s })
+    → _≡_ {A = Lent} (record { vertices = v'; edges = e; made = 1; held = 0; steps = 0 }) (openedTables s)
 unfolding openedTables
 opened-is s p q h h' k = rw (h', h, k, p, q) refl
 

@@ -1,31 +1,60 @@
 -- The opening.
 --
---     opening-is-refused   with 10 at 0, exactly where no vertex row is lent
+--     opening-comes        what it comes to, by whether a vertex row is lent
+--     opening-is-refused   with 10 at 0, exactly where none is
 --     opening-keeps        a refused opening changes nothing
---     opening-past         no opening touches a word past the usable rows
+--     opening-usable       no opening touches a word past the usable rows
 use Prim.Native.Nat.{ℕ, _+_, _*_, _<_}
-use mathlib.Core.Path.{_≡_, refl, sym, _∙_}
+use mathlib.Core.Path.{_≡_, refl, sym, _∙_, ap, subst}
 use mathlib.Core.Logic.{⊎-elim, _↔_}
 use mathlib.Core.List.{List}
 use native.Mathlib.Omega.{arith}
 use lib.ListN.{length-set}
 use lib.Seq.{getD-set-other}
 use Rattle.graph.specs.Tables.{Lent, RELEASED, vertexWords, edgeWords, statusWord, vertexRows, edgeRows, setStatus, clear}
-use Rattle.graph.specs.Answers.{Said, no-vertex-rows}
-use Rattle.graph.specs.Commands.{openingRefusal, openedTables, opening}
-use Rattle.graph.specs.Demand2.{SameBut}
+use Rattle.graph.specs.Answers.{OpeningOutcome, opened, opening-refused, no-vertex-rows}
+use Rattle.graph.specs.Commands.{openedTables, opening}
+use Rattle.graph.specs.Demand2.{SameBut, UsableOnly}
 use Rattle.graph.proofs.TestLaws.{equal?}
-use Rattle.graph.proofs.RefusalLaws.{decided-refused, decided-either}
 use Rattle.graph.proofs.TableLaws.{length-clear, clear-out}
-use Rattle.graph.proofs.CallLaws.{opening-refused, opening-accepted}
+use Rattle.graph.proofs.CallLaws.{opening-stops, opening-opens}
 
--- some vertex row is lent where no refusal is due
-rows-lent : (s : Lent) → openingRefusal s ≡ 0 → 0 < vertexRows (s .vertices)
-rows-lent s h =
-    ⊎-elim (λ q. let due = opening-refused s refl q in omega arith) (λ ne. omega arith) (equal? (vertexRows (s .vertices)) 0)
+pub data Opens (s : Lent) : OpeningOutcome → Type 0 where
+  opens : 0 < vertexRows (s .vertices) → Opens s (record { answer = opened; after = openedTables s })
+  stops : vertexRows (s .vertices) ≡ 0 → Opens s (record { answer = opening-refused no-vertex-rows 0; after = s })
+
+pub opening-comes : (s : Lent) → Opens s (opening s)
+opening-comes s =
+    ⊎-elim
+    (λ none. subst (λ (o : OpeningOutcome). Opens s o) (opening-stops s refl none) (stops none))
+    (λ some. subst (λ (o : OpeningOutcome). Opens s o) (opening-opens s refl some) (opens (omega arith)))
+    (equal? (vertexRows (s .vertices)) 0)
+
+-- "Opening: 10", "bare machine: none"; its place is 0.
+pub opening-is-refused :
+    (s : Lent) (n p : ℕ)
+    → (opening s .answer ≡ opening-refused n p) ↔ ((n ≡ no-vertex-rows) × (p ≡ 0) × (vertexRows (s .vertices) ≡ 0))
+opening-is-refused s n p = (there (opening-comes s), back)
+  where
+    there :
+        {o : OpeningOutcome} → Opens s o → o .answer ≡ opening-refused n p
+        → (n ≡ no-vertex-rows) × (p ≡ 0) × (vertexRows (s .vertices) ≡ 0)
+    there (opens lt) h = let z : _≡_ {A = ℕ} 0 1 = cc in absurd (omega arith)
+    there (stops none) h = (cc, cc, none)
+
+    back : (n ≡ no-vertex-rows) × (p ≡ 0) × (vertexRows (s .vertices) ≡ 0) → opening s .answer ≡ opening-refused n p
+    back (e, f, none) = ap (λ (o : OpeningOutcome). o .answer) (sym (opening-stops s refl none)) ∙ sym (λ i. opening-refused (e i) (f i))
+
+-- "A refusal gives its number and place, and every lent table and the tally hold what they held."
+pub opening-keeps : (s : Lent) (n p : ℕ) → opening s .answer ≡ opening-refused n p → opening s .after ≡ s
+opening-keeps s n p h = there (opening-comes s) h
+  where
+    there : {o : OpeningOutcome} → Opens s o → o .answer ≡ opening-refused n p → o .after ≡ s
+    there (opens lt) h = let z : _≡_ {A = ℕ} 0 1 = cc in absurd (omega arith)
+    there (stops none) h = refl
 
 -- the words past the first n
-cleared-past : (l : List ℕ) (n : ℕ) → SameBut (λ i. i < n) l (clear l 0 n)
+pub cleared-past : (l : List ℕ) (n : ℕ) → SameBut (λ i. i < n) l (clear l 0 n)
 cleared-past l n = (length-clear l 0 n, λ i f. clear-out l 0 n i (λ q. f (let lt = q .1 in omega arith)))
 
 opened-past :
@@ -36,46 +65,18 @@ opened-past v n lt =
       λ i f. getD-set-other (clear v 0 n) (vertexWords * 0 + statusWord) i RELEASED 0 (λ q. f (omega arith)) ∙ words i f,
     )
 
--- "Opening: 10", "bare machine: none"; its place is 0.
-pub opening-is-refused :
-    (s : Lent) (n p : ℕ)
-    → (opening s .answer ≡ Said.refused n p) ↔ ((n ≡ no-vertex-rows) × (p ≡ 0) × (vertexRows (s .vertices) ≡ 0))
-unfolding opening
-opening-is-refused s n p =
-    let d = decided-refused s (openingRefusal s) Said.opened (openedTables s) n p refl in (
-      λ h.
-          let (due, number, place) = d .0 h in
-          let none : vertexRows (s .vertices) ≡ 0 =
-          ⊎-elim (λ q. q) (λ ne. absurd (due (sym (opening-accepted s refl ne)))) (equal? (vertexRows (s .vertices)) 0) in
-          (sym number ∙ sym (opening-refused s refl none), place, none),
-      λ h. let number = opening-refused s refl (h .2) in d .1 (λ z. omega arith, sym number ∙ sym (h .0), h .1),
-    )
-
--- "A refusal gives its number and place, and every lent table and the tally hold what they held."
-pub opening-keeps : (s : Lent) (n p : ℕ) → opening s .answer ≡ Said.refused n p → opening s .after ≡ s
-unfolding opening
-opening-keeps s n p h =
-    decided-either (λ s'. s' ≡ s) s (openingRefusal s) Said.opened (openedTables s) refl
-    (λ z. absurd (decided-refused s (openingRefusal s) Said.opened (openedTables s) n p refl .0 h .0 z))
+opened-usable : (s : Lent) → 0 < vertexRows (s .vertices) → UsableOnly s (openedTables s)
+unfolding openedTables
+opened-usable s lt =
+    record {
+      vertex-words = opened-past (s .vertices) (vertexWords * vertexRows (s .vertices)) (omega arith);
+      edge-words = cleared-past (s .edges) (edgeWords * edgeRows (s .edges));
+    }
 
 -- "Only full rows among the first 1,024 of each table are used; other words are never touched."
-pub opening-past :
-    (s : Lent)
-    → SameBut (λ i. i < vertexWords * vertexRows (s .vertices)) (s .vertices) (opening s .after .vertices)
-    × SameBut (λ i. i < edgeWords * edgeRows (s .edges)) (s .edges) (opening s .after .edges)
-unfolding opening openedTables
-opening-past s =
-    decided-either
-    (λ s'.
-    SameBut (λ i. i < vertexWords * vertexRows (s .vertices)) (s .vertices) (s' .vertices)
-    × SameBut (λ i. i < edgeWords * edgeRows (s .edges)) (s .edges) (s' .edges))
-    s
-    (openingRefusal s)
-    Said.opened
-    (openedTables s)
-    ((refl, λ i f. refl), (refl, λ i f. refl))
-    (λ z.
-    let lent = rows-lent s z in (
-      opened-past (s .vertices) (vertexWords * vertexRows (s .vertices)) (omega arith),
-      cleared-past (s .edges) (edgeWords * edgeRows (s .edges)),
-    ))
+pub opening-usable : (s : Lent) → UsableOnly s (opening s .after)
+opening-usable s = there (opening-comes s)
+  where
+    there : {o : OpeningOutcome} → Opens s o → UsableOnly s (o .after)
+    there (opens lt) = opened-usable s lt
+    there (stops none) = record { vertex-words = (refl, λ i f. refl); edge-words = (refl, λ i f. refl) }

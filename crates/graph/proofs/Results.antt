@@ -1,25 +1,19 @@
--- The types of what the commands' cores return: a `Done`, of which an entry answers the `Answer`.
-use Rattle.graph.proofs.Answer as R
-use Rattle.graph.proofs.Answer.Laws as R′
+-- The types of what the cores return: of a command a `Done`, of which an entry answers the `Answer`; of the opening an `OpenDone` and the `Opening`.
+use mathlib.Core.Path.{refl}
+use Rattle.graph.proofs.Answer as A
+use Rattle.graph.proofs.Answer.Laws as A′
 use Rattle.graph.proofs.Done as D
-use Rattle.graph.proofs.Done.Laws as D′
-use Rattle.graph.proofs.Thin.Results.{Results}
-use denote.Struct.Laws as LL
-use denote.Enum.Laws as EL
+use Rattle.graph.proofs.Opening as O
+use Rattle.graph.proofs.Opening.Laws as O′
+use Rattle.graph.proofs.OpenDone as E
+use Rattle.graph.proofs.Thin.Results.{Results, resultsOf}
 
 abbrev pub results : Results
-results = record {
-  Answer = R.the-row;
-  answerTy = R′.mir;
-  answerVal = EL.val R.the-type R′.the-laws;
-  answer-typed = λ 𝓤 H A W x is. EL.lawful R.the-type R′.the-laws 𝓤 H A W tt .typed x _ is;
-  answer-makes = λ 𝓤 H A. EL.makes R.the-type R′.the-plain 𝓤 H A;
-  Done = D.the-row;
-  doneName = D.struct .name;
-  answer = λ r. r .answer;
-  tally = λ r. r .tally;
-  done-typed = λ 𝓤 H A W r w is. LL.lawful D.the-type D′.the-laws 𝓤 H A W .typed r _ is;
-  done-tells = λ r vs is. LL.tells D.the-type D′.the-laws r vs is;
-  answer-is = λ r vs is. LL.owed D.the-type D′.the-laws r vs is .0;
-  tally-is = λ r vs is. LL.owed D.the-type D′.the-laws r vs is .1 .0;
-}
+results =
+    resultsOf A.the-field A′.the-field-laws A′.the-field-plain A′.mir refl (D.struct .name) (λ r. r .answer) (λ r. r .tally)
+    (D.the-type .to-one)
+
+abbrev pub open-results : Results
+open-results =
+    resultsOf O.the-field O′.the-field-laws O′.the-field-plain O′.mir refl (E.struct .name) (λ r. r .answer) (λ r. r .tally)
+    (E.the-type .to-one)

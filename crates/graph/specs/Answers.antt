@@ -3,8 +3,11 @@ use Prim.Native.Nat.{ℕ, zero, suc}
 use mathlib.Core.Bool.{Bool, true, false}
 use mathlib.Core.List.{List}
 use Rattle.graph.specs.declared.Answer.{Answer}
-use Rattle.graph.specs.declared.Answer.the-variants.{Opened, Start, New, Edge, Release, Transfer, Stop, Refused}
+use Rattle.graph.specs.declared.Answer.the-variants.{Start, New, Edge, Release, Transfer, Stop, Refused}
 use Rattle.graph.specs.declared.Done.{Done}
+use Rattle.graph.specs.declared.Opening.{Opening}
+use Rattle.graph.specs.declared.Opening.the-variants as of-opening
+use Rattle.graph.specs.declared.OpenDone.{OpenDone}
 use Rattle.graph.specs.declared.Tally.{Tally}
 use Rattle.graph.specs.Tables.{Lent, lent}
 
@@ -59,9 +62,8 @@ transfer-not-new = 37
 abbrev pub transfer-has-edge-out : ℕ
 transfer-has-edge-out = 38
 
--- What the paper has a call say. A refusal has its number and its place.
+-- What the paper has a command say. A refusal has its number and its place.
 pub data Said : Type 0 where
-  opened : Said
   start : Said
   new : ℕ → Said
   edge : ℕ → ℕ → Said
@@ -72,7 +74,6 @@ pub data Said : Type 0 where
 
 -- "Where an answer is an enum, a definition gives this paper's number and values for each of its cases"
 abbrev pub said : Answer → Said
-said Opened = Said.opened
 said Start = Said.start
 said (New v) = Said.new v
 said (Edge a b) = Said.edge a b
@@ -82,7 +83,6 @@ said Stop = Said.stop
 said (Refused r) = Said.refused (r .number) (r .place)
 
 abbrev pub accepted : Said → Bool
-accepted opened = true
 accepted start = true
 accepted (new v) = true
 accepted (edge a b) = true
@@ -103,13 +103,32 @@ answered a v e t = record { answer = said a; after = lent v e t }
 abbrev pub outcome : Done → List ℕ → List ℕ → Outcome
 outcome r v e = answered (r .answer) v e (r .tally)
 
+-- What the opening says, and its outcome: the same, for an answer of its own.
+pub data OpeningSaid : Type 0 where
+  opened : OpeningSaid
+  opening-refused : ℕ → ℕ → OpeningSaid
+
+abbrev pub openingSaid : Opening → OpeningSaid
+openingSaid of-opening.Opened = opened
+openingSaid (of-opening.Refused r) = opening-refused (r .number) (r .place)
+
+pub record OpeningOutcome : Type 0 where
+  pub answer : OpeningSaid
+  pub after : Lent
+
+abbrev pub answeredOpening : Opening → List ℕ → List ℕ → Tally → OpeningOutcome
+answeredOpening a v e t = record { answer = openingSaid a; after = lent v e t }
+
+abbrev pub openingOutcome : OpenDone → List ℕ → List ℕ → OpeningOutcome
+openingOutcome r v e = answeredOpening (r .answer) v e (r .tally)
+
 -- The first refusal of a chain of tests, 0 where none is due: n where the test fails, else what the later tests give.
 unfoldable pub unless : Bool → ℕ → ℕ → ℕ
 unless true n rest = rest
 unless false n rest = n
 
 -- "A refusal gives its number and place, and every lent table and the tally hold what they held." With no refusal due
--- the call says `answer` and leaves `after`. The refusals of commands and of the opening have the place 0.
+-- the call says `answer` and leaves `after`. The refusals of commands have the place 0.
 unfoldable pub decided : Lent → ℕ → Said → Lent → Outcome
 decided s zero answer after = record { answer = answer; after = after }
 decided s (suc n) answer after = record { answer = refused (suc n) 0; after = s }

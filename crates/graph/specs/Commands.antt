@@ -9,8 +9,8 @@ use Rattle.graph.specs.declared.Command.the-variants.{NewTd, NewEdge, Re
 use Rattle.graph.specs.Tests.{both, either, any}
 use Rattle.graph.specs.Tables.{Lent, NEW, RELEASED, EXECUTING, FINISHED, vertexWords, edgeWords, placeWord, scopeWord, sourceWord}
 use Rattle.graph.specs.Tables.{targetWord, vertexRows, edgeRows, status, setStatus, setVertexWord, setEdgeWord, source, target, clear}
-use Rattle.graph.specs.Answers.{Said, Outcome, unless, decided, no-vertex-rows, unsound-tables, no-such-vertex, edge-leads-in}
-use Rattle.graph.specs.Answers.{vertex-new, vertex-finished, vertex-executing, caller-not-executing, no-vertex-row, no-edge-row}
+use Rattle.graph.specs.Answers.{Said, Outcome, OpeningOutcome, opened, opening-refused, unless, decided, no-vertex-rows, unsound-tables}
+use Rattle.graph.specs.Answers.{no-such-vertex, edge-leads-in, vertex-new, vertex-finished, vertex-executing, caller-not-executing, no-vertex-row, no-edge-row}
 use Rattle.graph.specs.Answers.{target-not-waiting, edge-held, closes-cycle, release-not-new, transfer-not-new, transfer-has-edge-out}
 use Rattle.graph.specs.Sound.{sound}
 use Rattle.graph.specs.Paths.{holds, leadsInto, leadsOutOf, reaches}
@@ -26,9 +26,6 @@ withStatus s t x =
     record { vertices = setStatus (s .vertices) t x; edges = s .edges; made = s .made; held = s .held; steps = s .steps }
 
 -- "Opening the bare machine clears the used rows and tally and makes vertex 0, released, other words 0."
-unfoldable pub openingRefusal : Lent → ℕ
-openingRefusal s = unless (ltb 0 (vertexRows (s .vertices))) no-vertex-rows 0
-
 unfoldable pub openedTables : Lent → Lent
 openedTables s =
     record {
@@ -39,8 +36,11 @@ openedTables s =
       steps = 0;
     }
 
-unfoldable pub opening : Lent → Outcome
-opening s = decided s (openingRefusal s) Said.opened (openedTables s)
+unfoldable pub opening : Lent → OpeningOutcome
+opening s =
+    cond (ltb 0 (vertexRows (s .vertices)))
+    (record { answer = opened; after = openedTables s })
+    (record { answer = opening-refused no-vertex-rows 0; after = s })
 
 -- "The caller t must be executing, except in start." "Commands: 12, 20, then .. 30": of a command of t that names a and b
 -- besides; its own refusals follow.

@@ -88,6 +88,12 @@ pub record Effect (c : Command) (s s' : Lent) : Type 0 where
   pub new-row : NewRowOf c s s'
   pub steps-kept : s' .steps ≡ s .steps
 
+-- "Only full rows among the first 1,024 of each table are used; other words are never touched": past them both tables hold what they held,
+-- and they keep their lengths.
+pub record UsableOnly (s s' : Lent) : Type 0 where
+  pub vertex-words : SameBut (λ i. i < vertexWords * vertexRows (s .vertices)) (s .vertices) (s' .vertices)
+  pub edge-words : SameBut (λ i. i < edgeWords * edgeRows (s .edges)) (s .edges) (s' .edges)
+
 -- REFUSALS
 -- Reasons in their order: refused with a number where something holds, or accepted where something holds; else by what follows, and
 -- behind the last one accepted.

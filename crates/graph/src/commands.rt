@@ -3,6 +3,8 @@
 use crate::Answer;
 use crate::Command;
 use crate::Done;
+use crate::OpenDone;
+use crate::Opening;
 use crate::Refusal;
 use crate::Tally;
 use crate::edges::drop_edges;
@@ -33,10 +35,10 @@ ghost use mathlib.Core.Path.{_≡_};
 ghost use mathlib.Core.Bool.{true};
 ghost use Rattle.graph.specs.Tables.{lent};
 ghost use Rattle.graph.specs.Sound.{sound};
-ghost use Rattle.graph.specs.Answers.{Said, said, outcome};
+ghost use Rattle.graph.specs.Answers.{Said, said, outcome, openingOutcome};
 ghost use Rattle.graph.specs.Commands.{opening, newTd, newEdge, release, transfer, start, stop, command};
 
-// A refused call: the tally is as it was.
+// A refused command: the tally is as it was.
 fn refused(number: u32, tally: Tally) -> Done
     ensures { λ r. ⌜ (said (r .answer) ≡ Said.refused number 0) × (r .tally ≡ tally) ⌝ }
 {
@@ -47,19 +49,25 @@ fn refused(number: u32, tally: Tally) -> Done
 }
 
 // Opens the bare machine: clears the usable rows and the tally, and makes vertex 0, released.
-pub fn open_by_value(vertices: &mut [u32], edges: &mut [u32], tally: Tally) -> Done
-    ensures { λ r. ⌜ outcome r (now (vertices .exit)) (now (edges .exit)) ≡ opening (lent (now (vertices .entry)) (now (edges .entry)) tally) ⌝ }
+pub fn open_by_value(vertices: &mut [u32], edges: &mut [u32], tally: Tally) -> OpenDone
+    ensures { λ r. ⌜ openingOutcome r (now (vertices .exit)) (now (edges .exit)) ≡ opening (lent (now (vertices .entry)) (now (edges .entry)) tally) ⌝ }
 {
     let rows = vertex_rows(vertices);
     if rows == 0 {
-        return refused(NO_VERTEX_ROWS, tally);
+        return OpenDone {
+            answer: Opening::Refused(Refusal {
+                number: NO_VERTEX_ROWS,
+                place: 0,
+            }),
+            tally,
+        };
     }
     clear(vertices, 0, VERTEX_WORDS * rows);
     set_status(vertices, 0, RELEASED);
     let edge_rows = edge_rows(edges);
     clear(edges, 0, EDGE_WORDS * edge_rows);
-    Done {
-        answer: Answer::Opened,
+    OpenDone {
+        answer: Opening::Opened,
         tally: Tally {
             made: 1,
             held: 0,

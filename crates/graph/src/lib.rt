@@ -53,9 +53,20 @@ pub struct Refusal {
     pub place: u32,
 }
 
-// What a call answers.
-pub enum Answer {
+// What the opening answers.
+pub enum Opening {
     Opened,
+    Refused(Refusal),
+}
+
+// The result of the opening: its answer, and the tally afterwards.
+pub struct OpenDone {
+    pub answer: Opening,
+    pub tally: Tally,
+}
+
+// What a single command answers.
+pub enum Answer {
     Start,
     New(u32),
     Edge(u32, u32),
@@ -65,7 +76,7 @@ pub enum Answer {
     Refused(Refusal),
 }
 
-// The result of a call: its answer, and the tally afterwards.
+// The result of a command: its answer, and the tally afterwards.
 pub struct Done {
     pub answer: Answer,
     pub tally: Tally,

@@ -111,7 +111,7 @@ pub(crate) fn call(
 
 fn open(vertices: &mut [u32], edges: &mut [u32], tally: Tally) -> Tally {
     let done = open_by_value(vertices, edges, tally);
-    show::done(done, vertices, edges);
+    show::opened(done, vertices, edges);
     done.tally
 }
 

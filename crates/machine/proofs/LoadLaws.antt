@@ -19,7 +19,7 @@ use borrow.Author.Tests.{le-leb, lt-leb, leb-true, leb-false}
 use Rattle.graph.specs.Tables.{Lent, RELEASED, vertexWords, edgeWords, statusWord, placeWord, scopeWord, sourceWord, targetWord, vertexRows}
 use Rattle.graph.specs.Tables.{edgeRows, clear}
 use Rattle.graph.specs.Commands.{appended}
-use Rattle.graph.specs.Demand2.{SameBut}
+use Rattle.graph.specs.Demand2.{SameBut, UsableOnly}
 use Rattle.graph.proofs.TestLaws.{decide, true-false}
 use Rattle.graph.proofs.TableLaws.{length-clear, clear-out}
 use Rattle.program.specs.Trees.{Body}
@@ -34,7 +34,7 @@ use Rattle.program.proofs.StopLaws.{ItemStop, ran-out, offended, Stop, stop, ma
 use Rattle.program.proofs.ReadingLaws as read
 use Rattle.machine.specs.Answers.{Said, Outcome, accepted, refused, refuse}
 use Rattle.machine.specs.Loading.{placed, loadedTables, loadRead, load}
-use Rattle.machine.specs.Demand2.{Lends, Unloaded, unread, few-vertex-rows, few-edge-rows, UsableOnly, HasPlace}
+use Rattle.machine.specs.Demand2.{Lends, Unloaded, unread, few-vertex-rows, few-edge-rows, HasPlace}
 use Rattle.machine.proofs.AnswerLaws.{unless-pass, unless-stop}
 
 -- a program for which the rows are lent is loaded

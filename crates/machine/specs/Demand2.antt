@@ -38,12 +38,6 @@ pub data Unloaded (bytes : List ℕ) (s : Lent) : ℕ → ℕ → Type 0 where
       (b : Body) → reading bytes ≡ program b → needs.vertices firstEdition b ≤ vertexRows (s .vertices)
       → edgeRows (s .edges) < needs.edgeRows firstEdition b → Unloaded bytes s too-few-edge-rows 0
 
--- "Only full rows among the first 1,024 of each table are used": past them both tables hold what they held, and they keep their lengths.
--- `load-usable` says so of every loading, and `load-keeps` that a refused one changes no word at all.
-pub record UsableOnly (s s' : Lent) : Type 0 where
-  pub vertex-words : SameBut (λ i. i < vertexWords * vertexRows (s .vertices)) (s .vertices) (s' .vertices)
-  pub edge-words : SameBut (λ i. i < edgeWords * edgeRows (s .edges)) (s .edges) (s' .edges)
-
 -- "the first of 2 to 7 by place": these refusals have a place. All others have the place 0, as `load-place`, `step-place` and `run-place` say.
 abbrev pub HasPlace : ℕ → Type 0
 HasPlace n = (number-malformed ≤ n) × (n ≤ job-too-large)
