@@ -24,7 +24,7 @@ unfolding anything runs steps commands saidBy leftBy saidBare run runOn look low
     nextOf filledIn dueIf movedOn withPhase withKept withMade ownOf nth task spots named steppable unless load loadRead loadedTables
     r.reading r.whole r.body r.bodyOf r.item r.itemOf r.deeper r.kindOf r.number r.groups r.andThen r.unless r.jobOf r.counted vertices
     edgeRows itemsWeight firstEdition weight makes links total ahead l.itemAt l.standsIn l.found l.head l.codeAt l.here l.orElse l.locate
-    l.place size encode encodeNumber groupBytes numberSize g.openingRefusal g.openedTables g.opening g.command g.newTd g.newEdge g.release
+    l.place size encode encodeNumber groupBytes numberSize g.openedTables g.opening g.command g.newTd g.newEdge g.release
     g.transfer g.start g.stop g.callerRefusal g.newTdRefusal g.newEdgeRefusal g.releaseRefusal g.transferRefusal g.startRefusal
     g.stopRefusal g.newRow g.withVertex g.withEdge g.appended g.targetReaches g.movedRow g.moved g.withMoved g.keptRows g.kept
     g.withoutEdgesOf g.stopped clear sound tallyFits statusKnown statusesKnown endsMade edgesMade both either every any holds leadsInto

@@ -23,7 +23,7 @@ use Rattle.program.specs.Located.{Code, end-at, locate}
 use Rattle.program.specs.Located as code
 use Rattle.program.proofs.LocatedLaws.{place-locate, last-locate}
 use Rattle.program.proofs.Exactness.{reading-sound}
-use Rattle.machine.specs.Answers.{accepted}
+use Rattle.machine.specs.Answers.{isLoaded}
 use Rattle.machine.specs.Loading.{placed, loadedTables, load}
 use Rattle.machine.specs.Demand2.{Lends}
 use Rattle.machine.proofs.LoadLaws.{two-rows, one-edge-row, load-accepted}
@@ -205,7 +205,7 @@ loaded-begun bytes s =
 
 -- After an accepted loading the tables follow the ghost machine as it begins.
 pub load-follows :
-    (bytes : List ℕ) (s : Lent) (t : Body) → reading bytes ≡ program t → accepted (load bytes s .answer) ≡ true
+    (bytes : List ℕ) (s : Lent) (t : Body) → reading bytes ≡ program t → isLoaded (load bytes s .answer) ≡ true
     → Follows (locate 0 t) (length bytes - 1) (load bytes s .after) (beginning (locate 0 t) (length bytes - 1))
     × Begun s (load bytes s .after)
 load-follows bytes s t r h =

@@ -12,10 +12,10 @@ use mathlib.Core.Bool.{true, false}
 use mathlib.Core.Logic.{_⊎_, inl, inr, ⊎-elim, _↔_}
 use mathlib.Core.List.{List}
 use native.Mathlib.Omega.{arith}
-use lib.Dec.{leb}
+use lib.Dec.{ltb}
 use lib.ListN.{length, set, length-set}
 use lib.Seq.{getD-set-other}
-use borrow.Author.Tests.{le-leb, lt-leb, leb-true, leb-false}
+use borrow.Author.Tests.{le-ltb, lt-ltb, ltb-true, ltb-false}
 use Rattle.graph.specs.Tables.{Lent, RELEASED, vertexWords, edgeWords, statusWord, placeWord, scopeWord, sourceWord, targetWord, vertexRows}
 use Rattle.graph.specs.Tables.{edgeRows, clear}
 use Rattle.graph.specs.Commands.{appended}
@@ -28,44 +28,57 @@ use Rattle.program.specs.Encodings as needs
 use Rattle.program.specs.Encodings.{firstEdition}
 use Rattle.program.specs.Reader.{body, Reading, program, refusal, reading}
 use Rattle.program.specs.Claims.{Loadable, BadNumber, too-long, not-shortest, too-large, Offends, unknown, opener, misnumbered, no-byte}
+use Rattle.program.proofs.CodeLaws.{cond-yes, cond-no}
 use Rattle.program.proofs.Exactness.{reading-sound, reading-complete}
-use Rattle.program.proofs.Soundness.{FitsAt}
 use Rattle.program.proofs.StopLaws.{ItemStop, ran-out, offended, Stop, stop, main-stop}
 use Rattle.program.proofs.ReadingLaws as read
-use Rattle.machine.specs.Answers.{Said, Outcome, accepted, refused, refuse}
+use Rattle.machine.specs.Answers.{LoadingOutcome, loaded, loading-refused, isLoaded, refuseLoading, too-few-vertex-rows, too-few-edge-rows}
 use Rattle.machine.specs.Loading.{placed, loadedTables, loadRead, load}
 use Rattle.machine.specs.Demand2.{Lends, Unloaded, unread, few-vertex-rows, few-edge-rows, HasPlace}
-use Rattle.machine.proofs.AnswerLaws.{unless-pass, unless-stop}
 
 -- a program for which the rows are lent is loaded
-abbrev pub loadedOutcome : List ℕ → Lent → Outcome
-loadedOutcome bytes s = record { answer = Said.loaded; after = loadedTables bytes s }
+abbrev pub loadedOutcome : List ℕ → Lent → LoadingOutcome
+loadedOutcome bytes s = record { answer = loaded; after = loadedTables bytes s }
+
+-- the tests of the rows
+module _ (bytes : List ℕ) (s : Lent) (b : Body) where
+  enough-rows : Lends b s → loadRead bytes s (program b) ≡ loadedOutcome bytes s
+  unfolding loadRead
+  enough-rows h = sym (cond-no _ _ (le-ltb _ _ (h .vertex-rows))) ∙ sym (cond-no _ _ (le-ltb _ _ (h .edge-rows)))
+
+  vertex-rows-wanting : vertexRows (s .vertices) < needs.vertices firstEdition b → loadRead bytes s (program b) ≡ refuseLoading s too-few-vertex-rows 0
+  unfolding loadRead
+  vertex-rows-wanting lt = sym (cond-yes _ _ (lt-ltb _ _ lt))
+
+  edge-rows-wanting :
+      needs.vertices firstEdition b ≤ vertexRows (s .vertices) → edgeRows (s .edges) < needs.edgeRows firstEdition b
+      → loadRead bytes s (program b) ≡ refuseLoading s too-few-edge-rows 0
+  unfolding loadRead
+  edge-rows-wanting le lt = sym (cond-no _ _ (le-ltb _ _ le)) ∙ sym (cond-yes _ _ (lt-ltb _ _ lt))
 
 pub load-taken : (bytes : List ℕ) (s : Lent) (b : Body) → reading bytes ≡ program b → Lends b s → load bytes s ≡ loadedOutcome bytes s
-unfolding load loadRead
-load-taken bytes s b r h =
-    rw r
-    (unless-pass s _ _ (le-leb _ _ (h .vertex-rows)) ∙ unless-pass s _ _ (le-leb _ _ (h .edge-rows)))
+unfolding load
+load-taken bytes s b r h = rw r (enough-rows bytes s b h)
 
 -- what loading comes to: loaded, or refused for one of its reasons
-data Comes (bytes : List ℕ) (s : Lent) (o : Outcome) : Type 0 where
+data Comes (bytes : List ℕ) (s : Lent) (o : LoadingOutcome) : Type 0 where
   loads : (b : Body) → reading bytes ≡ program b → Lends b s → o ≡ loadedOutcome bytes s → Comes bytes s o
-  refuses : (n p : ℕ) → Unloaded bytes s n p → o ≡ refuse s n p → Comes bytes s o
+  refuses : (n p : ℕ) → Unloaded bytes s n p → o ≡ refuseLoading s n p → Comes bytes s o
 
 -- bytes that are read as a program
 comes-program : (bytes : List ℕ) (s : Lent) (b : Body) → reading bytes ≡ program b → Comes bytes s (loadRead bytes s (program b))
-unfolding loadRead
 comes-program bytes s b r =
     ⊎-elim
+    (λ p. refuses _ 0 (few-vertex-rows b r (ltb-true _ _ p)) (vertex-rows-wanting bytes s b (ltb-true _ _ p)))
     (λ p.
     ⊎-elim
     (λ q.
-    loads b r (record { vertex-rows = leb-true _ _ p; edge-rows = leb-true _ _ q }) (unless-pass s _ _ p ∙ unless-pass s _ _ q))
+    refuses _ 0 (few-edge-rows b r (ltb-false _ _ p) (ltb-true _ _ q)) (edge-rows-wanting bytes s b (ltb-false _ _ p) (ltb-true _ _ q)))
     (λ q.
-    refuses _ 0 (few-edge-rows b r (leb-true _ _ p) (leb-false _ _ q)) (unless-pass s _ _ p ∙ unless-stop s _ _ q))
-    (decide (leb (needs.edgeRows firstEdition b) (edgeRows (s .edges)))))
-    (λ p. refuses _ 0 (few-vertex-rows b r (leb-false _ _ p)) (unless-stop s _ _ p))
-    (decide (leb (needs.vertices firstEdition b) (vertexRows (s .vertices))))
+    let l : Lends b s = record { vertex-rows = ltb-false _ _ p; edge-rows = ltb-false _ _ q } in
+    loads b r l (enough-rows bytes s b l))
+    (decide (ltb (edgeRows (s .edges)) (needs.edgeRows firstEdition b))))
+    (decide (ltb (vertexRows (s .vertices)) (needs.vertices firstEdition b)))
 
 -- any bytes
 comes-of : (bytes : List ℕ) (s : Lent) (r : Reading) → reading bytes ≡ r → Comes bytes s (loadRead bytes s r)
@@ -80,55 +93,55 @@ load-comes bytes s = comes-of bytes s (reading bytes) refl
 -- Loading accepts exactly the encodings of trees within all limits for which the rows needed are lent.
 pub load-exact :
     (bytes : List ℕ) (s : Lent)
-    → (accepted (load bytes s .answer) ≡ true) ↔ ((b : Body) × Loadable b × (bytes ≡ encode b) × Lends b s)
+    → (isLoaded (load bytes s .answer) ≡ true) ↔ ((b : Body) × Loadable b × (bytes ≡ encode b) × Lends b s)
 load-exact bytes s = (
   λ h. there (load-comes bytes s) h,
-  λ (b, h, e, l). ap (λ (o : Outcome). accepted (o .answer)) (load-taken bytes s b (ap reading e ∙ reading-complete b h) l),
+  λ (b, h, e, l). ap (λ (o : LoadingOutcome). isLoaded (o .answer)) (load-taken bytes s b (ap reading e ∙ reading-complete b h) l),
 )
   where
     there :
-        {o : Outcome} → Comes bytes s o → accepted (o .answer) ≡ true
+        {o : LoadingOutcome} → Comes bytes s o → isLoaded (o .answer) ≡ true
         → (b : Body) × Loadable b × (bytes ≡ encode b) × Lends b s
     there (loads b r l e) h = let (p, q) = reading-sound bytes b r in (b, q, p, l)
-    there (refuses n p u e) h = true-false h (ap (λ (o : Outcome). accepted (o .answer)) e)
+    there (refuses n p u e) h = true-false h (ap (λ (o : LoadingOutcome). isLoaded (o .answer)) e)
 
 -- It is refused as reading is, or by 10 or 11 where rows are wanting.
-load-refuses : (bytes : List ℕ) (s : Lent) {n p : ℕ} → Unloaded bytes s n p → load bytes s ≡ refuse s n p
+load-refuses : (bytes : List ℕ) (s : Lent) {n p : ℕ} → Unloaded bytes s n p → load bytes s ≡ refuseLoading s n p
 unfolding load loadRead
 load-refuses bytes s (unread r) = rw r refl
-load-refuses bytes s (few-vertex-rows b r lt) = rw r (unless-stop s _ _ (lt-leb _ _ lt))
-load-refuses bytes s (few-edge-rows b r le lt) = rw r (unless-pass s _ _ (le-leb _ _ le) ∙ unless-stop s _ _ (lt-leb _ _ lt))
+load-refuses bytes s (few-vertex-rows b r lt) = rw r (vertex-rows-wanting bytes s b lt)
+load-refuses bytes s (few-edge-rows b r le lt) = rw r (edge-rows-wanting bytes s b le lt)
 
-pub load-refused : (bytes : List ℕ) (s : Lent) (n p : ℕ) → (load bytes s .answer ≡ refused n p) ↔ Unloaded bytes s n p
-load-refused bytes s n p = (λ h. there (load-comes bytes s) h, λ u. ap (λ (o : Outcome). o .answer) (load-refuses bytes s u))
+pub load-refused : (bytes : List ℕ) (s : Lent) (n p : ℕ) → (load bytes s .answer ≡ loading-refused n p) ↔ Unloaded bytes s n p
+load-refused bytes s n p = (λ h. there (load-comes bytes s) h, λ u. ap (λ (o : LoadingOutcome). o .answer) (load-refuses bytes s u))
   where
-    there : {o : Outcome} → Comes bytes s o → o .answer ≡ refused n p → Unloaded bytes s n p
-    there (loads b r l e) h = true-false (ap (λ (o : Outcome). accepted (o .answer)) e) (ap accepted h)
+    there : {o : LoadingOutcome} → Comes bytes s o → o .answer ≡ loading-refused n p → Unloaded bytes s n p
+    there (loads b r l e) h = true-false (ap (λ (o : LoadingOutcome). isLoaded (o .answer)) e) (ap isLoaded h)
     there (refuses n' p' u e) h =
-        let q : refused n p ≡ refused n' p' = sym h ∙ ap (λ (o : Outcome). o .answer) e in
+        let q : loading-refused n p ≡ loading-refused n' p' = sym h ∙ ap (λ (o : LoadingOutcome). o .answer) e in
         let qn : n' ≡ n = cc in
         let qp : p' ≡ p = cc in
         subst (λ (x : ℕ). Unloaded bytes s x p) qn (subst (λ (x : ℕ). Unloaded bytes s n' x) qp u)
 
 -- A refused loading changes nothing.
-pub load-keeps : (bytes : List ℕ) (s : Lent) → accepted (load bytes s .answer) ≡ false → load bytes s .after ≡ s
+pub load-keeps : (bytes : List ℕ) (s : Lent) → isLoaded (load bytes s .answer) ≡ false → load bytes s .after ≡ s
 load-keeps bytes s = keeps (load-comes bytes s)
   where
-    keeps : {o : Outcome} → Comes bytes s o → accepted (o .answer) ≡ false → o .after ≡ s
-    keeps (loads b r l e) h = true-false (ap (λ (o : Outcome). accepted (o .answer)) e) h
-    keeps (refuses n p u e) h = ap (λ (o : Outcome). o .after) e
+    keeps : {o : LoadingOutcome} → Comes bytes s o → isLoaded (o .answer) ≡ false → o .after ≡ s
+    keeps (loads b r l e) h = true-false (ap (λ (o : LoadingOutcome). isLoaded (o .answer)) e) h
+    keeps (refuses n p u e) h = ap (λ (o : LoadingOutcome). o .after) e
 
 -- The tables that an accepted loading leaves, and that the rows were lent.
 pub load-accepted :
-    (bytes : List ℕ) (s : Lent) (t : Body) → reading bytes ≡ program t → accepted (load bytes s .answer) ≡ true
+    (bytes : List ℕ) (s : Lent) (t : Body) → reading bytes ≡ program t → isLoaded (load bytes s .answer) ≡ true
     → Lends t s × (load bytes s .after ≡ loadedTables bytes s)
 load-accepted bytes s t r = there (load-comes bytes s)
   where
-    there : {o : Outcome} → Comes bytes s o → accepted (o .answer) ≡ true → Lends t s × (o .after ≡ loadedTables bytes s)
+    there : {o : LoadingOutcome} → Comes bytes s o → isLoaded (o .answer) ≡ true → Lends t s × (o .after ≡ loadedTables bytes s)
     there (loads b q l e) h =
         let same : b ≡ t = cc in
-        (subst (λ (x : Body). Lends x s) same l, ap (λ (o : Outcome). o .after) e)
-    there (refuses n p u e) h = true-false h (ap (λ (o : Outcome). accepted (o .answer)) e)
+        (subst (λ (x : Body). Lends x s) same l, ap (λ (o : LoadingOutcome). o .after) e)
+    there (refuses n p u e) h = true-false h (ap (λ (o : LoadingOutcome). isLoaded (o .answer)) e)
 
 -- a program needs two vertex rows and one edge row
 pub two-rows : (t : Body) (s : Lent) → Lends t s → 2 ≤ vertexRows (s .vertices)
@@ -179,10 +192,10 @@ loaded-usable bytes s t h =
 pub load-usable : (bytes : List ℕ) (s : Lent) → UsableOnly s (load bytes s .after)
 load-usable bytes s = there (load-comes bytes s)
   where
-    there : {o : Outcome} → Comes bytes s o → UsableOnly s (o .after)
-    there (loads b r l e) = subst (λ (o : Outcome). UsableOnly s (o .after)) (sym e) (loaded-usable bytes s b l)
+    there : {o : LoadingOutcome} → Comes bytes s o → UsableOnly s (o .after)
+    there (loads b r l e) = subst (λ (o : LoadingOutcome). UsableOnly s (o .after)) (sym e) (loaded-usable bytes s b l)
     there (refuses n p u e) =
-        subst (λ (o : Outcome). UsableOnly s (o .after)) (sym e)
+        subst (λ (o : LoadingOutcome). UsableOnly s (o .after)) (sym e)
         (record { vertex-words = (refl, λ i out. refl); edge-words = (refl, λ i out. refl) })
 
 -- bytes that offend have a place, and so have bytes that run out
@@ -211,7 +224,7 @@ reading-place (read.overran b x left w e) = inl (omega arith)
 reading-place (read.crowds b w e v) = inr refl
 
 -- A refused loading has a place from 2 to 7 only.
-pub load-place : (bytes : List ℕ) (s : Lent) (n p : ℕ) → load bytes s .answer ≡ refused n p → HasPlace n ⊎ (p ≡ 0)
+pub load-place : (bytes : List ℕ) (s : Lent) (n p : ℕ) → load bytes s .answer ≡ loading-refused n p → HasPlace n ⊎ (p ≡ 0)
 load-place bytes s n p h = there (load-refused bytes s n p .0 h)
   where
     there : {n p : ℕ} → Unloaded bytes s n p → HasPlace n ⊎ (p ≡ 0)

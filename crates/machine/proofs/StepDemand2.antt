@@ -49,7 +49,6 @@ use Rattle.machine.proofs.StepLaws.{step-is, due-released}
 
 -- a step says that it is accepted where its command does
 said-accepted : (a : of-graph.Said) → accepted (saidAs a) ≡ of-graph.accepted a
-said-accepted of-graph.opened = refl
 said-accepted of-graph.start = refl
 said-accepted (of-graph.new v) = refl
 said-accepted (of-graph.edge a b) = refl
@@ -219,7 +218,6 @@ before-due bytes s v =
 
 -- only a refused command is said to be refused
 said-refused : (a : of-graph.Said) {n p : ℕ} → saidAs a ≡ Said.refused n p → a ≡ of-graph.refused n p
-said-refused of-graph.opened h = true-false refl (ap accepted h)
 said-refused of-graph.start h = true-false refl (ap accepted h)
 said-refused (of-graph.new v) h = true-false refl (ap accepted h)
 said-refused (of-graph.edge a b) h = true-false refl (ap accepted h)

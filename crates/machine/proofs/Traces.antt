@@ -6,7 +6,7 @@ use mathlib.Core.List.{List, [], _∷_, _++_}
 use Rattle.graph.specs.Tables.{Lent}
 use Rattle.program.specs.Trees.{Body}
 use Rattle.program.specs.Reader.{reading, program}
-use Rattle.machine.specs.Answers.{Said, accepted}
+use Rattle.machine.specs.Answers.{Said, isLoaded}
 use Rattle.machine.specs.Loading.{load}
 use Rattle.machine.specs.Stepping.{step}
 use Rattle.machine.specs.Reached.{Reached, begun, stepped, Call, runs, callAnswers}
@@ -18,7 +18,7 @@ use Rattle.machine.proofs.Calls.{run-reached, calls-reached}
 -- Whatever an engine answers and leaves in a trace is reached by the plain machine.
 pub trace-reached : {bytes : List ℕ} {s₀ : Lent} {answers : List Said} {s : Lent} → Trace bytes s₀ answers s → Reached bytes s₀ answers s
 trace-reached {bytes} {s₀} (load-first l h) =
-    subst (λ (s : Lent). Reached bytes s₀ [] s) (sym (l .leaves)) (begun (sym (ap accepted (l .says)) ∙ h))
+    subst (λ (s : Lent). Reached bytes s₀ [] s) (sym (l .leaves)) (begun (sym (ap isLoaded (l .says)) ∙ h))
 trace-reached {bytes} {s₀} (then-step {answers} {s} {s'} v answer tr l) =
     subst (λ (x : Lent). Reached bytes s₀ (answers ++ (answer ∷ [])) x) (sym (l .leaves))
     (subst (λ (a : Said). Reached bytes s₀ (answers ++ (a ∷ [])) (step bytes s v .after)) (sym (l .says)) (stepped (trace-reached tr) v))
@@ -36,7 +36,7 @@ trace-demand3 {bytes} tr =
 
 -- Demand 3 of every list of calls from an accepted loading.
 pub list-demand3 :
-    (bytes : List ℕ) (s₀ : Lent) (h : accepted (load bytes s₀ .answer) ≡ true) (cs : List Call)
+    (bytes : List ℕ) (s₀ : Lent) (h : isLoaded (load bytes s₀ .answer) ≡ true) (cs : List Call)
     → (t : Body) × (reading bytes ≡ program t) × Demand3 bytes t (calls-reached bytes s₀ cs (load bytes s₀ .after) (begun h))
 list-demand3 bytes s₀ h cs =
     let q = calls-reached bytes s₀ cs (load bytes s₀ .after) (begun h) in

@@ -20,7 +20,7 @@ use Rattle.program.specs.Claims.{Loadable}
 use Rattle.program.proofs.LocatedLaws.{laid-locate}
 use Rattle.program.proofs.Formulas.{vertices-formula, steps-formula}
 use Rattle.program.proofs.Exactness.{reading-sound}
-use Rattle.machine.specs.Answers.{Said, Outcome, accepted}
+use Rattle.machine.specs.Answers.{Said, Outcome, accepted, isLoaded}
 use Rattle.machine.specs.Answers as said
 use Rattle.machine.specs.Loading.{load}
 use Rattle.machine.specs.Stepping.{step, stepLimit}
@@ -79,7 +79,7 @@ pub record Tracked (bytes : List ℕ) (t : Body) (s₀ : Lent) (answers : List S
 
 -- After loading.
 pub tracked-begun :
-    (bytes : List ℕ) (t : Body) (s₀ : Lent) → reading bytes ≡ program t → accepted (load bytes s₀ .answer) ≡ true
+    (bytes : List ℕ) (t : Body) (s₀ : Lent) → reading bytes ≡ program t → isLoaded (load bytes s₀ .answer) ≡ true
     → Tracked bytes t s₀ [] (load bytes s₀ .after)
 unfolding acceptedIn ranIn spent
 tracked-begun bytes t s₀ r h =

@@ -17,10 +17,9 @@ unsound-tables = 12
 abbrev pub unreadable : ℕ
 unreadable = 13
 
--- "An accepted step says one of seven things: start, new v, edge a b, release v, transfer v, job (number, offset), stop." Loading says
--- that it loaded; a refusal has its number and place.
+-- "An accepted step says one of seven things: start, new v, edge a b, release v, transfer v, job (number, offset), stop." A refusal has its
+-- number and place.
 pub data Said : Type 0 where
-  loaded : Said
   start : Said
   new : ℕ → Said
   edge : ℕ → ℕ → Said
@@ -31,7 +30,6 @@ pub data Said : Type 0 where
   refused : ℕ → ℕ → Said
 
 abbrev pub accepted : Said → Bool
-accepted loaded = true
 accepted start = true
 accepted (new v) = true
 accepted (edge a b) = true
@@ -49,7 +47,23 @@ pub record Outcome : Type 0 where
 abbrev pub refuse : Lent → ℕ → ℕ → Outcome
 refuse s n p = record { answer = refused n p; after = s }
 
--- refused with n, at no place, unless a test holds
+-- Loading says that it loaded, or is refused likewise.
+pub data LoadingSaid : Type 0 where
+  loaded : LoadingSaid
+  loading-refused : ℕ → ℕ → LoadingSaid
+
+abbrev pub isLoaded : LoadingSaid → Bool
+isLoaded loaded = true
+isLoaded (loading-refused n p) = false
+
+pub record LoadingOutcome : Type 0 where
+  pub answer : LoadingSaid
+  pub after : Lent
+
+abbrev pub refuseLoading : Lent → ℕ → ℕ → LoadingOutcome
+refuseLoading s n p = record { answer = loading-refused n p; after = s }
+
+-- a step is refused with n, at no place, unless a test holds
 unfoldable pub unless : Lent → Bool → ℕ → Outcome → Outcome
 unless s true n next = next
 unless s false n next = refuse s n 0
@@ -61,7 +75,6 @@ oneStep s =
 
 -- what a single command says, as a step says it
 abbrev pub saidAs : of-graph.Said → Said
-saidAs of-graph.opened = loaded
 saidAs of-graph.start = start
 saidAs (of-graph.new v) = new v
 saidAs (of-graph.edge a b) = edge a b

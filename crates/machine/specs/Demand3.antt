@@ -12,7 +12,7 @@ use Rattle.graph.specs.Paths.{CycleFree, holds}
 use Rattle.program.specs.Trees.{Body, counts}
 use Rattle.program.specs.Encodings.{stepFormula}
 use Rattle.program.specs.Located.{Code, job-at, locate, codeAt}
-use Rattle.machine.specs.Answers.{Said, accepted, loaded, start, new, edge, release, transfer, job, stop, refused}
+use Rattle.machine.specs.Answers.{Said, accepted, start, new, edge, release, transfer, job, stop, refused}
 use Rattle.machine.specs.Loading.{load}
 use Rattle.machine.specs.Stepping.{step}
 use Rattle.machine.specs.Running.{canStep, done, spent, run}
@@ -27,7 +27,6 @@ acceptedIn (a ∷ answers) = cond (accepted a) 1 0 + acceptedIn answers
 -- "Jobs are told apart by offset." "A job has run when a step answers with its number and offset": how often the job at an offset was answered
 unfoldable pub answersJob : ℕ → Said → ℕ
 answersJob o (job n p) = cond (eqb p o) 1 0
-answersJob o loaded = 0
 answersJob o start = 0
 answersJob o (new v) = 0
 answersJob o (edge a b) = 0

@@ -11,7 +11,7 @@ use Rattle.graph.specs.Answers as of-graph
 use Rattle.graph.specs.Commands.{opening, command}
 use Rattle.graph.specs.declared.Command as single
 use Rattle.graph.specs.declared.Command.the-variants.{NewTd, NewEdge, Transfer, Start}
-use Rattle.machine.specs.Answers.{Said, loaded, start, new, edge, release, transfer, job, stop, refused, Outcome, refuse}
+use Rattle.machine.specs.Answers.{Said, start, new, edge, release, transfer, job, stop, refused, LoadingSaid, loaded, LoadingOutcome, refuseLoading}
 use Rattle.machine.specs.Loading.{load}
 use Rattle.machine.specs.Stepping.{step}
 use Rattle.machine.specs.Running.{Ending, done, spent, allFinished, run}
@@ -62,24 +62,24 @@ seconds l = map (λ x. x .1) l
 -- What the calls of an example come to: loading's answer, then the run's ending, last step and number of steps; or what the steps say,
 -- and whether all are finished then; or the opening's answer and what the commands say.
 pub data Result : Type 0 where
-  ran : Said → Ending → Option Said → ℕ → Result
-  stepped : Said → List Said → Bool → Result
-  commanded : of-graph.Said → List of-graph.Said → Result
+  ran : LoadingSaid → Ending → Option Said → ℕ → Result
+  stepped : LoadingSaid → List Said → Bool → Result
+  commanded : of-graph.OpeningSaid → List of-graph.Said → Result
 
 -- a run of a program that was loaded; steps of it; commands after the opening
-unfoldable pub runs : List ℕ → ℕ → Outcome → Result
+unfoldable pub runs : List ℕ → ℕ → LoadingOutcome → Result
 runs p budget o =
     ran (o .answer) (run p (o .after) budget .ending) (run p (o .after) budget .last) (run p (o .after) budget .taken)
 
-unfoldable pub steps : List ℕ → List ℕ → Outcome → Result
+unfoldable pub steps : List ℕ → List ℕ → LoadingOutcome → Result
 steps p vs o = stepped (o .answer) (saidBy p (o .after) vs) (allFinished (leftBy p (o .after) vs))
 
-unfoldable pub commands : List single.Command → of-graph.Outcome → Result
+unfoldable pub commands : List single.Command → of-graph.OpeningOutcome → Result
 commands cs o = commanded (o .answer) (saidBare (o .after) cs)
 
 -- that an example holds is an equation
 abbrev pub Holds : Example → Type 0
-Holds (refuses p n q) = load p anything ≡ refuse anything n q
+Holds (refuses p n q) = load p anything ≡ refuseLoading anything n q
 Holds (takes p n) = runs p enough (load p anything) ≡ ran loaded done (some stop) n
 Holds (comes p n said) = runs p n (load p anything) ≡ ran loaded spent (some said) n
 Holds (goes p turns) = steps p (firsts turns) (load p anything) ≡ stepped loaded (seconds turns) true

@@ -1,15 +1,16 @@
 -- "Loading clears the used rows and the tally, then sets vertex 0 (released, place 0, scope 1), vertex 1 (released, place of the last
 -- byte, scope 1) and the edge 0 to 1."
 use Prim.Native.Nat.{ℕ, _-_, _*_}
+use mathlib.Core.Bool.{cond}
 use mathlib.Core.List.{List}
-use lib.Dec.{leb}
+use lib.Dec.{ltb}
 use lib.ListN.{length}
 use Rattle.graph.specs.Tables.{Lent, RELEASED, vertexWords, edgeWords, placeWord, scopeWord, vertexRows, edgeRows, setStatus, setVertexWord, clear}
 use Rattle.graph.specs.Commands.{appended}
 use Rattle.program.specs.Encodings as needs
 use Rattle.program.specs.Encodings.{firstEdition}
 use Rattle.program.specs.Reader.{Reading, program, refusal, reading}
-use Rattle.machine.specs.Answers.{Said, Outcome, refuse, unless, too-few-vertex-rows, too-few-edge-rows}
+use Rattle.machine.specs.Answers.{LoadingOutcome, loaded, refuseLoading, too-few-vertex-rows, too-few-edge-rows}
 
 -- a vertex as loading sets it
 abbrev pub placed : List ℕ → ℕ → ℕ → List ℕ
@@ -26,12 +27,12 @@ loadedTables bytes s =
     }
 
 -- "Load: 1; the first of 2 to 7 by place, ..; 8; 10; 11."
-unfoldable pub loadRead : List ℕ → Lent → Reading → Outcome
-loadRead bytes s (refusal n p) = refuse s n p
+unfoldable pub loadRead : List ℕ → Lent → Reading → LoadingOutcome
+loadRead bytes s (refusal n p) = refuseLoading s n p
 loadRead bytes s (program b) =
-    unless s (leb (needs.vertices firstEdition b) (vertexRows (s .vertices))) too-few-vertex-rows
-    (unless s (leb (needs.edgeRows firstEdition b) (edgeRows (s .edges))) too-few-edge-rows
-    (record { answer = Said.loaded; after = loadedTables bytes s }))
+    cond (ltb (vertexRows (s .vertices)) (needs.vertices firstEdition b)) (refuseLoading s too-few-vertex-rows 0)
+    (cond (ltb (edgeRows (s .edges)) (needs.edgeRows firstEdition b)) (refuseLoading s too-few-edge-rows 0)
+    (record { answer = loaded; after = loadedTables bytes s }))
 
-unfoldable pub load : List ℕ → Lent → Outcome
+unfoldable pub load : List ℕ → Lent → LoadingOutcome
 load bytes s = loadRead bytes s (reading bytes)

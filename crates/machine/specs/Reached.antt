@@ -7,14 +7,14 @@ use mathlib.Core.List.{List, [], _∷_, _++_}
 use mathlib.Core.Option.{Option, none, some}
 use lib.ListN.{length}
 use Rattle.graph.specs.Tables.{Lent}
-use Rattle.machine.specs.Answers.{Said, accepted}
+use Rattle.machine.specs.Answers.{Said, isLoaded}
 use Rattle.machine.specs.Loading.{load}
 use Rattle.machine.specs.Stepping.{steppable, step}
 use Rattle.machine.specs.Running.{lowest, allFinished, refused, RunOutcome, run}
 
 -- From the loading of these bytes onto s₀, by steps with these answers, this is lent.
 pub data Reached (bytes : List ℕ) (s₀ : Lent) : List Said → Lent → Type 0 where
-  begun : accepted (load bytes s₀ .answer) ≡ true → Reached bytes s₀ [] (load bytes s₀ .after)
+  begun : isLoaded (load bytes s₀ .answer) ≡ true → Reached bytes s₀ [] (load bytes s₀ .after)
   stepped :
       {answers : List Said} {s : Lent} → Reached bytes s₀ answers s → (v : ℕ)
       → Reached bytes s₀ (answers ++ (step bytes s v .answer ∷ [])) (step bytes s v .after)

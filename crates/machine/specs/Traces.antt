@@ -7,14 +7,14 @@ use mathlib.Core.Bool.{true}
 use mathlib.Core.List.{List, [], _∷_, _++_}
 use mathlib.Core.Option.{Option}
 use Rattle.graph.specs.Tables.{Lent}
-use Rattle.machine.specs.Answers.{Said, accepted}
+use Rattle.machine.specs.Answers.{Said, LoadingSaid, isLoaded}
 use Rattle.machine.specs.Loading.{load}
 use Rattle.machine.specs.Stepping.{step}
 use Rattle.machine.specs.Running.{Ending, run}
 use Rattle.machine.specs.Reached.{runs, callAnswers}
 
 -- loading these bytes onto what was lent before
-pub record Loaded (bytes : List ℕ) (before : Lent) (answer : Said) (after : Lent) : Type 0 where
+pub record Loaded (bytes : List ℕ) (before : Lent) (answer : LoadingSaid) (after : Lent) : Type 0 where
   pub says : answer ≡ load bytes before .answer
   pub leaves : after ≡ load bytes before .after
 
@@ -32,7 +32,7 @@ pub record Ran (bytes : List ℕ) (before : Lent) (budget : ℕ) (ending : Endin
 
 -- A trace from a loading onto s₀: the steps' answers, a run's steps among them, and what is lent at its end.
 pub data Trace (bytes : List ℕ) (s₀ : Lent) : List Said → Lent → Type 0 where
-  load-first : {answer : Said} {s : Lent} → Loaded bytes s₀ answer s → accepted answer ≡ true → Trace bytes s₀ [] s
+  load-first : {answer : LoadingSaid} {s : Lent} → Loaded bytes s₀ answer s → isLoaded answer ≡ true → Trace bytes s₀ [] s
   then-step :
       {answers : List Said} {s s' : Lent} (v : ℕ) (answer : Said) → Trace bytes s₀ answers s → Stepped bytes s v answer s'
       → Trace bytes s₀ (answers ++ (answer ∷ [])) s'
