@@ -5,13 +5,11 @@ use mathlib.Core.List.{List, [], _∷_}
 use native.Mathlib.Omega.{arith}
 use lib.ListN.{length, set, length-set}
 use Rattle.graph.specs.declared.Tally.{Tally}
-use Rattle.graph.specs.declared.Done.{Done}
+use Rattle.graph.specs.declared.OpenDone.{OpenDone}
 use Rattle.graph.specs.Tables.{Lent, lent, RELEASED, vertexWords, statusWord, placeWord, scopeWord, edgeWords, vertexRows, edgeRows, setVertexWord, setStatus, clear}
-use Rattle.graph.specs.Answers.{outcome}
-use Rattle.graph.specs.Answers as graph-answers
-use Rattle.graph.specs.Commands.{openingRefusal, openedTables, opening, appended}
-use Rattle.graph.proofs.CallLaws.{opening-accepted}
-use Rattle.graph.proofs.RefusalLaws.{decided-is}
+use Rattle.graph.specs.Answers.{OpeningOutcome, openingOutcome}
+use Rattle.graph.specs.Commands.{openedTables, opening, appended}
+use Rattle.graph.proofs.CallLaws.{opening-opens}
 use Rattle.program.specs.declared.ItemCounts.{ItemCounts}
 use Rattle.program.specs.Limits.{programBytes}
 use Rattle.program.specs.Trees.{Counts, counts, Body}
@@ -24,7 +22,7 @@ use Rattle.program.specs.Answers as of-program
 use Rattle.program.proofs.Formulas.{vertices-formula, edgeRows-formula}
 use Rattle.program.proofs.ReadingLaws.{encode-positive}
 use Rattle.program.proofs.Exactness.{reading-sound}
-use Rattle.machine.specs.Answers.{Said, Outcome, accepted}
+use Rattle.machine.specs.Answers.{LoadingSaid, loaded, loading-refused, isLoaded, LoadingOutcome}
 use Rattle.machine.specs.Loading.{placed, loadedTables, load}
 use Rattle.machine.specs.Demand2.{Unloaded, unread, few-vertex-rows, few-edge-rows}
 use Rattle.machine.specs.Traces.{Loaded}
@@ -58,17 +56,17 @@ read-is bytes (program b) e h = record { tree = b; is-read = e; counted = cc }
 read-is bytes (refusal n p) e h = absurd (let z : _≡_ {A = ℕ} 0 1 = cc in omega arith)
 
 -- a refusal
-refusing : (bytes : List ℕ) (s : Lent) {a : Said} {after : Lent} (n p : ℕ) → Unloaded bytes s n p → a ≡ Said.refused n p → after ≡ s → Loaded bytes s a after
+refusing : (bytes : List ℕ) (s : Lent) {a : LoadingSaid} {after : Lent} (n p : ℕ) → Unloaded bytes s n p → a ≡ loading-refused n p → after ≡ s → Loaded bytes s a after
 refusing bytes s n p u h k =
-    let o : load bytes s .answer ≡ Said.refused n p = load-refused bytes s n p .1 u in
-    record { says = h ∙ sym o; leaves = k ∙ sym (load-keeps bytes s (ap accepted o)) }
+    let o : load bytes s .answer ≡ loading-refused n p = load-refused bytes s n p .1 u in
+    record { says = h ∙ sym o; leaves = k ∙ sym (load-keeps bytes s (ap isLoaded o)) }
 
 refused-lent : (v e : List ℕ) {t t' : Tally} → t' ≡ t → lent v e t' ≡ lent v e t
 refused-lent v e p = ap (lent v e) p
 
 pub load-unread :
-    (bytes v e : List ℕ) (t : Tally) {a : Said} {t' : Tally} (n p : ℕ) → of-program.Said.refused n p ≡ told (reading bytes)
-    → (a ≡ Said.refused n p) × (t' ≡ t) → Loaded bytes (lent v e t) a (lent v e t')
+    (bytes v e : List ℕ) (t : Tally) {a : LoadingSaid} {t' : Tally} (n p : ℕ) → of-program.Said.refused n p ≡ told (reading bytes)
+    → (a ≡ loading-refused n p) × (t' ≡ t) → Loaded bytes (lent v e t) a (lent v e t')
 load-unread bytes v e t n p is h = refusing bytes (lent v e t) n p (unread (unread-is (reading bytes) is)) (h .0) (refused-lent v e (h .1))
 
 -- the rows that a program needs, as the code counts them
@@ -85,13 +83,13 @@ enough : {r r' n n' : ℕ} → r ≡ r' → n ≡ n' → n ≤ r → n' ≤ r'
 enough p q h = omega arith
 
 -- what opening leaves, where there are rows
-opened : (v e : List ℕ) (t : Tally) (r : Done) (v' e' : List ℕ) → outcome r v' e' ≡ opening (lent v e t) → 2 ≤ vertexRows v → (v' ≡ setStatus (clear v 0 (vertexWords * vertexRows v)) 0 RELEASED) × (e' ≡ clear e 0 (edgeWords * edgeRows e))
+opened : (v e : List ℕ) (t : Tally) (r : OpenDone) (v' e' : List ℕ) → openingOutcome r v' e' ≡ opening (lent v e t) → 2 ≤ vertexRows v → (v' ≡ setStatus (clear v 0 (vertexWords * vertexRows v)) 0 RELEASED) × (e' ≡ clear e 0 (edgeWords * edgeRows e))
 unfolding opening openedTables
 opened v e t r v' e' h two =
     let s : Lent = lent v e t in
     let some-rows : vertexRows v ≡ 0 → ⊥ = omega arith in
-    let o : outcome r v' e' ≡ record { answer = graph-answers.Said.opened; after = openedTables s } = h ∙ decided-is s (openingRefusal s) _ _ (sym (opening-accepted s refl some-rows)) in
-    (ap (λ (x : graph-answers.Outcome). x .after .vertices) o, ap (λ (x : graph-answers.Outcome). x .after .edges) o)
+    let o = h ∙ sym (opening-opens s refl some-rows) in
+    (ap (λ (x : OpeningOutcome). x .after .vertices) o, ap (λ (x : OpeningOutcome). x .after .edges) o)
 
 placed-again : (x : List ℕ) (k p : ℕ) → placed (setStatus x k RELEASED) k p ≡ placed x k p
 placed-again x k p = ap (λ (y : List ℕ). setVertexWord (setVertexWord y k placeWord p) k scopeWord 1) (set-set x (vertexWords * k + statusWord) RELEASED RELEASED)
@@ -100,14 +98,14 @@ module _ (bytes v e : List ℕ) (t : Tally) (c : ItemCounts) (is : loads (itemCo
   found : Read bytes (itemCounts c)
   found = read-is bytes (reading bytes) refl is
 
-  pub load-few-vertices : {a : Said} {t' : Tally} → vr < vn → (a ≡ Said.refused 10 0) × (t' ≡ t) → Loaded bytes (lent v e t) a (lent v e t')
+  pub load-few-vertices : {a : LoadingSaid} {t' : Tally} → vr < vn → (a ≡ loading-refused 10 0) × (t' ≡ t) → Loaded bytes (lent v e t) a (lent v e t')
   load-few-vertices lt h =
       refusing bytes (lent v e t) 10 0 (few-vertex-rows (found .tree) (found .is-read) (below rows (needs-vertices (found .tree) (found .counted) need) lt)) (h .0) (refused-lent v e (h .1))
 
   there : vn ≤ vr → needs.vertices firstEdition (found .tree) ≤ vertexRows v
   there le = enough rows (needs-vertices (found .tree) (found .counted) need) le
 
-  pub load-few-edges : {a : Said} {t' : Tally} {er en : ℕ} → vn ≤ vr → er ≡ edgeRows e → en ≡ edgeRowFormula (itemCounts c) → er < en → (a ≡ Said.refused 11 0) × (t' ≡ t) → Loaded bytes (lent v e t) a (lent v e t')
+  pub load-few-edges : {a : LoadingSaid} {t' : Tally} {er en : ℕ} → vn ≤ vr → er ≡ edgeRows e → en ≡ edgeRowFormula (itemCounts c) → er < en → (a ≡ loading-refused 11 0) × (t' ≡ t) → Loaded bytes (lent v e t) a (lent v e t')
   load-few-edges le erows eneed lt h =
       refusing bytes (lent v e t) 11 0 (few-edge-rows (found .tree) (found .is-read) (there le) (below erows (needs-edges (found .tree) (found .counted) eneed) lt)) (h .0) (refused-lent v e (h .1))
 
@@ -121,7 +119,7 @@ module _ (bytes v e : List ℕ) (t : Tally) (c : ItemCounts) (is : loads (itemCo
       within : (b : Body) → bytes ≡ encode b → size b ≤ programBytes → (1 ≤ length bytes) × (length bytes ≤ programBytes)
       within b p q = rw p (encode-positive b, q)
 
-  module _ (le : vn ≤ vr) (r : Done) (v' e' : List ℕ) (left : outcome r v' e' ≡ opening (lent v e t)) where
+  module _ (le : vn ≤ vr) (r : OpenDone) (v' e' : List ℕ) (left : openingOutcome r v' e' ≡ opening (lent v e t)) where
     as-opened : (v' ≡ setStatus (clear v 0 (vertexWords * vertexRows v)) 0 RELEASED) × (e' ≡ clear e 0 (edgeWords * edgeRows e))
     as-opened = opened v e t r v' e' left (two-rows le)
 
@@ -150,7 +148,7 @@ module _ (bytes v e : List ℕ) (t : Tally) (c : ItemCounts) (is : loads (itemCo
             steps = 0;
           }
 
-      pub load-accepted : {v'' : List ℕ} → v'' ≡ placed (placed v' 0 0) 1 (length bytes - 1) → Loaded bytes (lent v e t) Said.loaded (record { vertices = v''; edges = set (set e' 0 0) 1 1; made = 2; held = 1; steps = 0 })
+      pub load-accepted : {v'' : List ℕ} → v'' ≡ placed (placed v' 0 0) 1 (length bytes - 1) → Loaded bytes (lent v e t) loaded (record { vertices = v''; edges = set (set e' 0 0) 1 1; made = 2; held = 1; steps = 0 })
       load-accepted placing =
           let o = load-taken bytes (lent v e t) (found .tree) (found .is-read) (record { vertex-rows = there le; edge-rows = enough erows (needs-edges (found .tree) (found .counted) eneed) enough-edges }) in
-          record { says = ap (λ (x : Outcome). x .answer) (sym o); leaves = tables placing ∙ ap (λ (x : Outcome). x .after) (sym o) }
+          record { says = ap (λ (x : LoadingOutcome). x .answer) (sym o); leaves = tables placing ∙ ap (λ (x : LoadingOutcome). x .after) (sym o) }

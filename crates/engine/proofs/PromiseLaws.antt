@@ -14,7 +14,7 @@ use lib.ListN.{length, getD, take}
 use lib.Seq.{take-suc, take-all}
 use borrow.Author.Tests.{not-true, not-false}
 use Rattle.graph.specs.Tables.{Lent}
-use Rattle.machine.specs.Answers.{Said, accepted}
+use Rattle.machine.specs.Answers.{Said, LoadingSaid, isLoaded}
 use Rattle.machine.specs.Loading.{load}
 use Rattle.machine.specs.Reached.{Reached, begun, stepped}
 use Rattle.machine.specs.Traces.{Loaded, Stepped}
@@ -26,9 +26,9 @@ use Rattle.engine.specs.Promise.{BySteps, no-steps, then-step, Promised,
 pub data Came (bytes : List ℕ) (s₀ : Lent) (named : List ℕ) (s : Lent) : Type 0 where
   came : (answers : List Said) (q : Reached bytes s₀ answers s) → BySteps bytes s₀ named answers s q → Came bytes s₀ named s
 
-loaded-came : {bytes : List ℕ} {s₀ u : Lent} {loading : Said} → Loaded bytes s₀ loading u → accepted loading ≡ true → Came bytes s₀ [] u
+loaded-came : {bytes : List ℕ} {s₀ u : Lent} {loading : LoadingSaid} → Loaded bytes s₀ loading u → isLoaded loading ≡ true → Came bytes s₀ [] u
 loaded-came {bytes} {s₀} l h =
-    let g : accepted (load bytes s₀ .answer) ≡ true = sym (ap accepted (l .says)) ∙ h in
+    let g : isLoaded (load bytes s₀ .answer) ≡ true = sym (ap isLoaded (l .says)) ∙ h in
     subst (λ (x : Lent). Came bytes s₀ [] x) (sym (l .leaves)) (came [] (begun g) (no-steps g))
 
 step-came :
@@ -58,7 +58,7 @@ onward-all {bytes} {s₀} {s = s} {named} {i} (onward f) le h =
     subst (λ (x : List ℕ). Came bytes s₀ x s) (take-all i named le) (f s₀ h)
 
 promised :
-    {bytes : List ℕ} {s₀ s : Lent} {named : List ℕ} {loading : Said} → loading ≡ load bytes s₀ .answer → accepted loading ≡ true
+    {bytes : List ℕ} {s₀ s : Lent} {named : List ℕ} {loading : LoadingSaid} → loading ≡ load bytes s₀ .answer → isLoaded loading ≡ true
     → Came bytes s₀ named s → Promised bytes s₀ named loading (s .steps) s
 promised {bytes} says h (came answers q b) =
     let (t, r) = reached-program bytes q in
@@ -67,8 +67,8 @@ promised {bytes} says h (came answers q b) =
 
 -- the loading is accepted: demand 3 of the whole list
 pub keeps-promise :
-    {bytes : List ℕ} {s₀ u s : Lent} {named : List ℕ} {loading : Said} {i : ℕ} {b : Bool} → Loaded bytes s₀ loading u
-    → b ≡ not (accepted loading) → b ≡ false → Onward bytes u named i s → length named ≤ i
+    {bytes : List ℕ} {s₀ u s : Lent} {named : List ℕ} {loading : LoadingSaid} {i : ℕ} {b : Bool} → Loaded bytes s₀ loading u
+    → b ≡ not (isLoaded loading) → b ≡ false → Onward bytes u named i s → length named ≤ i
     → Promised bytes s₀ named loading (s .steps) s
 keeps-promise l told h o le =
     let yes = not-false _ (sym told ∙ h) in
@@ -76,8 +76,8 @@ keeps-promise l told h o le =
 
 -- it is refused
 pub refused-promise :
-    {bytes : List ℕ} {s₀ u : Lent} {loading : Said} {b : Bool} (named : List ℕ) → Loaded bytes s₀ loading u → b ≡ not (accepted loading)
+    {bytes : List ℕ} {s₀ u : Lent} {loading : LoadingSaid} {b : Bool} (named : List ℕ) → Loaded bytes s₀ loading u → b ≡ not (isLoaded loading)
     → b ≡ true → Promised bytes s₀ named loading 0 u
 refused-promise {bytes} {s₀} named l told h =
     let no = not-true _ (sym told ∙ h) in
-    not-loaded (l .says) no refl (l .leaves ∙ load-keeps bytes s₀ (sym (ap accepted (l .says)) ∙ no))
+    not-loaded (l .says) no refl (l .leaves ∙ load-keeps bytes s₀ (sym (ap isLoaded (l .says)) ∙ no))

@@ -1,47 +1,30 @@
--- The types of what the cores return, for the law of thin entries (crate graph, proofs/Thin): a `Done`, of which an entry answers the `Answer`, and for a run a `RunDone`, of which it answers the `RunAnswer`. The tally is graph's.
-use Rattle.graph.proofs.Thin.Results.{Results}
-use Rattle.engine.proofs.Answer as R
-use Rattle.engine.proofs.Answer.Laws as R′
-use Rattle.engine.proofs.Done as D
-use Rattle.engine.proofs.Done.Laws as D′
-use Rattle.engine.proofs.RunAnswer as S
-use Rattle.engine.proofs.RunAnswer.Laws as S′
-use Rattle.engine.proofs.RunDone as E
-use Rattle.engine.proofs.RunDone.Laws as E′
-use denote.Struct.Laws as LL
-use denote.Enum.Laws as EL
+-- The types of what the cores return, for the law of thin entries (crate graph, proofs/Thin). The tally is graph's.
+use mathlib.Core.Path.{refl}
+use Rattle.graph.proofs.Thin.Results.{Results, resultsOf}
+use Rattle.engine.proofs.Loading as L
+use Rattle.engine.proofs.Loading.Laws as L′
+use Rattle.engine.proofs.LoadDone as LD
+use Rattle.engine.proofs.Answer as A
+use Rattle.engine.proofs.Answer.Laws as A′
+use Rattle.engine.proofs.Done as AD
+use Rattle.engine.proofs.RunAnswer as R
+use Rattle.engine.proofs.RunAnswer.Laws as R′
+use Rattle.engine.proofs.RunDone as RD
 
+-- loading returns a `LoadDone`, of which its entry answers the `Loading`
+abbrev pub load-results : Results
+load-results =
+    resultsOf L.the-field L′.the-field-laws L′.the-field-plain L′.mir refl (LD.struct .name) (λ r. r .answer) (λ r. r .tally)
+    (LD.the-type .to-one)
+
+-- a step a `Done`, with an `Answer`
 abbrev pub results : Results
-results = record {
-  Answer = R.the-row;
-  answerTy = R′.mir;
-  answerVal = EL.val R.the-type R′.the-laws;
-  answer-typed = λ 𝓤 H A W x is. EL.lawful R.the-type R′.the-laws 𝓤 H A W tt .typed x _ is;
-  answer-makes = λ 𝓤 H A. EL.makes R.the-type R′.the-plain 𝓤 H A;
-  Done = D.the-row;
-  doneName = D.struct .name;
-  answer = λ r. r .answer;
-  tally = λ r. r .tally;
-  done-typed = λ 𝓤 H A W r w is. LL.lawful D.the-type D′.the-laws 𝓤 H A W .typed r _ is;
-  done-tells = λ r vs is. LL.tells D.the-type D′.the-laws r vs is;
-  answer-is = λ r vs is. LL.owed D.the-type D′.the-laws r vs is .0;
-  tally-is = λ r vs is. LL.owed D.the-type D′.the-laws r vs is .1 .0;
-}
+results =
+    resultsOf A.the-field A′.the-field-laws A′.the-field-plain A′.mir refl (AD.struct .name) (λ r. r .answer) (λ r. r .tally)
+    (AD.the-type .to-one)
 
--- and of a run, whose answer is a struct
+-- a run a `RunDone`, with a `RunAnswer`
 abbrev pub run-results : Results
-run-results = record {
-  Answer = S.the-row;
-  answerTy = S′.mir;
-  answerVal = LL.val S.the-type S′.the-laws;
-  answer-typed = λ 𝓤 H A W x is. LL.lawful S.the-type S′.the-laws 𝓤 H A W .typed x _ is;
-  answer-makes = λ 𝓤 H A. LL.makes S.the-type S′.the-plain 𝓤 H A;
-  Done = E.the-row;
-  doneName = E.struct .name;
-  answer = λ r. r .answer;
-  tally = λ r. r .tally;
-  done-typed = λ 𝓤 H A W r w is. LL.lawful E.the-type E′.the-laws 𝓤 H A W .typed r _ is;
-  done-tells = λ r vs is. LL.tells E.the-type E′.the-laws r vs is;
-  answer-is = λ r vs is. LL.owed E.the-type E′.the-laws r vs is .0;
-  tally-is = λ r vs is. LL.owed E.the-type E′.the-laws r vs is .1 .0;
-}
+run-results =
+    resultsOf R.the-field R′.the-field-laws R′.the-field-plain R′.mir refl (RD.struct .name) (λ r. r .answer) (λ r. r .tally)
+    (RD.the-type .to-one)

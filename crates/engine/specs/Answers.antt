@@ -1,10 +1,12 @@
 -- "Where an answer is an enum, a definition gives this paper's number and values for each of its cases": the plain machine's answers have
 -- them.
 use mathlib.Core.Option.{Option, none, some}
-use Rattle.machine.specs.Answers.{Said}
+use Rattle.machine.specs.Answers.{Said, LoadingSaid, loaded, loading-refused}
 use Rattle.machine.specs.Running.{done, stuck, spent, refused, Choice, choose, no-choice, choice-refused}
 use Rattle.machine.specs.Running as machine-run
 use Rattle.machine.specs.Stepping as machine
+use Rattle.engine.specs.declared.Loading.{Loading}
+use Rattle.engine.specs.declared.Loading.the-variants as of-loading
 use Rattle.engine.specs.declared.Answer.{Answer}
 use Rattle.engine.specs.declared.Answer.the-variants as of-answer
 use Rattle.engine.specs.declared.Ending.{Ending}
@@ -17,8 +19,13 @@ use Rattle.engine.specs.declared.Own.{Own}
 use Rattle.engine.specs.declared.Due.{Due}
 use Rattle.engine.specs.declared.Due.the-variants as of-due
 
+-- what loading says
+abbrev pub loadingSaid : Loading → LoadingSaid
+loadingSaid of-loading.Loaded = loaded
+loadingSaid (of-loading.Refused r) = loading-refused (r .number) (r .place)
+
+-- what a step says
 abbrev pub said : Answer → Said
-said of-answer.Loaded = Said.loaded
 said of-answer.Start = Said.start
 said (of-answer.New v) = Said.new v
 said (of-answer.Edge a b) = Said.edge a b

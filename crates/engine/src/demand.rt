@@ -1,12 +1,11 @@
 // Demand 3 as the promise of a function: a loading, and then a list of steps.
-use crate::Done;
 use crate::ListDone;
 use crate::load::load_by_value;
-use crate::runs::is_refusal;
+use crate::load::loading_refused;
 use crate::steps::step_by_value;
 use graph::Tally;
 ghost use Rattle.graph.specs.Tables.{lent};
-ghost use Rattle.engine.specs.Answers.{said};
+ghost use Rattle.engine.specs.Answers.{loadingSaid};
 ghost use Rattle.engine.specs.Promise.{Promised};
 
 // Loads a program and steps the vertices that are named, in their order, whether the steps are accepted or refused.
@@ -17,12 +16,12 @@ pub fn load_and_step(
     tally: Tally,
     named: &[u32],
 ) -> ListDone
-    ensures { λ r. ⌜ Promised (now (program .entry)) (lent (now (vertices .entry)) (now (edges .entry)) tally) (now (named .entry)) (said (r .loading)) (r .accepted) (lent (now (vertices .exit)) (now (edges .exit)) (r .tally)) ⌝ }
+    ensures { λ r. ⌜ Promised (now (program .entry)) (lent (now (vertices .entry)) (now (edges .entry)) tally) (now (named .entry)) (loadingSaid (r .loading)) (r .accepted) (lent (now (vertices .exit)) (now (edges .exit)) (r .tally)) ⌝ }
 {
     let loaded = load_by_value(program, vertices, edges, tally);
     let loading = loaded.answer;
     let mut after = loaded.tally;
-    if is_refusal(loading) {
+    if loading_refused(loading) {
         return ListDone {
             loading,
             accepted: 0,

@@ -1,5 +1,6 @@
 // The entry points: the tally is lent too, as a struct by `&mut`. Each is thin, over the by-value core of the same name.
 use crate::Answer;
+use crate::Loading;
 use crate::RunAnswer;
 use crate::load::load_by_value;
 use crate::runs::run_by_value;
@@ -7,10 +8,10 @@ use crate::steps::step_by_value;
 use graph::Tally;
 ghost use Rattle.graph.specs.Tables.{lent};
 ghost use Rattle.machine.specs.Traces.{Loaded, Stepped, Ran};
-ghost use Rattle.engine.specs.Answers.{said, endingOf, lastOf};
+ghost use Rattle.engine.specs.Answers.{loadingSaid, said, endingOf, lastOf};
 
-pub fn load(program: &[u8], vertices: &mut [u32], edges: &mut [u32], tally: &mut Tally) -> Answer
-    ensures { λ r. ⌜ Loaded (now (program .entry)) (lent (now (vertices .entry)) (now (edges .entry)) (now (tally .entry))) (said r) (lent (now (vertices .exit)) (now (edges .exit)) (now (tally .exit))) ⌝ }
+pub fn load(program: &[u8], vertices: &mut [u32], edges: &mut [u32], tally: &mut Tally) -> Loading
+    ensures { λ r. ⌜ Loaded (now (program .entry)) (lent (now (vertices .entry)) (now (edges .entry)) (now (tally .entry))) (loadingSaid r) (lent (now (vertices .exit)) (now (edges .exit)) (now (tally .exit))) ⌝ }
 {
     let before = *tally;
     let done = load_by_value(program, vertices, edges, before);

@@ -12,9 +12,20 @@ use graph::Command;
 use graph::Refusal;
 use graph::Tally;
 
-// What loading and a step answer.
-pub enum Answer {
+// What loading answers.
+pub enum Loading {
     Loaded,
+    Refused(Refusal),
+}
+
+// The result of loading: its answer, and the tally afterwards.
+pub struct LoadDone {
+    pub answer: Loading,
+    pub tally: Tally,
+}
+
+// What a step answers: one of the seven things that an accepted step says, or the refusal.
+pub enum Answer {
     Start,
     New(u32),
     Edge(u32, u32),
@@ -25,7 +36,7 @@ pub enum Answer {
     Refused(Refusal),
 }
 
-// The result of a call: its answer, and the tally afterwards.
+// The result of a step: its answer, and the tally afterwards.
 pub struct Done {
     pub answer: Answer,
     pub tally: Tally,
@@ -91,7 +102,7 @@ pub struct RunDone {
 // The result of loading a program and stepping a list of vertices: what loading answered, how many of the steps were accepted, and the
 // tally afterwards.
 pub struct ListDone {
-    pub loading: Answer,
+    pub loading: Loading,
     pub accepted: u32,
     pub tally: Tally,
 }

@@ -1,6 +1,6 @@
 // Loading a program.
-use crate::Answer;
-use crate::Done;
+use crate::LoadDone;
+use crate::Loading;
 use graph::Refusal;
 use graph::Tally;
 use graph::commands::open_by_value;
@@ -14,21 +14,27 @@ use graph::rows::vertex_rows;
 use program::ProgramRead;
 use program::reading::read;
 ghost use mathlib.Core.Path.{_≡_};
+ghost use mathlib.Core.Bool.{not};
 ghost use Prim.Native.Nat.{_-_, _≤_};
 ghost use Rattle.graph.specs.Tables.{lent, vertexRows};
 ghost use Rattle.program.specs.Limits.{programBytes};
 ghost use Rattle.machine.specs.Loading.{placed};
-ghost use Rattle.machine.specs.Answers.{Said};
+ghost use Rattle.machine.specs.Answers.{loading-refused, isLoaded};
 ghost use Rattle.machine.specs.Traces.{Loaded};
-ghost use Rattle.engine.specs.Answers.{said};
+ghost use Rattle.engine.specs.Answers.{loadingSaid};
 
 pub const TOO_FEW_VERTEX_ROWS: u32 = 10;
 
 pub const TOO_FEW_EDGE_ROWS: u32 = 11;
 
 // Loads a program, with the tally by value: clears the usable rows and the tally, then sets vertices 0 and 1 and the edge between them.
-pub fn load_by_value(program: &[u8], vertices: &mut [u32], edges: &mut [u32], tally: Tally) -> Done
-    ensures { λ r. ⌜ Loaded (now (program .entry)) (lent (now (vertices .entry)) (now (edges .entry)) tally) (said (r .answer)) (lent (now (vertices .exit)) (now (edges .exit)) (r .tally)) ⌝ }
+pub fn load_by_value(
+    program: &[u8],
+    vertices: &mut [u32],
+    edges: &mut [u32],
+    tally: Tally,
+) -> LoadDone
+    ensures { λ r. ⌜ Loaded (now (program .entry)) (lent (now (vertices .entry)) (now (edges .entry)) tally) (loadingSaid (r .answer)) (lent (now (vertices .exit)) (now (edges .exit)) (r .tally)) ⌝ }
 {
     let reading = read(program);
     match reading {
@@ -44,8 +50,8 @@ pub fn load_by_value(program: &[u8], vertices: &mut [u32], edges: &mut [u32], ta
             place_first(vertices, program.len());
             edges[0] = 0;
             edges[1] = 1;
-            Done {
-                answer: Answer::Loaded,
+            LoadDone {
+                answer: Loading::Loaded,
                 tally: Tally {
                     made: 2,
                     held: 1,
@@ -56,12 +62,21 @@ pub fn load_by_value(program: &[u8], vertices: &mut [u32], edges: &mut [u32], ta
     }
 }
 
-fn refused(number: u32, place: u32, tally: Tally) -> Done
-    ensures { λ r. ⌜ (said (r .answer) ≡ Said.refused number place) × (r .tally ≡ tally) ⌝ }
+fn refused(number: u32, place: u32, tally: Tally) -> LoadDone
+    ensures { λ r. ⌜ (loadingSaid (r .answer) ≡ loading-refused number place) × (r .tally ≡ tally) ⌝ }
 {
-    Done {
-        answer: Answer::Refused(Refusal { number, place }),
+    LoadDone {
+        answer: Loading::Refused(Refusal { number, place }),
         tally,
+    }
+}
+
+pub(crate) fn loading_refused(answer: Loading) -> bool
+    ensures { λ r. ⌜ r ≡ not (isLoaded (loadingSaid answer)) ⌝ }
+{
+    match answer {
+        Loading::Refused(refusal) => true,
+        Loading::Loaded => false,
     }
 }
 

@@ -135,7 +135,7 @@ fn take_lowest(
         let next = marked_due(program, marks, vertices, tally.made, first);
         let done = do_due(vertices, edges, tally, first, next);
         let answer = done.answer;
-        if !is_refusal(answer) {
+        if !step_refused(answer) {
             return Attempt::Taken(done);
         }
     }
@@ -181,19 +181,18 @@ fn take_lowest_from(
         let next = marked_due(program, marks, vertices, tally.made, v);
         let done = do_due(vertices, edges, tally, v, next);
         let answer = done.answer;
-        if !is_refusal(answer) {
+        if !step_refused(answer) {
             return Attempt::Taken(done);
         }
     }
     Attempt::NoStep
 }
 
-pub(crate) fn is_refusal(answer: Answer) -> bool
+pub(crate) fn step_refused(answer: Answer) -> bool
     ensures { λ r. ⌜ r ≡ not (accepted (said answer)) ⌝ }
 {
     match answer {
         Answer::Refused(refusal) => true,
-        Answer::Loaded => false,
         Answer::Start => false,
         Answer::New(v) => false,
         Answer::Edge(a, b) => false,

@@ -69,7 +69,7 @@ pub(crate) fn do_due(
             let done = command_on_sound(vertices, edges, tally, command);
             let answer = done.answer;
             let after = done.tally;
-            if is_refused(answer) {
+            if command_refused(answer) {
                 return Done {
                     answer: as_step(answer),
                     tally: after,
@@ -109,12 +109,11 @@ fn store(vertices: &mut [u32], vertex: usize, own: Own)
     vertices[at + THIRD] = own.third;
 }
 
-fn is_refused(answer: graph::Answer) -> bool
+fn command_refused(answer: graph::Answer) -> bool
     ensures { λ r. ⌜ r ≡ not (of-graph.accepted (of-graph.said answer)) ⌝ }
 {
     match answer {
         graph::Answer::Refused(refusal) => true,
-        graph::Answer::Opened => false,
         graph::Answer::Start => false,
         graph::Answer::New(v) => false,
         graph::Answer::Edge(a, b) => false,
@@ -129,7 +128,6 @@ fn as_step(answer: graph::Answer) -> Answer
     ensures { λ r. ⌜ said r ≡ saidAs (of-graph.said answer) ⌝ }
 {
     match answer {
-        graph::Answer::Opened => Answer::Loaded,
         graph::Answer::Start => Answer::Start,
         graph::Answer::New(v) => Answer::New(v),
         graph::Answer::Edge(a, b) => Answer::Edge(a, b),

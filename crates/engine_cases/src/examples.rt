@@ -55,7 +55,7 @@ fn to_the_end(program: &[u8]) {
     let answer = loaded.answer;
     let tally = loaded.tally;
     text(b": ");
-    show::answer(answer);
+    show::loading(answer);
     show::left(tally, &vertices, &edges);
     ran(program, &mut vertices, &mut edges, tally, 8192);
 }

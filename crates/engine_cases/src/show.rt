@@ -5,13 +5,20 @@ use cases::text;
 use engine::Answer;
 use engine::Ending;
 use engine::LastStep;
+use engine::Loading;
 use engine::RunAnswer;
 use graph::Refusal;
 use graph::Tally;
 
+pub(crate) fn loading(a: Loading) {
+    match a {
+        Loading::Loaded => text(b"loaded"),
+        Loading::Refused(r) => refusal(r),
+    }
+}
+
 pub(crate) fn answer(a: Answer) {
     match a {
-        Answer::Loaded => text(b"loaded"),
         Answer::Start => text(b"start"),
         Answer::New(v) => number(b"new ", v),
         Answer::Edge(a, b) => {

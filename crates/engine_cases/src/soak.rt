@@ -228,7 +228,6 @@ fn written(answer: Answer) -> u32
     ensures { λ r. ⌜ r ≤ 1 ⌝ }
 {
     match answer {
-        Answer::Loaded => 0,
         Answer::Start => 0,
         Answer::New(v) => 0,
         Answer::Edge(a, b) => 0,

@@ -22,7 +22,7 @@ pub(crate) fn run(program: &[u8], vertices: &mut [u32], edges: &mut [u32]) {
     let done = load_by_value(program, vertices, edges, before);
     let answer = done.answer;
     let tally = done.tally;
-    show::answer(answer);
+    show::loading(answer);
     show::left(tally, vertices, edges);
     lowest(lowest_vertex(program, vertices, edges, tally));
     loaded(program, vertices, edges, tally);
@@ -93,7 +93,6 @@ fn named(turn: u32, made: u32) -> u32 {
 // The number and place of a refusal as one number.
 fn refusal(answer: Answer) -> u64 {
     match answer {
-        Answer::Loaded => 0,
         Answer::Start => 0,
         Answer::New(v) => 0,
         Answer::Edge(a, b) => 0,

@@ -22,7 +22,7 @@ abbrev μ-loop : tie.MeasureT-loop
 -- the loading is refused
 returns : tie.Need-returns Inv-loop μ-loop
 returns c =
-    refused-promise _ (c .before .before .before .before .before .before .before .load-by-value .ensures) (c .before .is-refusal .ensures)
+    refused-promise _ (c .before .before .before .before .before .before .before .load-by-value .ensures) (c .before .loading-refused .ensures)
     (c .if1 .taken)
 
 loop-holds : tie.Need-loop-holds Inv-loop μ-loop
@@ -50,7 +50,7 @@ loop-again c = (
 returns-2 : tie.Need-returns-2 Inv-loop μ-loop
 returns-2 c =
     keeps-promise (c .before .before .before .before .before .before .before .before .before .load-by-value .ensures)
-    (c .before .before .before .is-refusal .ensures) (c .before .before .if1 .left) (c .before .loop .inv .1) (c .loop-test .left)
+    (c .before .before .before .loading-refused .ensures) (c .before .before .if1 .left) (c .before .loop .inv .1) (c .loop-test .left)
 
 pub load-and-step-spec : {M : Type 1} → statement M
 load-and-step-spec = tie.close (tie.spec Inv-loop

@@ -3,8 +3,8 @@
 -- Assumes nothing.
 use Rattle.graph.proofs.Thin.Passing.{program-meets}
 use Rattle.machine.specs.Traces.{Loaded}
-use Rattle.engine.specs.Answers.{said}
-use Rattle.engine.proofs.Results.{results}
+use Rattle.engine.specs.Answers.{loadingSaid}
+use Rattle.engine.proofs.Results.{load-results}
 use Rattle.engine.proofs.load.load_by_value.Symbol as core-def
 use Rattle.engine.proofs.load.load_by_value.Symbol.{name as #core}
 use Rattle.engine.proofs.load.load_by_value.Met as core-thm
@@ -15,5 +15,6 @@ use Rattle.engine.proofs.entry.load.Code as code
 pub load-spec : {M : Type 1} → stated.statement M
 unfolding code.routine
 load-spec 𝓤 H 𝓜 𝓖 𝓡 =
-    program-meets results (λ program s answer. Loaded program s (said answer)) 𝓤 H 𝓜 𝓖 𝓡 code.env #load #core core-def.routine (code.unfolded 𝓤 H 𝓜 𝓡)
+    program-meets load-results (λ program s answer. Loaded program s (loadingSaid answer)) 𝓤 H 𝓜 𝓖 𝓡 code.env #load #core core-def.routine
+    (code.unfolded 𝓤 H 𝓜 𝓡)
     code.calls-engine·load·load-by-value (core-thm.met 𝓤 H 𝓜 𝓖 𝓡)

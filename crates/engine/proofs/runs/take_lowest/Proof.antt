@@ -85,7 +85,7 @@ returns-3 c =
     taken-up _ _ _ _ _ _ _ _ _ _ _
     refl refl (live (c .before .before .before .before .before .before .before .before .before .before .before .before .before))
     (c .before .before .before .before .before .before .do-due .ensures _
-    (next (c .before .before .before .before .before .before .before .before .before))) (c .before .is-refusal .ensures) (c .if4 .taken)
+    (next (c .before .before .before .before .before .before .before .before .before))) (c .before .step-refused .ensures) (c .if4 .taken)
     (below (c .before .before .before .before .before .before .before .before .before .before .before .before .before .before .before))
 
 take-lowest-from-requires : tie.Need-take-lowest-from-requires

@@ -114,7 +114,7 @@ returns c =
     (c .before .before .before .before .before .before .before .before .before .before .before .before .before .before .before .loop .inv .2)
     (c .before .before .before .before .before .before .before .before .before .before .before .before .before .before .loop-test .taken)
     (c .before .before .before .before .before .before .do-due .ensures _ next)
-    (c .before .is-refusal .ensures) (c .if2 .taken)
+    (c .before .step-refused .ensures) (c .if2 .taken)
     (c .before .before .before .before .before .before .before .before .before .before .before .before .before .before .before .loop .inv .3)
 
 loop-again-2 : tie.Need-loop-again-2 Inv-loop μ-loop
@@ -138,7 +138,7 @@ loop-again-2 c =
     (c .before .before .before .before .before .before .before .before .before .before .before .before .before .before .before .loop .inv .1)
     (c .before .before .before .before .before .before .before .before .before .before .before .before .before .before .before .loop .inv .2)
     (c .before .before .before .before .before .before .do-due .ensures _ next)
-    (c .before .is-refusal .ensures) (c .if2 .left)
+    (c .before .step-refused .ensures) (c .if2 .left)
     (c .before .before .before .before .before .before .before .before .before .before .before .before .before .before .before .loop .inv .3)
     in
     (omega arith, kept .0, kept .1, kept .2)

@@ -19,18 +19,18 @@ command-on-sound-requires c κs = command-ready _ _ _ _ _ _ _ (c .before .before
 returns : tie.Need-returns
 returns c =
     turned-path _ _ _ _ _ _ _ (c .before .before .before .before .before .before .before .before .before .before .before .before .next3 .given .1) _ _ (c .before .before .before .before .before .before .before .before .command-on-sound .result)
-    (c .before .before .before .before .before .before .before .before .command-on-sound .ensures) _ (c .before .before .is-refused .ensures) _ (c .before .if1 .taken) (c .as-step .ensures)
+    (c .before .before .before .before .before .before .before .before .command-on-sound .ensures) _ (c .before .before .command-refused .ensures) _ (c .before .if1 .taken) (c .as-step .ensures)
 
 -- a command that is taken
 store-requires-2 : tie.Need-store-requires-2
 store-requires-2 c κs =
     taken-ready _ _ _ _ _ _ _ (c .before .before .before .before .before .before .before .before .before .before .before .before .next3 .given .1) _ _ (c .before .before .before .before .before .before .before .before .command-on-sound .result)
-    (c .before .before .before .before .before .before .before .before .command-on-sound .ensures) _ (c .before .before .is-refused .ensures) (c .before .before .before .before .before .before .before .before .before .before .before .before .before .before .before .before .pre) (c .before .if1 .left) .0
+    (c .before .before .before .before .before .before .before .before .command-on-sound .ensures) _ (c .before .before .command-refused .ensures) (c .before .before .before .before .before .before .before .before .before .before .before .before .before .before .before .before .pre) (c .before .if1 .left) .0
 
 counted-requires-2 : tie.Need-counted-requires-2
 counted-requires-2 c κs =
     taken-ready _ _ _ _ _ _ _ (c .before .before .before .before .before .before .before .before .before .before .before .before .before .before .before .before .next3 .given .1) _ _ (c .before .before .before .before .before .before .before .before .before .before .before .before .command-on-sound .result)
-    (c .before .before .before .before .before .before .before .before .before .before .before .before .command-on-sound .ensures) _ (c .before .before .before .before .before .before .is-refused .ensures) (c .before .before .before .before .before .before .before .before .before .before .before .before .before .before .before .before .before .before .before .before .pre) (c .before .before .before .before .before .if1 .left) .1
+    (c .before .before .before .before .before .before .before .before .before .before .before .before .command-on-sound .ensures) _ (c .before .before .before .before .before .before .command-refused .ensures) (c .before .before .before .before .before .before .before .before .before .before .before .before .before .before .before .before .before .before .before .before .pre) (c .before .before .before .before .before .if1 .left) .1
 
 -- a refusal
 returns-2 : tie.Need-returns-2
@@ -44,7 +44,7 @@ returns-3 c = job-path _ _ _ _ _ _ _ _ (c .before .before .before .before .befor
 returns-4 : tie.Need-returns-4
 returns-4 c =
     taken-path _ _ _ _ _ _ _ (c .before .before .before .before .before .before .before .before .before .before .before .before .before .before .before .before .before .next3 .given .1) _ _ (c .before .before .before .before .before .before .before .before .before .before .before .before .before .command-on-sound .result)
-    (c .before .before .before .before .before .before .before .before .before .before .before .before .before .command-on-sound .ensures) _ (c .before .before .before .before .before .before .before .is-refused .ensures) _ _ _ (c .before .before .before .before .before .before .if1 .left)
+    (c .before .before .before .before .before .before .before .before .before .before .before .before .before .command-on-sound .ensures) _ (c .before .before .before .before .before .before .before .command-refused .ensures) _ _ _ (c .before .before .before .before .before .before .if1 .left)
     (c .before .as-step2 .ensures) (c .before .before .before .before .store2 .ensures) (c .counted2 .ensures)
 
 pub do-due-spec : {M : Type 1} → statement M
