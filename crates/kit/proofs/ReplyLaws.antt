@@ -3,7 +3,7 @@
 --     told                                 the case that was found has these numbers, and so has the value that was matched
 --     asked-here, asked-later              the numbers of the commands, one after the other
 --     unknown-command, known-command       what the numbers of a command come to
---     commanded-as, replied-as, ran-as     a core's reply, from what the call did and from the numbers of its answer
+--     replied-as, commanded-as, ran-as     a core's reply, from what the call did and from the numbers of its answer
 use Prim.Native.Nat.{ℕ}
 use mathlib.Core.Path.{_≡_, refl, sym, _∙_, ap}
 use mathlib.Core.Bool.{Bool, true, false, cond}
@@ -11,22 +11,21 @@ use mathlib.Core.List.{List}
 use mathlib.Core.Option.{Option}
 use borrow.Author.Tests.{eq-eqb, ne-eqb}
 use Rattle.graph.specs.declared.Command.{Command}
-use Rattle.graph.specs.declared.Done as graph-done
+use Rattle.graph.specs.declared.Done.{Done}
 use Rattle.graph.specs.declared.Tally.{Tally}
 use Rattle.graph.specs.Tables.{Lent, lent}
 use Rattle.graph.specs.Answers as of-graph
 use Rattle.graph.specs.Commands.{command}
-use Rattle.machine.specs.Answers.{Outcome, saidAs}
+use Rattle.machine.specs.Answers.{saidAs}
 use Rattle.machine.specs.Running.{run}
 use Rattle.machine.specs.Traces.{Ran}
-use Rattle.engine.specs.declared.Done.{Done}
 use Rattle.engine.specs.declared.RunDone.{RunDone}
-use Rattle.engine.specs.Answers.{said, endingOf, lastOf}
+use Rattle.engine.specs.Answers.{endingOf, lastOf}
 use Rattle.kit.specs.declared.Reply.{Reply}
 use Rattle.kit.specs.declared.ReplyDone.{ReplyDone}
 use Rattle.kit.specs.declared.Asked.{Asked}
 use Rattle.kit.specs.declared.Asked.the-variants as of-asked
-use Rattle.kit.specs.Numbers.{Numbers, numbers, replyNumbers, saidNumbers, endingNumbers, lastNumbers, askedOf, ifKnown, Commanded, Replied, RunReplied}
+use Rattle.kit.specs.Numbers.{Numbers, numbers, replyNumbers, saidNumbers, endingNumbers, lastNumbers, askedOf, ifKnown, Commanded, RunReplied}
 
 -- ANSWERS
 pub told : {A : Type 0} (f : A → Numbers) {a b : A} {n : Numbers} → a ≡ b → n ≡ f b → n ≡ f a
@@ -55,20 +54,19 @@ unfolding ifKnown
 known-command s p h = ap (λ (o : Option Command). ifKnown o s) (sym (ap askedOf p) ∙ h)
 
 -- CALLS
+pub replied-as :
+    {A : Type 0} (f : A → Numbers) {a b : A} (r : ReplyDone) (v e : List ℕ) (t : Tally) {s : Lent} → a ≡ b → lent v e t ≡ s
+    → (replyNumbers (r .answer) ≡ f a) × (r .tally ≡ t) → (replyNumbers (r .answer) ≡ f b) × (lent v e (r .tally) ≡ s)
+replied-as f r v e t p q h = (h .0 ∙ ap f p, ap (λ (t : Tally). lent v e t) (h .1) ∙ q)
+
+-- of a command
 pub commanded-as :
-    (d : graph-done.Done) (r : ReplyDone) (v e : List ℕ) {o : of-graph.Outcome} → of-graph.outcome d v e ≡ o
+    (d : Done) (r : ReplyDone) (v e : List ℕ) {o : of-graph.Outcome} → of-graph.outcome d v e ≡ o
     → (replyNumbers (r .answer) ≡ saidNumbers (saidAs (of-graph.said (d .answer)))) × (r .tally ≡ d .tally)
     → Commanded o (r .answer) (lent v e (r .tally))
-commanded-as d r v e p h = (
-  h .0 ∙ ap (λ (o : of-graph.Outcome). saidNumbers (saidAs (o .answer))) p,
-  ap (λ (t : Tally). lent v e t) (h .1) ∙ ap (λ (o : of-graph.Outcome). o .after) p,
-)
-
-pub replied-as :
-    (d : Done) (r : ReplyDone) (v e : List ℕ) {o : Outcome} → said (d .answer) ≡ o .answer → lent v e (d .tally) ≡ o .after
-    → (replyNumbers (r .answer) ≡ saidNumbers (said (d .answer))) × (r .tally ≡ d .tally)
-    → Replied o (r .answer) (lent v e (r .tally))
-replied-as d r v e p q h = (h .0 ∙ ap saidNumbers p, ap (λ (t : Tally). lent v e t) (h .1) ∙ q)
+commanded-as d r v e p h =
+    replied-as (λ (a : of-graph.Said). saidNumbers (saidAs a)) r v e (d .tally) (ap (λ (o : of-graph.Outcome). o .answer) p)
+    (ap (λ (o : of-graph.Outcome). o .after) p) h
 
 pub ran-as :
     (d : RunDone) (ending last : Reply) (v e : List ℕ) (bytes : List ℕ) (s : Lent) (budget : ℕ)

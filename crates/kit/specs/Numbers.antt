@@ -11,7 +11,7 @@ use Rattle.graph.specs.declared.Command.the-variants.{NewTd, NewEdge, Release, 
 use Rattle.graph.specs.Tables.{Lent}
 use Rattle.graph.specs.Answers as of-graph
 use Rattle.graph.specs.Commands.{command}
-use Rattle.machine.specs.Answers.{Said, Outcome, saidAs}
+use Rattle.machine.specs.Answers.{Said, Outcome, saidAs, LoadingSaid, loaded, loading-refused, LoadingOutcome}
 use Rattle.machine.specs.Running.{Ending, done, stuck, spent, refused, RunOutcome, Choice, choose, no-choice, choice-refused, choice}
 use Rattle.kit.specs.declared.Reply.{Reply}
 use Rattle.kit.specs.declared.RunReply.{RunReply}
@@ -26,10 +26,19 @@ pub data Numbers : Type 0 where
 abbrev pub replyNumbers : Reply → Numbers
 replyNumbers r = numbers (r .said) (r .first) (r .second)
 
--- what loading, the opening, a step or a command said
+-- what the opening said
+unfoldable pub openingNumbers : of-graph.OpeningSaid → Numbers
+openingNumbers (of-graph.opening-refused n p) = numbers 0 n p
+openingNumbers of-graph.opened = numbers 1 0 0
+
+-- what loading said
+unfoldable pub loadingNumbers : LoadingSaid → Numbers
+loadingNumbers (loading-refused n p) = numbers 0 n p
+loadingNumbers loaded = numbers 1 0 0
+
+-- what a step or a command said
 unfoldable pub saidNumbers : Said → Numbers
 saidNumbers (Said.refused n p) = numbers 0 n p
-saidNumbers Said.loaded = numbers 1 0 0
 saidNumbers Said.start = numbers 2 0 0
 saidNumbers (Said.new v) = numbers 3 v 0
 saidNumbers (Said.edge a b) = numbers 4 a b
@@ -81,8 +90,14 @@ byNumbers k t a b s = ifKnown (commandOf k t a b) s
 
 -- CALLS
 -- the reply tells what the definition answers, and what is lent afterwards is what it leaves
+abbrev pub OpenReplied : of-graph.OpeningOutcome → Reply → Lent → Type 0
+OpenReplied o r after = (replyNumbers r ≡ openingNumbers (o .answer)) × (after ≡ o .after)
+
 abbrev pub Commanded : of-graph.Outcome → Reply → Lent → Type 0
 Commanded o r after = (replyNumbers r ≡ saidNumbers (saidAs (o .answer))) × (after ≡ o .after)
+
+abbrev pub LoadReplied : LoadingOutcome → Reply → Lent → Type 0
+LoadReplied o r after = (replyNumbers r ≡ loadingNumbers (o .answer)) × (after ≡ o .after)
 
 abbrev pub Replied : Outcome → Reply → Lent → Type 0
 Replied o r after = (replyNumbers r ≡ saidNumbers (o .answer)) × (after ≡ o .after)

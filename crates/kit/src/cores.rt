@@ -9,13 +9,17 @@ use crate::replies::of_answer;
 use crate::replies::of_command;
 use crate::replies::of_ending;
 use crate::replies::of_last;
+use crate::replies::of_loading;
 use crate::replies::of_lowest;
+use crate::replies::of_opening;
 use engine::Done;
+use engine::LoadDone;
 use engine::load::load_by_value;
 use engine::look::lowest_vertex;
 use engine::runs::run_by_value;
 use engine::steps::step_by_value;
 use graph::Command;
+use graph::OpenDone;
 use graph::Tally;
 use graph::commands::command_by_value;
 use graph::commands::open_by_value;
@@ -27,8 +31,9 @@ ghost use Rattle.machine.specs.Answers.{saidAs};
 ghost use Rattle.machine.specs.Loading.{load};
 ghost use Rattle.machine.specs.Stepping.{step};
 ghost use Rattle.machine.specs.Running.{run};
-ghost use Rattle.engine.specs.Answers.{said};
-ghost use Rattle.kit.specs.Numbers.{Commanded, Replied, RunReplied, LowestReplied, byNumbers, replyNumbers, saidNumbers, commandOf, askedOf};
+ghost use Rattle.machine.specs.Answers.{saidAs};
+ghost use Rattle.engine.specs.Answers.{loadingSaid, said};
+ghost use Rattle.kit.specs.Numbers.{OpenReplied, Commanded, LoadReplied, Replied, RunReplied, LowestReplied, byNumbers, replyNumbers, openingNumbers, loadingNumbers, saidNumbers, commandOf, askedOf};
 
 // The numbers of the commands.
 pub const NEW_TD: u32 = 1;
@@ -47,10 +52,21 @@ pub const STOP: u32 = 6;
 pub const NO_SUCH_COMMAND: u32 = 99;
 
 pub(crate) fn open_to_numbers(vertices: &mut [u32], edges: &mut [u32], tally: Tally) -> ReplyDone
-    ensures { λ r. ⌜ Commanded (opening (lent (now (vertices .entry)) (now (edges .entry)) tally)) (r .answer) (lent (now (vertices .exit)) (now (edges .exit)) (r .tally)) ⌝ }
+    ensures { λ r. ⌜ OpenReplied (opening (lent (now (vertices .entry)) (now (edges .entry)) tally)) (r .answer) (lent (now (vertices .exit)) (now (edges .exit)) (r .tally)) ⌝ }
 {
     let done = open_by_value(vertices, edges, tally);
-    commanded(done)
+    opened(done)
+}
+
+fn opened(done: OpenDone) -> ReplyDone
+    ensures { λ r. ⌜ (replyNumbers (r .answer) ≡ openingNumbers (of-graph.openingSaid (done .answer))) × (r .tally ≡ done .tally) ⌝ }
+{
+    let answer = done.answer;
+    let after = done.tally;
+    ReplyDone {
+        answer: of_opening(answer),
+        tally: after,
+    }
 }
 
 fn commanded(done: graph::Done) -> ReplyDone
@@ -137,10 +153,21 @@ pub(crate) fn load_to_numbers(
     edges: &mut [u32],
     tally: Tally,
 ) -> ReplyDone
-    ensures { λ r. ⌜ Replied (load (now (program .entry)) (lent (now (vertices .entry)) (now (edges .entry)) tally)) (r .answer) (lent (now (vertices .exit)) (now (edges .exit)) (r .tally)) ⌝ }
+    ensures { λ r. ⌜ LoadReplied (load (now (program .entry)) (lent (now (vertices .entry)) (now (edges .entry)) tally)) (r .answer) (lent (now (vertices .exit)) (now (edges .exit)) (r .tally)) ⌝ }
 {
     let done = load_by_value(program, vertices, edges, tally);
-    replied(done)
+    loaded(done)
+}
+
+fn loaded(done: LoadDone) -> ReplyDone
+    ensures { λ r. ⌜ (replyNumbers (r .answer) ≡ loadingNumbers (loadingSaid (done .answer))) × (r .tally ≡ done .tally) ⌝ }
+{
+    let answer = done.answer;
+    let after = done.tally;
+    ReplyDone {
+        answer: of_loading(answer),
+        tally: after,
+    }
 }
 
 pub(crate) fn step_to_numbers(

@@ -16,7 +16,7 @@ ghost use Rattle.graph.specs.Commands.{opening};
 ghost use Rattle.machine.specs.Loading.{load};
 ghost use Rattle.machine.specs.Stepping.{step};
 ghost use Rattle.machine.specs.Running.{run};
-ghost use Rattle.kit.specs.Numbers.{Commanded, Replied, RunReplied, LowestReplied, byNumbers};
+ghost use Rattle.kit.specs.Numbers.{OpenReplied, Commanded, LoadReplied, Replied, RunReplied, LowestReplied, byNumbers};
 
 // What was said, and its values: vertices, a job's number and offset, or a refusal's number and place. `replies` has the numbers.
 #[repr(C)]
@@ -58,7 +58,7 @@ pub extern "C" fn keshtiwol_open(
     edges: &mut [u32],
     tally: &mut Tally,
 ) -> Reply
-    ensures { λ r. ⌜ Commanded (opening (lent (now (vertices .entry)) (now (edges .entry)) (now (tally .entry)))) r (lent (now (vertices .exit)) (now (edges .exit)) (now (tally .exit))) ⌝ }
+    ensures { λ r. ⌜ OpenReplied (opening (lent (now (vertices .entry)) (now (edges .entry)) (now (tally .entry)))) r (lent (now (vertices .exit)) (now (edges .exit)) (now (tally .exit))) ⌝ }
 {
     let before = *tally;
     let done = open_to_numbers(vertices, edges, before);
@@ -93,7 +93,7 @@ pub extern "C" fn keshtiwol_load(
     edges: &mut [u32],
     tally: &mut Tally,
 ) -> Reply
-    ensures { λ r. ⌜ Replied (load (now (program .entry)) (lent (now (vertices .entry)) (now (edges .entry)) (now (tally .entry)))) r (lent (now (vertices .exit)) (now (edges .exit)) (now (tally .exit))) ⌝ }
+    ensures { λ r. ⌜ LoadReplied (load (now (program .entry)) (lent (now (vertices .entry)) (now (edges .entry)) (now (tally .entry)))) r (lent (now (vertices .exit)) (now (edges .exit)) (now (tally .exit))) ⌝ }
 {
     let before = *tally;
     let done = load_to_numbers(program, vertices, edges, before);

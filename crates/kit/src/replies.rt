@@ -3,12 +3,14 @@ use crate::Reply;
 use engine::Answer;
 use engine::Ending;
 use engine::LastStep;
+use engine::Loading;
 use engine::Lowest;
+use graph::Opening;
 ghost use mathlib.Core.Path.{_≡_};
 ghost use Rattle.graph.specs.Answers as of-graph;
 ghost use Rattle.machine.specs.Answers.{saidAs};
-ghost use Rattle.engine.specs.Answers.{said, endingOf, lastOf, choiceOf};
-ghost use Rattle.kit.specs.Numbers.{replyNumbers, saidNumbers, endingNumbers, lastNumbers, choiceNumbers, numbers};
+ghost use Rattle.engine.specs.Answers.{loadingSaid, said, endingOf, lastOf, choiceOf};
+ghost use Rattle.kit.specs.Numbers.{replyNumbers, openingNumbers, loadingNumbers, saidNumbers, endingNumbers, lastNumbers, choiceNumbers, numbers};
 
 pub const REFUSED: u32 = 0;
 
@@ -48,12 +50,31 @@ fn reply(said: u32, first: u32, second: u32) -> Reply
     }
 }
 
-// What loading or a step said.
+// What the opening said.
+pub(crate) fn of_opening(answer: Opening) -> Reply
+    ensures { λ r. ⌜ replyNumbers r ≡ openingNumbers (of-graph.openingSaid answer) ⌝ }
+{
+    match answer {
+        Opening::Opened => reply(READY, 0, 0),
+        Opening::Refused(refusal) => reply(REFUSED, refusal.number, refusal.place),
+    }
+}
+
+// What loading said.
+pub(crate) fn of_loading(answer: Loading) -> Reply
+    ensures { λ r. ⌜ replyNumbers r ≡ loadingNumbers (loadingSaid answer) ⌝ }
+{
+    match answer {
+        Loading::Loaded => reply(READY, 0, 0),
+        Loading::Refused(refusal) => reply(REFUSED, refusal.number, refusal.place),
+    }
+}
+
+// What a step said.
 pub(crate) fn of_answer(answer: Answer) -> Reply
     ensures { λ r. ⌜ replyNumbers r ≡ saidNumbers (said answer) ⌝ }
 {
     match answer {
-        Answer::Loaded => reply(READY, 0, 0),
         Answer::Start => reply(START, 0, 0),
         Answer::New(v) => reply(NEW, v, 0),
         Answer::Edge(a, b) => reply(EDGE, a, b),
@@ -65,12 +86,11 @@ pub(crate) fn of_answer(answer: Answer) -> Reply
     }
 }
 
-// What the opening or a single command said.
+// What a single command said.
 pub(crate) fn of_command(answer: graph::Answer) -> Reply
     ensures { λ r. ⌜ replyNumbers r ≡ saidNumbers (saidAs (of-graph.said answer)) ⌝ }
 {
     match answer {
-        graph::Answer::Opened => reply(READY, 0, 0),
         graph::Answer::Start => reply(START, 0, 0),
         graph::Answer::New(v) => reply(NEW, v, 0),
         graph::Answer::Edge(a, b) => reply(EDGE, a, b),

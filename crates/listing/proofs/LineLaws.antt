@@ -4,8 +4,6 @@ use mathlib.Core.Path.{_≡_, refl, sym, ap, _∙_}
 use mathlib.Core.Bool.{Bool, true, false, cond}
 use mathlib.Core.List.{List, [], _∷_}
 use mathlib.Core.Option.{Option, none, some}
-use denote.Enum.Declared.{tagOf}
-use types.Run.{OneOf, miss}
 use Rattle.graph.specs.declared.Refusal.{Refusal}
 use Rattle.graph.specs.declared.Tally.{Tally}
 use Rattle.graph.specs.Tables.{Lent, lent}
@@ -14,7 +12,7 @@ use Rattle.program.specs.Encodings.{vertexFormula, stepFormula}
 use Rattle.program.specs.Reader.{reading}
 use Rattle.program.specs.Answers.{loads, told}
 use Rattle.program.specs.Answers as of-program
-use Rattle.machine.specs.Answers.{Said, accepted, unsound-tables}
+use Rattle.machine.specs.Answers.{Said, LoadingSaid, loading-refused, isLoaded, accepted, unsound-tables}
 use Rattle.machine.specs.Stepping.{steppable, dueIf, due, step}
 use Rattle.machine.specs.Running.{lowest, chosen, choice, choose, no-choice, choice-refused}
 use Rattle.machine.specs.Demand2.{unread}
@@ -22,12 +20,9 @@ use Rattle.machine.specs.Traces.{Loaded, Stepped}
 use Rattle.machine.proofs.GhostLaws.{clash}
 use Rattle.machine.proofs.LoadLaws.{load-refused, load-keeps}
 use Rattle.machine.proofs.LookLaws.{lowest-none}
-use Rattle.engine.specs.declared.Answer.{Answer}
-use Rattle.engine.specs.declared.Answer.the-variants as of-answer
 use Rattle.engine.specs.declared.Lowest.{Lowest}
 use Rattle.engine.specs.declared.Lowest.the-variants as of-lowest
-use Rattle.engine.specs.Answers.{said, choiceOf}
-use Rattle.engine.proofs.Answer as answer
+use Rattle.engine.specs.Answers.{choiceOf}
 use Rattle.engine.proofs.LoadedLaws.{unread-is, read-is}
 use Rattle.listing.specs.declared.Line.the-variants as of-line
 use Rattle.listing.specs.Text.{headingText, stepText, refusalText}
@@ -43,35 +38,23 @@ unread-line bytes s n {number = number} {place = place} is r =
 
 -- it is, and loading it is refused
 pub refused-line :
-    (bytes : List ℕ) (s : Lent) (n : ℕ) {a : Said} {number place : ℕ} {text v e : List ℕ} (tally : Tally)
-    → Loaded bytes s a (lent v e tally) → a ≡ Said.refused number place → text ≡ refusalText number place
+    (bytes : List ℕ) (s : Lent) (n : ℕ) {a : LoadingSaid} {number place : ℕ} {text v e : List ℕ} (tally : Tally)
+    → Loaded bytes s a (lent v e tally) → a ≡ loading-refused number place → text ≡ refusalText number place
     → FirstLine bytes s (of-line.Last n) text v e
 refused-line bytes s n {number = number} {place = place} tally h is r =
     let says = sym (h .says) ∙ is in
-    let kept = h .leaves ∙ load-keeps bytes s (ap accepted says) in
+    let kept = h .leaves ∙ load-keeps bytes s (ap isLoaded says) in
     ((number, place, says, r), (ap (λ (x : Lent). x .vertices) kept, ap (λ (x : Lent). x .edges) kept))
 
 -- it is loaded
 pub heading-line :
-    (bytes : List ℕ) (s : Lent) (n : ℕ) {a : Said} {text v e : List ℕ} (tally : Tally) (c : Counts)
-    → loads c ≡ told (reading bytes) → Loaded bytes s a (lent v e tally) → accepted a ≡ true
+    (bytes : List ℕ) (s : Lent) (n : ℕ) {a : LoadingSaid} {text v e : List ℕ} (tally : Tally) (c : Counts)
+    → loads c ≡ told (reading bytes) → Loaded bytes s a (lent v e tally) → isLoaded a ≡ true
     → text ≡ headingText (vertexFormula c) (c .w) (stepFormula c) → FirstLine bytes s (of-line.Text n tally) text v e
 heading-line bytes s n tally c is h taken r =
     let found = read-is bytes (reading bytes) refl is in
     let same = ap (λ (x : Counts). headingText (vertexFormula x) (x .w) (stepFormula x)) (found .counted) in
-    (ap accepted (sym (h .says)) ∙ taken, h .leaves, (found .tree, found .is-read, r ∙ same))
-
--- an answer that is no refusal, told by its case
-pub taken-case : (a : Answer) → OneOf (0 ∷ 1 ∷ 2 ∷ 3 ∷ 4 ∷ 5 ∷ 6 ∷ 7 ∷ []) (tagOf answer.the-type a) → accepted (said a) ≡ true
-taken-case of-answer.Loaded h = refl
-taken-case of-answer.Start h = refl
-taken-case (of-answer.New v) h = refl
-taken-case (of-answer.Edge a b) h = refl
-taken-case (of-answer.Release v) h = refl
-taken-case (of-answer.Transfer v) h = refl
-taken-case (of-answer.Job n o) h = refl
-taken-case of-answer.Stop h = refl
-taken-case (of-answer.Refused r) h = absurd (miss (0 ∷ 1 ∷ 2 ∷ 3 ∷ 4 ∷ 5 ∷ 6 ∷ 7 ∷ []) 8 tt h)
+    (ap isLoaded (sym (h .says)) ∙ taken, h .leaves, (found .tree, found .is-read, r ∙ same))
 
 -- THE NEXT LINE
 -- what the look finds

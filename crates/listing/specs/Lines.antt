@@ -9,7 +9,7 @@ use Rattle.graph.specs.Tables.{Lent, lent}
 use Rattle.program.specs.Trees.{Body, counts}
 use Rattle.program.specs.Encodings.{vertexFormula, stepFormula}
 use Rattle.program.specs.Reader.{program, reading}
-use Rattle.machine.specs.Answers.{Said, accepted}
+use Rattle.machine.specs.Answers.{isLoaded, loading-refused}
 use Rattle.machine.specs.Loading.{load}
 use Rattle.machine.specs.Stepping.{step}
 use Rattle.machine.specs.Running.{lowest}
@@ -33,11 +33,11 @@ Kept s vertices edges = (vertices ≡ s .vertices) × (edges ≡ s .edges)
 -- Loading these bytes onto s: the text of the line is the heading where that is accepted, and the refusal where it is refused.
 abbrev pub FirstLine : List ℕ → Lent → Line → List ℕ → List ℕ → List ℕ → Type 0
 FirstLine bytes s (of-line.Text n tally) text vertices edges =
-    (accepted (load bytes s .answer) ≡ true) × (lent vertices edges tally ≡ load bytes s .after)
+    (isLoaded (load bytes s .answer) ≡ true) × (lent vertices edges tally ≡ load bytes s .after)
     × ((t : Body) × (reading bytes ≡ program t)
     × (text ≡ headingText (vertexFormula (counts t)) (counts t .w) (stepFormula (counts t))))
 FirstLine bytes s (of-line.Last n) text vertices edges =
-    ((number : ℕ) × (place : ℕ) × (load bytes s .answer ≡ Said.refused number place) × (text ≡ refusalText number place))
+    ((number : ℕ) × (place : ℕ) × (load bytes s .answer ≡ loading-refused number place) × (text ≡ refusalText number place))
     × Kept s vertices edges
 
 -- A step of the lowest vertex that can step; the listing ends, without a line, where none can.

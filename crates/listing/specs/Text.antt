@@ -26,9 +26,8 @@ unfoldable pub numeral : ℕ → List ℕ
 numeral n = numeralBy (suc n) n
 
 -- "An accepted step says one of seven things: start, new v, edge a b, release v, transfer v, job (number, offset), stop." Of a job only the
--- number is listed. The first and the last are no accepted step's.
+-- number is listed. The last is no accepted step's.
 unfoldable pub answerText : Said → List ℕ
-answerText Said.loaded = codes "loaded"
 answerText Said.start = codes "start"
 answerText (Said.new v) = codes "new " ++ numeral v
 answerText (Said.edge a b) = codes "edge " ++ numeral a ++ codes " " ++ numeral b

@@ -6,7 +6,7 @@ mod text;
 use crate::text::heading;
 use crate::text::refusal_line;
 use crate::text::step_line;
-use engine::Answer;
+use engine::Loading;
 use engine::Lowest;
 use engine::load::load_by_value;
 use engine::look::lowest_vertex;
@@ -60,7 +60,7 @@ pub fn first_line(
             let loaded = load_by_value(program, vertices, edges, nothing);
             let answer = loaded.answer;
             let tally = loaded.tally;
-            if let Answer::Refused(refusal) = answer {
+            if let Loading::Refused(refusal) = answer {
                 return Line::Last {
                     length: refusal_line(refusal, line),
                 };

@@ -57,7 +57,6 @@ fn put_answer(line: &mut [u8], at: usize, answer: Answer) -> usize
     ensures { λ r. ⌜ Put (now (line .entry)) at (answerText (said answer)) (now (line .exit)) r ⌝ }
 {
     match answer {
-        Answer::Loaded => put_text(line, at, b"loaded"),
         Answer::Start => put_text(line, at, b"start"),
         Answer::New(v) => put_named(line, at, b"new ", v as u64),
         Answer::Edge(a, b) => put_pair(line, at, b"edge ", a, b),

@@ -63,11 +63,6 @@ pub record LoadingOutcome : Type 0 where
 abbrev pub refuseLoading : Lent → ℕ → ℕ → LoadingOutcome
 refuseLoading s n p = record { answer = loading-refused n p; after = s }
 
--- a step is refused with n, at no place, unless a test holds
-unfoldable pub unless : Lent → Bool → ℕ → Outcome → Outcome
-unless s true n next = next
-unless s false n next = refuse s n 0
-
 -- "the tally's third number": one step more
 abbrev pub oneStep : Lent → Lent
 oneStep s =

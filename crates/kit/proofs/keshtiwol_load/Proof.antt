@@ -3,7 +3,7 @@
 -- Assumes nothing.
 use Rattle.graph.proofs.Thin.Passing.{program-meets}
 use Rattle.machine.specs.Loading.{load}
-use Rattle.kit.specs.Numbers.{Replied}
+use Rattle.kit.specs.Numbers.{LoadReplied}
 use Rattle.kit.proofs.Results.{results}
 use Rattle.kit.proofs.cores.load_to_numbers.Symbol as core-def
 use Rattle.kit.proofs.cores.load_to_numbers.Symbol.{name as #core}
@@ -15,5 +15,5 @@ use Rattle.kit.proofs.keshtiwol_load.Code as code
 pub keshtiwol-load-spec : {M : Type 1} → stated.statement M
 unfolding code.routine
 keshtiwol-load-spec 𝓤 H 𝓜 𝓖 𝓡 =
-    program-meets results (λ program s. Replied (load program s)) 𝓤 H 𝓜 𝓖 𝓡 code.env #load #core core-def.routine (code.unfolded 𝓤 H 𝓜 𝓡)
+    program-meets results (λ program s. LoadReplied (load program s)) 𝓤 H 𝓜 𝓖 𝓡 code.env #load #core core-def.routine (code.unfolded 𝓤 H 𝓜 𝓡)
     code.calls-kit·cores·load-to-numbers (core-thm.met 𝓤 H 𝓜 𝓖 𝓡)

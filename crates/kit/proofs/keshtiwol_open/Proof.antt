@@ -3,7 +3,7 @@
 -- Assumes nothing.
 use Rattle.graph.specs.Commands.{opening}
 use Rattle.graph.proofs.Thin.Passing.{tables-meets}
-use Rattle.kit.specs.Numbers.{Commanded}
+use Rattle.kit.specs.Numbers.{OpenReplied}
 use Rattle.kit.proofs.Results.{results}
 use Rattle.kit.proofs.cores.open_to_numbers.Symbol as core-def
 use Rattle.kit.proofs.cores.open_to_numbers.Symbol.{name as #core}
@@ -15,5 +15,5 @@ use Rattle.kit.proofs.keshtiwol_open.Code as code
 pub keshtiwol-open-spec : {M : Type 1} → stated.statement M
 unfolding code.routine
 keshtiwol-open-spec 𝓤 H 𝓜 𝓖 𝓡 =
-    tables-meets results (λ s. Commanded (opening s)) 𝓤 H 𝓜 𝓖 𝓡 code.env #open #core core-def.routine (code.unfolded 𝓤 H 𝓜 𝓡)
+    tables-meets results (λ s. OpenReplied (opening s)) 𝓤 H 𝓜 𝓖 𝓡 code.env #open #core core-def.routine (code.unfolded 𝓤 H 𝓜 𝓡)
     code.calls-kit·cores·open-to-numbers (core-thm.met 𝓤 H 𝓜 𝓖 𝓡)

@@ -1,6 +1,9 @@
 -- The reply has the numbers of what the opening said.
 use borrow.Author.Needs.{needs}
-use Rattle.kit.proofs.ReplyLaws.{commanded-as}
+use mathlib.Core.Path.{ap}
+use Rattle.graph.specs.Answers.{OpeningOutcome}
+use Rattle.kit.specs.Numbers.{openingNumbers}
+use Rattle.kit.proofs.ReplyLaws.{replied-as}
 use Rattle.kit.proofs.cores.open_to_numbers.Statement.{statement}
 use Rattle.kit.proofs.cores.open_to_numbers.Tie as tie
 
@@ -10,5 +13,7 @@ open-to-numbers-spec = tie.close (tie.spec
     (λ c κs. search needs)
     (λ c. search needs)
     (λ c. search needs)
-    (λ c. commanded-as (c .before .before .before .before .before .open-by-value .result) (c .commanded .result) _ _
-    (c .before .before .before .before .before .open-by-value .ensures) (c .commanded .ensures)))
+    (λ c.
+    let call = c .before .before .before .before .before .open-by-value in
+    replied-as openingNumbers (c .opened .result) _ _ (call .result .tally) (ap (λ (o : OpeningOutcome). o .answer) (call .ensures))
+    (ap (λ (o : OpeningOutcome). o .after) (call .ensures)) (c .opened .ensures)))

@@ -1,5 +1,6 @@
 -- The reply has the numbers of what the step said.
 use borrow.Author.Needs.{needs}
+use Rattle.kit.specs.Numbers.{saidNumbers}
 use Rattle.kit.proofs.ReplyLaws.{replied-as}
 use Rattle.kit.proofs.cores.step_to_numbers.Statement.{statement}
 use Rattle.kit.proofs.cores.step_to_numbers.Tie as tie
@@ -10,6 +11,6 @@ step-to-numbers-spec = tie.close (tie.spec
     (λ c κs. search needs)
     (λ c. search needs)
     (λ c. search needs)
-    (λ c. replied-as (c .before .before .before .before .before .step-by-value .result) (c .replied .result) _ _
-    (c .before .before .before .before .before .step-by-value .ensures .says)
-    (c .before .before .before .before .before .step-by-value .ensures .leaves) (c .replied .ensures)))
+    (λ c.
+    let call = c .before .before .before .before .before .step-by-value in
+    replied-as saidNumbers (c .replied .result) _ _ (call .result .tally) (call .ensures .says) (call .ensures .leaves) (c .replied .ensures)))

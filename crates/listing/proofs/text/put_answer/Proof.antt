@@ -39,55 +39,48 @@ returns c =
 returns-2 : tie.Need-returns-2
 unfolding answerText
 returns-2 c =
-    let told = c .before .before .before .before .before .enum-told2 .given in
-    let put = c .before .before .put-text2 .ensures in
-    answered (told .1) (omega (arith, put .ends)) put
-
-returns-3 : tie.Need-returns-3
-unfolding answerText
-returns-3 c =
     let told = c .before .before .before .before .before .before .answer .given in
     let put = c .before .before .put-named .ensures in
     answered (told .1) (omega (arith, put .ends, numeral-short (told .0 .0) (omega arith))) put
 
-returns-4 : tie.Need-returns-4
+returns-3 : tie.Need-returns-3
 unfolding answerText
-returns-4 c =
+returns-3 c =
     let told = c .before .before .before .before .before .before .answer2 .given in
     let put = c .before .before .put-pair .ensures in
     answered (told .1) (omega (arith, put .0)) (put .1)
 
+returns-4 : tie.Need-returns-4
+unfolding answerText
+returns-4 c =
+    let told = c .before .before .before .before .before .before .answer3 .given in
+    let put = c .before .before .put-named2 .ensures in
+    answered (told .1) (omega (arith, put .ends, numeral-short (told .0 .0) (omega arith))) put
+
 returns-5 : tie.Need-returns-5
 unfolding answerText
 returns-5 c =
-    let told = c .before .before .before .before .before .before .answer3 .given in
-    let put = c .before .before .put-named2 .ensures in
+    let told = c .before .before .before .before .before .before .answer4 .given in
+    let put = c .before .before .put-named3 .ensures in
     answered (told .1) (omega (arith, put .ends, numeral-short (told .0 .0) (omega arith))) put
 
 returns-6 : tie.Need-returns-6
 unfolding answerText
 returns-6 c =
-    let told = c .before .before .before .before .before .before .answer4 .given in
-    let put = c .before .before .put-named3 .ensures in
+    let told = c .before .before .before .before .before .before .answer5 .given in
+    let put = c .before .before .put-named4 .ensures in
     answered (told .1) (omega (arith, put .ends, numeral-short (told .0 .0) (omega arith))) put
 
 returns-7 : tie.Need-returns-7
 unfolding answerText
 returns-7 c =
-    let told = c .before .before .before .before .before .before .answer5 .given in
-    let put = c .before .before .put-named4 .ensures in
-    answered (told .1) (omega (arith, put .ends, numeral-short (told .0 .0) (omega arith))) put
+    let told = c .before .before .before .before .before .enum-told2 .given in
+    let put = c .before .before .put-text2 .ensures in
+    answered (told .1) (omega (arith, put .ends)) put
 
 returns-8 : tie.Need-returns-8
 unfolding answerText
 returns-8 c =
-    let told = c .before .before .before .before .before .enum-told3 .given in
-    let put = c .before .before .put-text3 .ensures in
-    answered (told .1) (omega (arith, put .ends)) put
-
-returns-9 : tie.Need-returns-9
-unfolding answerText
-returns-9 c =
     let told = c .before .before .before .before .before .before .answer6 .given in
     let put = c .before .before .put-pair2 .ensures in
     answered (told .1) (omega (arith, put .0)) (put .1)
@@ -96,9 +89,6 @@ pub put-answer-spec : {M : Type 1} → statement M
 put-answer-spec =
     tie.close
     (tie.spec
-    (λ c. search needs)
-    (λ c. search needs)
-    (λ c κs. search needs)
     (λ c. search needs)
     (λ c. search needs)
     (λ c κs. search needs)
@@ -142,6 +132,4 @@ put-answer-spec =
     (λ c. search needs)
     returns-7
     (λ c. search needs)
-    returns-8
-    (λ c. search needs)
-    returns-9)
+    returns-8)
