@@ -31,7 +31,6 @@ ghost use Rattle.machine.specs.Answers.{saidAs};
 ghost use Rattle.machine.specs.Loading.{load};
 ghost use Rattle.machine.specs.Stepping.{step};
 ghost use Rattle.machine.specs.Running.{run};
-ghost use Rattle.machine.specs.Answers.{saidAs};
 ghost use Rattle.engine.specs.Answers.{loadingSaid, said};
 ghost use Rattle.kit.specs.Numbers.{OpenReplied, Commanded, LoadReplied, Replied, RunReplied, LowestReplied, byNumbers, replyNumbers, openingNumbers, loadingNumbers, saidNumbers, commandOf, askedOf};
 

@@ -11,7 +11,6 @@ use Rattle.program.specs.Bytes.{encode, groupBytes, encodeNumber, size, numberS
 use Rattle.program.specs.Encodings.{vertices, edgeRows, firstEdition, weight, makes, links, itemsWeight}
 use Rattle.program.specs.Reader as r
 use Rattle.program.specs.Located as l
-use Rattle.machine.specs.Answers.{unless}
 use Rattle.machine.specs.Loading.{load, loadRead, loadedTables}
 use Rattle.machine.specs.Stepping.{steppable, named, spots, task, nth, ownOf, withMade, withKept, withPhase, movedOn, dueIf}
 use Rattle.machine.specs.Stepping.{filledIn, nextOf, nextAt, due, stored, step}
@@ -21,7 +20,7 @@ use Rattle.machine.specs.Examples.{anything, saidBy, leftBy, saidBare, r
 -- Every example of the table holds.
 pub examples : Each table
 unfolding anything runs steps commands saidBy leftBy saidBare run runOn look lowest lowestBelow orThis allFinished step stored due nextAt
-    nextOf filledIn dueIf movedOn withPhase withKept withMade ownOf nth task spots named steppable unless load loadRead loadedTables
+    nextOf filledIn dueIf movedOn withPhase withKept withMade ownOf nth task spots named steppable load loadRead loadedTables
     r.reading r.whole r.body r.bodyOf r.item r.itemOf r.deeper r.kindOf r.number r.groups r.andThen r.unless r.jobOf r.counted vertices
     edgeRows itemsWeight firstEdition weight makes links total ahead l.itemAt l.standsIn l.found l.head l.codeAt l.here l.orElse l.locate
     l.place size encode encodeNumber groupBytes numberSize g.openedTables g.opening g.command g.newTd g.newEdge g.release

@@ -61,7 +61,7 @@
 --     FollowLaws      tables go on following, one law for each effect
 --     CommandLaws     the commands that are due are taken
 --     DoneLaws        what the tables follow after a command
---     AnswerLaws      chains of tests before an outcome, and before what is due
+--     AnswerLaws      chains of tests before what is due
 --     StepLaws        what is due at a step, by its vertex's row
 --     ItemLaws        the table of commands, from where an item has come to
 --     MoveLaws        what each move does to the tables
