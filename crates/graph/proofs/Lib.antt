@@ -16,7 +16,7 @@
 -- The theorems:
 --     Demand2      demand 2 of a single command
 --     Reasons      each refusal of a command: given exactly where its reason holds and none before it does
---     Opening      the opening: where it is refused, and what it leaves alone
+--     OpeningLaws    the opening: where it is refused, and what it leaves alone
 -- What the proofs of the code use besides:
 --     ClearLaws    clearing words one by one
 --     SoundChecks  what each look at the tables tells of refusal 12
@@ -42,7 +42,7 @@ pub mod CycleLaws
 pub mod AcceptLaws
 pub mod Demand2
 pub mod Reasons
-pub mod Opening
+pub mod OpeningLaws
 pub mod ClearLaws
 pub mod SoundChecks
 pub mod EdgeLoops
