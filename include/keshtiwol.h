@@ -112,9 +112,9 @@ enum {
     /* the host, choosing */
     KESHTIWOL_NO_SUCH_VERTEX = 20,
     KESHTIWOL_EDGE_LEADS_IN = 21,   /* released, but something must finish first */
-    KESHTIWOL_IS_NEW = 22,
-    KESHTIWOL_IS_FINISHED = 23,
-    KESHTIWOL_IS_EXECUTING = 39,    /* start of an executing vertex */
+    KESHTIWOL_VERTEX_IS_NEW = 22,
+    KESHTIWOL_VERTEX_IS_FINISHED = 23,
+    KESHTIWOL_VERTEX_IS_EXECUTING = 39,    /* start of an executing vertex */
     /* the caller of single commands */
     KESHTIWOL_CALLER_NOT_EXECUTING = 30,
     KESHTIWOL_NO_VERTEX_ROW = 31,

@@ -14,7 +14,7 @@ use Rattle.graph.specs.declared.Command.the-variants.{NewTd, NewEdge, Release, 
 use Rattle.program.specs.Trees.{jobs, asyncs, finishes, forks}
 use Rattle.program.specs.Encodings.{Name, own-scope, made-1, made-2, made-3, Spot, Command, perform, newTd, newEdge, transfer, release, Row, firstEdition, weight, makes}
 use Rattle.program.specs.Answers.{Stands}
-use Rattle.machine.specs.Answers.{unreadable}
+use Rattle.refusal.specs.Refusals.{nothing-starts}
 use Rattle.machine.specs.Stepping.{scope, named, Task, item, ends, nothing, spots, task, nth, Own, own, ownOf, withMade, withKept}
 use Rattle.machine.specs.Stepping.{withPhase, movedOn, Due, refusal-due, job-due, command-due, dueIf, filledIn, nextOf, nextAt}
 use Rattle.engine.specs.Private.{NextAt, EndNext, JobNext, AsyncNext, ForkNext, ForkLast}
@@ -41,14 +41,14 @@ filledFrom v σ w n spot w' (transfer a) = command-due (Transfer v (namedFrom σ
 filledFrom v σ w n spot w' (release a) = command-due (Release v (namedFrom σ w a)) w'
 
 unfoldable nextFrom : ℕ → ℕ → Own → ℕ → Row → ℕ → (Spot → ℕ) → Option Command → Due
-nextFrom v σ w m row n spot none = refusal-due unreadable
+nextFrom v σ w m row n spot none = refusal-due nothing-starts
 nextFrom v σ w m row n spot (some c) = filledFrom v σ w n spot (movedOn row spot c (phaseIn w) m w) c
 
 -- what is due, by the vertex's scope and own words and the number made
 unfoldable from : ℕ → ℕ → Own → ℕ → Task → Due
 from v σ w m (item row n spot) = nextFrom v σ w m row n spot (nth (row .commands) (phaseIn w))
-from v σ w m ends = dueIf (eqb (phaseIn w) 0) unreadable (command-due (Stop v) w)
-from v σ w m nothing = refusal-due unreadable
+from v σ w m ends = dueIf (eqb (phaseIn w) 0) nothing-starts (command-due (Stop v) w)
+from v σ w m nothing = refusal-due nothing-starts
 
 named-is : (s : Lent) (v : ℕ) (x : Name) → named s v x ≡ namedFrom (scope s v) (ownOf s v) x
 unfolding named namedFrom ownOf
@@ -118,14 +118,14 @@ pub end-stop : (v : ℕ) {p φ a b c : ℕ} → φ ≡ 0 → EndNext v (own p φ
 unfolding from task dueIf
 end-stop v {p} {φ} {a} {b} {c} q L σ m = told L v σ (own p φ a b c) m Stands.end (rw q refl)
 
-pub end-beyond : (v : ℕ) {p φ a b c : ℕ} → (φ ≡ 0 → ⊥) → EndNext v (own p φ a b c) (refusal-due unreadable)
+pub end-beyond : (v : ℕ) {p φ a b c : ℕ} → (φ ≡ 0 → ⊥) → EndNext v (own p φ a b c) (refusal-due nothing-starts)
 unfolding from task dueIf
 end-beyond v {p} {φ} {a} {b} {c} q L σ m = told L v σ (own p φ a b c) m Stands.end (rw (ne-eqb φ 0 q) refl)
 
 -- so a phase there is refused
 beyond :
     (v σ m n : ℕ) (row : Row) (spot : Spot → ℕ) (p φ a b c : ℕ) → length (row .commands) ≤ φ
-    → refusal-due unreadable ≡ from v σ (own p φ a b c) m (item row n spot)
+    → refusal-due nothing-starts ≡ from v σ (own p φ a b c) m (item row n spot)
 unfolding from nextFrom
 beyond v σ m n row spot p φ a b c h = rw (nth-beyond (row .commands) φ h) refl
 
@@ -140,7 +140,7 @@ unfolding from nextFrom filledFrom namedFrom task nth firstEdition spots movedOn
 job-perform v n past {p} {φ} {a} {b} {c} q e L σ m =
     told L v σ (own p φ a b c) m (Stands.job n past) (ap (job-due n p) e ∙ rw q refl)
 
-pub job-beyond : (v n past : ℕ) {p φ a b c : ℕ} → (φ ≡ 0 → ⊥) → JobNext v (own p φ a b c) n past (refusal-due unreadable)
+pub job-beyond : (v n past : ℕ) {p φ a b c : ℕ} → (φ ≡ 0 → ⊥) → JobNext v (own p φ a b c) n past (refusal-due nothing-starts)
 unfolding task firstEdition
 job-beyond v n past {p} {φ} {a} {b} {c} h L σ m =
     told L v σ (own p φ a b c) m (Stands.job n past)
@@ -167,7 +167,7 @@ async-2 v σ m body past {p} {φ} {a} {b} {c} q e f L = told L v σ (own p φ a 
 
 pub async-beyond :
     (v σ m body past : ℕ) {p φ a b c : ℕ} → (φ ≡ 0 → ⊥) → (φ ≡ 1 → ⊥) → (φ ≡ 2 → ⊥)
-    → AsyncNext v σ (own p φ a b c) m body past (refusal-due unreadable)
+    → AsyncNext v σ (own p φ a b c) m body past (refusal-due nothing-starts)
 unfolding task firstEdition
 async-beyond v σ m body past {p} {φ} {a} {b} {c} h0 h1 h2 L =
     told L v σ (own p φ a b c) m (Stands.async body past) (beyond v σ m 0 (firstEdition asyncs) (spots body body past L) p φ a b c (omega arith))
@@ -211,7 +211,7 @@ finish-5 L v σ m body past {p} {φ} {a} {b} {c} q e f = told L v σ (own p φ a
 
 pub finish-beyond :
     (L v σ m body past : ℕ) {p φ a b c : ℕ} → (φ ≡ 0 → ⊥) → (φ ≡ 1 → ⊥) → (φ ≡ 2 → ⊥) → (φ ≡ 3 → ⊥) → (φ ≡ 4 → ⊥) → (φ ≡ 5 → ⊥)
-    → NextAt L v σ (own p φ a b c) m (Stands.finish body past) (refusal-due unreadable)
+    → NextAt L v σ (own p φ a b c) m (Stands.finish body past) (refusal-due nothing-starts)
 unfolding task firstEdition
 finish-beyond L v σ m body past {p} {φ} {a} {b} {c} h0 h1 h2 h3 h4 h5 =
     told L v σ (own p φ a b c) m (Stands.finish body past) (beyond v σ m 0 (firstEdition finishes) (spots body body past L) p φ a b c (omega arith))
@@ -273,7 +273,7 @@ fork-8 L v {p} {φ} {a} {b} {c} q e f σ m left right past = told L v σ (own p 
 
 pub fork-beyond :
     (L v : ℕ) {p φ a b c : ℕ} → 6 ≤ φ → (φ ≡ 6 → ⊥) → (φ ≡ 7 → ⊥) → (φ ≡ 8 → ⊥)
-    → ForkLast L v (own p φ a b c) (refusal-due unreadable)
+    → ForkLast L v (own p φ a b c) (refusal-due nothing-starts)
 unfolding task firstEdition
 fork-beyond L v {p} {φ} {a} {b} {c} h0 h1 h2 h3 σ m left right past =
     told L v σ (own p φ a b c) m (Stands.fork left right past) (beyond v σ m 0 (firstEdition forks) (spots left right past L) p φ a b c (omega arith))

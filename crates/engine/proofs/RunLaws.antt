@@ -24,12 +24,13 @@ use lib.ListN.{length, getD}
 use borrow.Author.Tests.{lt-ltb, le-ltb, not-true, not-false}
 use Rattle.graph.specs.Tests.{every}
 use Rattle.graph.specs.declared.Tally.{Tally}
-use Rattle.graph.specs.declared.Refusal.{Refusal}
+use Rattle.refusal.specs.declared.Refusal.{Refusal}
 use Rattle.graph.specs.Tables.{Lent, lent, RELEASED, EXECUTING, FINISHED, vertexWords, status}
 use Rattle.graph.specs.Sound.{sound}
 use Rattle.graph.proofs.TestLaws.{below-suc, both-true, both-false-left, both-false-right, at-end}
 use Rattle.graph.proofs.SoundChecks.{sound-rows}
-use Rattle.machine.specs.Answers.{Said, accepted, unsound-tables}
+use Rattle.refusal.specs.Refusals.{unsound-tables}
+use Rattle.machine.specs.Answers.{Said, accepted}
 use Rattle.machine.specs.Stepping.{stepLimit, steppable, Due, due, step}
 use Rattle.machine.specs.Running.{canStep, lowest, chosen, choose, no-choice, choice-refused, Ending, spent, refused, allFinished, RunOutcome, ended, runOn, run}
 use Rattle.machine.specs.Traces.{Stepped, Ran}

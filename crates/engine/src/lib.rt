@@ -9,8 +9,8 @@ pub mod runs;
 pub mod steps;
 
 use graph::Command;
-use graph::Refusal;
 use graph::Tally;
+use refusal::Refusal;
 
 // What loading answers.
 pub enum Loading {

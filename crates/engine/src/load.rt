@@ -1,7 +1,6 @@
 // Loading a program.
 use crate::LoadDone;
 use crate::Loading;
-use graph::Refusal;
 use graph::Tally;
 use graph::commands::open_by_value;
 use graph::rows::PLACE;
@@ -13,6 +12,9 @@ use graph::rows::edge_rows;
 use graph::rows::vertex_rows;
 use program::ProgramRead;
 use program::reading::read;
+use refusal::Refusal;
+use refusal::TOO_FEW_EDGE_ROWS;
+use refusal::TOO_FEW_VERTEX_ROWS;
 ghost use mathlib.Core.Path.{_≡_};
 ghost use mathlib.Core.Bool.{not};
 ghost use Prim.Native.Nat.{_-_, _≤_};
@@ -22,10 +24,6 @@ ghost use Rattle.machine.specs.Loading.{placed};
 ghost use Rattle.machine.specs.Answers.{loading-refused, isLoaded};
 ghost use Rattle.machine.specs.Traces.{Loaded};
 ghost use Rattle.engine.specs.Answers.{loadingSaid};
-
-pub const TOO_FEW_VERTEX_ROWS: u32 = 10;
-
-pub const TOO_FEW_EDGE_ROWS: u32 = 11;
 
 // Loads a program, with the tally by value: clears the usable rows and the tally, then sets vertices 0 and 1 and the edge between them.
 pub fn load_by_value(

@@ -3,10 +3,6 @@ use crate::Due;
 use crate::Own;
 use graph::Command;
 use graph::Tally;
-use graph::refusals::NO_SUCH_VERTEX;
-use graph::refusals::UNSOUND_TABLES;
-use graph::refusals::VERTEX_FINISHED;
-use graph::refusals::VERTEX_NEW;
 use graph::rows::FINISHED;
 use graph::rows::MADE;
 use graph::rows::NEW;
@@ -19,8 +15,12 @@ use graph::rows::VERTEX_WORDS;
 use graph::sound::is_sound;
 use program::ItemRead;
 use program::Reader;
-use program::format::NOTHING_STARTS;
 use program::starts::starts_at;
+use refusal::NO_SUCH_VERTEX;
+use refusal::NOTHING_STARTS;
+use refusal::UNSOUND_TABLES;
+use refusal::VERTEX_IS_FINISHED;
+use refusal::VERTEX_IS_NEW;
 ghost use mathlib.Core.Path.{_≡_};
 ghost use mathlib.Core.Bool.{true};
 ghost use Prim.Native.Nat.{_+_, _*_, _<_, _≤_};
@@ -61,10 +61,10 @@ pub fn next_due(program: &[u8], vertices: &[u32], edges: &[u32], tally: Tally, v
     }
     let at = VERTEX_WORDS * (vertex as usize);
     if vertices[at + STATUS] == NEW {
-        return Due::Refused(VERTEX_NEW);
+        return Due::Refused(VERTEX_IS_NEW);
     }
     if vertices[at + STATUS] == FINISHED {
-        return Due::Refused(VERTEX_FINISHED);
+        return Due::Refused(VERTEX_IS_FINISHED);
     }
     let own = own_words(vertices, vertex as usize);
     if vertices[at + STATUS] == RELEASED {

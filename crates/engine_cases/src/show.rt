@@ -7,8 +7,8 @@ use engine::Ending;
 use engine::LastStep;
 use engine::Loading;
 use engine::RunAnswer;
-use graph::Refusal;
 use graph::Tally;
+use refusal::Refusal;
 
 pub(crate) fn loading(a: Loading) {
     match a {

@@ -14,7 +14,8 @@ use Rattle.graph.specs.declared.Done.{Done}
 use Rattle.graph.specs.declared.Tally.{Tally}
 use Rattle.graph.specs.Tables.{Lent, lent, usableLimit, vertexWords, statusWord, edgeWords, vertexRows, edgeRows, RELEASED, FINISHED}
 use Rattle.graph.specs.Tables.{status, setStatus, clear}
-use Rattle.graph.specs.Answers.{Said, said, Outcome, outcome, opened, opening-refused, unless, decided, no-vertex-rows, unsound-tables}
+use Rattle.refusal.specs.Refusals.{too-few-vertex-rows, unsound-tables}
+use Rattle.graph.specs.Answers.{Said, said, Outcome, outcome, opened, opening-refused, unless, decided}
 use Rattle.graph.specs.Sound.{sound}
 use Rattle.graph.specs.Search.{Searchable}
 use Rattle.graph.specs.Commands.{openedTables, opening, callerRefusal, newTdRefusal, newEdgeRefusal, releaseRefusal}
@@ -188,7 +189,7 @@ stop-room s t h =
 -- the opening
 pub opening-stops :
     (s : Lent) {rows : ℕ} → rows ≡ vertexRows (s .vertices) → rows ≡ 0
-    → record { answer = opening-refused no-vertex-rows 0; after = s } ≡ opening s
+    → record { answer = opening-refused too-few-vertex-rows 0; after = s } ≡ opening s
 unfolding opening
 opening-stops s p q = rw (le-ltb 0 (vertexRows (s .vertices)) (omega arith)) refl
 

@@ -12,7 +12,8 @@ use native.Mathlib.Omega.{arith}
 use lib.ListN.{length-set}
 use lib.Seq.{getD-set-other}
 use Rattle.graph.specs.Tables.{Lent, RELEASED, vertexWords, edgeWords, statusWord, vertexRows, edgeRows, setStatus, clear}
-use Rattle.graph.specs.Answers.{OpeningOutcome, opened, opening-refused, no-vertex-rows}
+use Rattle.refusal.specs.Refusals.{too-few-vertex-rows}
+use Rattle.graph.specs.Answers.{OpeningOutcome, opened, opening-refused}
 use Rattle.graph.specs.Commands.{openedTables, opening}
 use Rattle.graph.specs.Demand2.{SameBut, UsableOnly}
 use Rattle.graph.proofs.TestLaws.{equal?}
@@ -21,7 +22,7 @@ use Rattle.graph.proofs.CallLaws.{opening-stops, opening-opens}
 
 pub data Opens (s : Lent) : OpeningOutcome → Type 0 where
   opens : 0 < vertexRows (s .vertices) → Opens s (record { answer = opened; after = openedTables s })
-  stops : vertexRows (s .vertices) ≡ 0 → Opens s (record { answer = opening-refused no-vertex-rows 0; after = s })
+  stops : vertexRows (s .vertices) ≡ 0 → Opens s (record { answer = opening-refused too-few-vertex-rows 0; after = s })
 
 pub opening-comes : (s : Lent) → Opens s (opening s)
 opening-comes s =
@@ -33,16 +34,16 @@ opening-comes s =
 -- "Opening: 10", "bare machine: none"; its place is 0.
 pub opening-is-refused :
     (s : Lent) (n p : ℕ)
-    → (opening s .answer ≡ opening-refused n p) ↔ ((n ≡ no-vertex-rows) × (p ≡ 0) × (vertexRows (s .vertices) ≡ 0))
+    → (opening s .answer ≡ opening-refused n p) ↔ ((n ≡ too-few-vertex-rows) × (p ≡ 0) × (vertexRows (s .vertices) ≡ 0))
 opening-is-refused s n p = (there (opening-comes s), back)
   where
     there :
         {o : OpeningOutcome} → Opens s o → o .answer ≡ opening-refused n p
-        → (n ≡ no-vertex-rows) × (p ≡ 0) × (vertexRows (s .vertices) ≡ 0)
+        → (n ≡ too-few-vertex-rows) × (p ≡ 0) × (vertexRows (s .vertices) ≡ 0)
     there (opens lt) h = let z : _≡_ {A = ℕ} 0 1 = cc in absurd (omega arith)
     there (stops none) h = (cc, cc, none)
 
-    back : (n ≡ no-vertex-rows) × (p ≡ 0) × (vertexRows (s .vertices) ≡ 0) → opening s .answer ≡ opening-refused n p
+    back : (n ≡ too-few-vertex-rows) × (p ≡ 0) × (vertexRows (s .vertices) ≡ 0) → opening s .answer ≡ opening-refused n p
     back (e, f, none) = ap (λ (o : OpeningOutcome). o .answer) (sym (opening-stops s refl none)) ∙ sym (λ i. opening-refused (e i) (f i))
 
 -- "A refusal gives its number and place, and every lent table and the tally hold what they held."

@@ -17,7 +17,8 @@ use Rattle.graph.specs.declared.Command.{Command}
 use Rattle.graph.specs.declared.Command.the-variants.{NewTd, NewEdge, Release, Transfer, Start, Stop}
 use Rattle.graph.specs.Tests.{both, either, any, every}
 use Rattle.graph.specs.Tables.{Lent, NEW, RELEASED, EXECUTING, FINISHED, status}
-use Rattle.graph.specs.Answers.{Said, accepted, unless, closes-cycle, unsound-tables, no-such-vertex, caller-not-executing}
+use Rattle.refusal.specs.Refusals.{closes-cycle, unsound-tables, no-such-vertex, caller-not-executing}
+use Rattle.graph.specs.Answers.{Said, accepted, unless}
 use Rattle.graph.specs.Sound.{tallyFits, statusKnown, statusesKnown, endsMade, edgesMade, sound}
 use Rattle.graph.specs.Paths.{holds, leadsInto, leadsOutOf, reaches}
 use Rattle.graph.specs.Commands.{isMade, targetReaches, callerRefusal, newTdRefusal, newEdgeRefusal, releaseRefusal}

@@ -10,7 +10,8 @@ use borrow.Author.Tests.{lt-ltb, ltb-true, eq-eqb, ne-eqb, eqb-true, eqb-false, 
 use Rattle.graph.specs.declared.Command.{Command}
 use Rattle.graph.specs.declared.Command.the-variants.{NewTd, NewEdge, Release, Transfer, Start, Stop}
 use Rattle.graph.specs.Tables.{Lent, NEW, RELEASED, EXECUTING, FINISHED, vertexRows, edgeRows, status}
-use Rattle.graph.specs.Answers.{Said, accepted, decided, unsound-tables}
+use Rattle.refusal.specs.Refusals.{unsound-tables}
+use Rattle.graph.specs.Answers.{Said, accepted, decided}
 use Rattle.graph.specs.Sound.{sound}
 use Rattle.graph.specs.Paths.{holds, leadsInto, leadsOutOf, reaches}
 use Rattle.graph.specs.Commands.{hasStatus, withStatus, withVertex, withEdge, withMoved, stopped, callerRefusal, newTdRefusal}

@@ -11,57 +11,6 @@ use Rattle.graph.specs.declared.OpenDone.{OpenDone}
 use Rattle.graph.specs.declared.Tally.{Tally}
 use Rattle.graph.specs.Tables.{Lent, lent}
 
--- "Refusals by who causes them". The lender:
-abbrev pub no-vertex-rows : ℕ
-no-vertex-rows = 10
-
-abbrev pub unsound-tables : ℕ
-unsound-tables = 12
-
--- the host, choosing:
-abbrev pub no-such-vertex : ℕ
-no-such-vertex = 20
-
-abbrev pub edge-leads-in : ℕ
-edge-leads-in = 21
-
-abbrev pub vertex-new : ℕ
-vertex-new = 22
-
-abbrev pub vertex-finished : ℕ
-vertex-finished = 23
-
-abbrev pub vertex-executing : ℕ
-vertex-executing = 39
-
--- the caller of single commands:
-abbrev pub caller-not-executing : ℕ
-caller-not-executing = 30
-
-abbrev pub no-vertex-row : ℕ
-no-vertex-row = 31
-
-abbrev pub no-edge-row : ℕ
-no-edge-row = 32
-
-abbrev pub target-not-waiting : ℕ
-target-not-waiting = 33
-
-abbrev pub edge-held : ℕ
-edge-held = 34
-
-abbrev pub closes-cycle : ℕ
-closes-cycle = 35
-
-abbrev pub release-not-new : ℕ
-release-not-new = 36
-
-abbrev pub transfer-not-new : ℕ
-transfer-not-new = 37
-
-abbrev pub transfer-has-edge-out : ℕ
-transfer-has-edge-out = 38
-
 -- What the paper has a command say. A refusal has its number and its place.
 pub data Said : Type 0 where
   start : Said

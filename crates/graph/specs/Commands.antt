@@ -9,9 +9,9 @@ use Rattle.graph.specs.declared.Command.the-variants.{NewTd, NewEdge, Re
 use Rattle.graph.specs.Tests.{both, either, any}
 use Rattle.graph.specs.Tables.{Lent, NEW, RELEASED, EXECUTING, FINISHED, vertexWords, edgeWords, placeWord, scopeWord, sourceWord}
 use Rattle.graph.specs.Tables.{targetWord, vertexRows, edgeRows, status, setStatus, setVertexWord, setEdgeWord, source, target, clear}
-use Rattle.graph.specs.Answers.{Said, Outcome, OpeningOutcome, opened, opening-refused, unless, decided, no-vertex-rows, unsound-tables}
-use Rattle.graph.specs.Answers.{no-such-vertex, edge-leads-in, vertex-new, vertex-finished, vertex-executing, caller-not-executing, no-vertex-row, no-edge-row}
-use Rattle.graph.specs.Answers.{target-not-waiting, edge-held, closes-cycle, release-not-new, transfer-not-new, transfer-has-edge-out}
+use Rattle.refusal.specs.Refusals.{too-few-vertex-rows, unsound-tables, no-such-vertex, edge-leads-in, vertex-is-new, vertex-is-finished, vertex-is-executing, caller-not-executing}
+use Rattle.refusal.specs.Refusals.{no-vertex-row, no-edge-row, target-not-waiting, edge-held, closes-cycle, release-not-new, transfer-not-new, transfer-has-edge-out}
+use Rattle.graph.specs.Answers.{Said, Outcome, OpeningOutcome, opened, opening-refused, unless, decided}
 use Rattle.graph.specs.Sound.{sound}
 use Rattle.graph.specs.Paths.{holds, leadsInto, leadsOutOf, reaches}
 
@@ -40,7 +40,7 @@ unfoldable pub opening : Lent → OpeningOutcome
 opening s =
     cond (ltb 0 (vertexRows (s .vertices)))
     (record { answer = opened; after = openedTables s })
-    (record { answer = opening-refused no-vertex-rows 0; after = s })
+    (record { answer = opening-refused too-few-vertex-rows 0; after = s })
 
 -- "The caller t must be executing, except in start." "Commands: 12, 20, then .. 30": of a command of t that names a and b
 -- besides; its own refusals follow.
@@ -149,9 +149,9 @@ unfoldable pub startRefusal : Lent → ℕ → ℕ
 startRefusal s t =
     unless (sound s) unsound-tables
     (unless (isMade s t) no-such-vertex
-    (unless (not (hasStatus s t NEW)) vertex-new
-    (unless (not (hasStatus s t EXECUTING)) vertex-executing
-    (unless (not (hasStatus s t FINISHED)) vertex-finished
+    (unless (not (hasStatus s t NEW)) vertex-is-new
+    (unless (not (hasStatus s t EXECUTING)) vertex-is-executing
+    (unless (not (hasStatus s t FINISHED)) vertex-is-finished
     (unless (not (leadsInto (s .edges) (s .held) t)) edge-leads-in 0)))))
 
 unfoldable pub start : Lent → ℕ → Outcome

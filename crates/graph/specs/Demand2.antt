@@ -12,9 +12,8 @@ use Rattle.graph.specs.declared.Command.{Command}
 use Rattle.graph.specs.declared.Command.the-variants.{NewTd, NewEdge, Release, Transfer, Start, Stop}
 use Rattle.graph.specs.Tables.{Lent, NEW, EXECUTING, FINISHED, vertexWords, edgeWords, statusWord, placeWord, scopeWord, sourceWord}
 use Rattle.graph.specs.Tables.{vertexRows, edgeRows, vertexWord, status, source, target}
-use Rattle.graph.specs.Answers.{unsound-tables, no-such-vertex, edge-leads-in, vertex-new, vertex-finished, vertex-executing}
-use Rattle.graph.specs.Answers.{caller-not-executing, no-vertex-row, no-edge-row, target-not-waiting, edge-held, closes-cycle}
-use Rattle.graph.specs.Answers.{release-not-new, transfer-not-new, transfer-has-edge-out}
+use Rattle.refusal.specs.Refusals.{unsound-tables, no-such-vertex, edge-leads-in, vertex-is-new, vertex-is-finished, vertex-is-executing, caller-not-executing, no-vertex-row}
+use Rattle.refusal.specs.Refusals.{no-edge-row, target-not-waiting, edge-held, closes-cycle, release-not-new, transfer-not-new, transfer-has-edge-out}
 use Rattle.graph.specs.Paths.{Leads, holds}
 use Rattle.graph.specs.Rules.{Graph, Unguarded}
 
@@ -189,9 +188,9 @@ ownReasons (Transfer t t') s =
     (refused-where (EdgeOutOf s t') transfer-has-edge-out
     (refused-where (TransferCycle s t t') closes-cycle no-more)))
 ownReasons (Start t) s =
-    refused-where (HasStatus s t NEW) vertex-new
-    (refused-where (HasStatus s t EXECUTING) vertex-executing
-    (refused-where (HasStatus s t FINISHED) vertex-finished
+    refused-where (HasStatus s t NEW) vertex-is-new
+    (refused-where (HasStatus s t EXECUTING) vertex-is-executing
+    (refused-where (HasStatus s t FINISHED) vertex-is-finished
     (refused-where (EdgeInto s t) edge-leads-in no-more)))
 ownReasons (Stop t) s = refused-where (HasStatus s t EXECUTING → ⊥) caller-not-executing no-more
 

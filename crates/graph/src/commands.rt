@@ -5,13 +5,10 @@ use crate::Command;
 use crate::Done;
 use crate::OpenDone;
 use crate::Opening;
-use crate::Refusal;
 use crate::Tally;
 use crate::edges::drop_edges;
 use crate::edges::move_sources;
 use crate::refusals::ACCEPTED;
-use crate::refusals::NO_VERTEX_ROWS;
-use crate::refusals::UNSOUND_TABLES;
 use crate::refusals::new_edge_refusal;
 use crate::refusals::new_td_refusal;
 use crate::refusals::release_refusal;
@@ -31,6 +28,9 @@ use crate::rows::make_row;
 use crate::rows::set_status;
 use crate::rows::vertex_rows;
 use crate::sound::is_sound;
+use refusal::Refusal;
+use refusal::TOO_FEW_VERTEX_ROWS;
+use refusal::UNSOUND_TABLES;
 ghost use mathlib.Core.Path.{_≡_};
 ghost use mathlib.Core.Bool.{true};
 ghost use Rattle.graph.specs.Tables.{lent};
@@ -56,7 +56,7 @@ pub fn open_by_value(vertices: &mut [u32], edges: &mut [u32], tally: Tally) -> O
     if rows == 0 {
         return OpenDone {
             answer: Opening::Refused(Refusal {
-                number: NO_VERTEX_ROWS,
+                number: TOO_FEW_VERTEX_ROWS,
                 place: 0,
             }),
             tally,

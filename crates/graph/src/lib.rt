@@ -11,6 +11,8 @@ pub mod refusals;
 pub mod rows;
 pub mod sound;
 
+use refusal::Refusal;
+
 // The tally: how much of the tables is in use. Single commands leave `steps` alone.
 #[repr(C)]
 pub struct Tally {
@@ -45,12 +47,6 @@ pub enum Command {
     Stop {
         caller: u32,
     },
-}
-
-// A refusal's number, and its place: an offset in the program where the writer of the program caused it, else 0.
-pub struct Refusal {
-    pub number: u32,
-    pub place: u32,
 }
 
 // What the opening answers.

@@ -15,6 +15,20 @@ use crate::rows::TARGET;
 use crate::rows::VERTEX_WORDS;
 use crate::rows::edge_rows;
 use crate::rows::vertex_rows;
+use refusal::CALLER_NOT_EXECUTING;
+use refusal::CLOSES_CYCLE;
+use refusal::EDGE_HELD;
+use refusal::EDGE_LEADS_IN;
+use refusal::NO_EDGE_ROW;
+use refusal::NO_SUCH_VERTEX;
+use refusal::NO_VERTEX_ROW;
+use refusal::RELEASE_NOT_NEW;
+use refusal::TARGET_NOT_WAITING;
+use refusal::TRANSFER_HAS_EDGE_OUT;
+use refusal::TRANSFER_NOT_NEW;
+use refusal::VERTEX_IS_EXECUTING;
+use refusal::VERTEX_IS_FINISHED;
+use refusal::VERTEX_IS_NEW;
 ghost use mathlib.Core.Path.{_≡_};
 ghost use mathlib.Core.Bool.{true};
 ghost use lib.Dec.{eqb};
@@ -27,41 +41,6 @@ ghost use Rattle.graph.specs.Commands.{callerRefusal, newTdRefusal, newE
 
 // No refusal is due.
 pub const ACCEPTED: u32 = 0;
-
-// The lender.
-pub const NO_VERTEX_ROWS: u32 = 10;
-
-pub const UNSOUND_TABLES: u32 = 12;
-
-// The host, choosing.
-pub const NO_SUCH_VERTEX: u32 = 20;
-
-pub const EDGE_LEADS_IN: u32 = 21;
-
-pub const VERTEX_NEW: u32 = 22;
-
-pub const VERTEX_FINISHED: u32 = 23;
-
-pub const VERTEX_EXECUTING: u32 = 39;
-
-// The caller of single commands.
-pub const CALLER_NOT_EXECUTING: u32 = 30;
-
-pub const NO_VERTEX_ROW: u32 = 31;
-
-pub const NO_EDGE_ROW: u32 = 32;
-
-pub const TARGET_NOT_WAITING: u32 = 33;
-
-pub const EDGE_HELD: u32 = 34;
-
-pub const CLOSES_CYCLE: u32 = 35;
-
-pub const RELEASE_NOT_NEW: u32 = 36;
-
-pub const TRANSFER_NOT_NEW: u32 = 37;
-
-pub const TRANSFER_HAS_EDGE_OUT: u32 = 38;
 
 // 20 and 30 of a command of `caller` that names `a` and `b` besides.
 fn caller_refusal(vertices: &[u32], edges: &[u32], tally: Tally, caller: u32, a: u32, b: u32) -> u32
@@ -215,13 +194,13 @@ pub fn start_refusal(vertices: &[u32], edges: &[u32], tally: Tally, vertex: u32)
     }
     let status = vertices[VERTEX_WORDS * (vertex as usize) + STATUS];
     if status == NEW {
-        return VERTEX_NEW;
+        return VERTEX_IS_NEW;
     }
     if status == EXECUTING {
-        return VERTEX_EXECUTING;
+        return VERTEX_IS_EXECUTING;
     }
     if status == FINISHED {
-        return VERTEX_FINISHED;
+        return VERTEX_IS_FINISHED;
     }
     if leads(edges, tally.held as usize, TARGET, vertex) {
         return EDGE_LEADS_IN;

@@ -23,6 +23,7 @@ use graph::OpenDone;
 use graph::Tally;
 use graph::commands::command_by_value;
 use graph::commands::open_by_value;
+use refusal::NO_SUCH_COMMAND;
 ghost use mathlib.Core.Path.{_≡_};
 ghost use Rattle.graph.specs.Tables.{lent};
 ghost use Rattle.graph.specs.Answers as of-graph;
@@ -46,9 +47,6 @@ pub const TRANSFER: u32 = 4;
 pub const START: u32 = 5;
 
 pub const STOP: u32 = 6;
-
-// The refusal of a number that no command has.
-pub const NO_SUCH_COMMAND: u32 = 99;
 
 pub(crate) fn open_to_numbers(vertices: &mut [u32], edges: &mut [u32], tally: Tally) -> ReplyDone
     ensures { λ r. ⌜ OpenReplied (opening (lent (now (vertices .entry)) (now (edges .entry)) tally)) (r .answer) (lent (now (vertices .exit)) (now (edges .exit)) (r .tally)) ⌝ }

@@ -4,7 +4,7 @@ use mathlib.Core.Path.{_≡_, refl, sym, ap, _∙_}
 use mathlib.Core.Bool.{Bool, true, false, cond}
 use mathlib.Core.List.{List, []}
 use mathlib.Core.Option.{Option, none, some}
-use Rattle.graph.specs.declared.Refusal.{Refusal}
+use Rattle.refusal.specs.declared.Refusal.{Refusal}
 use Rattle.graph.specs.declared.Tally.{Tally}
 use Rattle.graph.specs.Tables.{Lent, lent}
 use Rattle.program.specs.Trees.{Counts}
@@ -12,7 +12,8 @@ use Rattle.program.specs.Encodings.{vertexFormula, stepFormula}
 use Rattle.program.specs.Reader.{reading}
 use Rattle.program.specs.Answers.{loads, told}
 use Rattle.program.specs.Answers as of-program
-use Rattle.machine.specs.Answers.{Said, LoadingSaid, loading-refused, isLoaded, unsound-tables}
+use Rattle.refusal.specs.Refusals.{unsound-tables}
+use Rattle.machine.specs.Answers.{Said, LoadingSaid, loading-refused, isLoaded}
 use Rattle.machine.specs.Stepping.{steppable, dueIf, due, step}
 use Rattle.machine.specs.Running.{lowest, chosen, choice, choose, no-choice, choice-refused}
 use Rattle.machine.specs.Demand2.{unread}

@@ -2,11 +2,11 @@
 // to be what specs/Text.antt gives.
 use crate::LINE_BYTES;
 use engine::Answer;
-use graph::Refusal;
 use io::decimal;
 use program::ItemCounts;
 use program::reading::steps;
 use program::reading::vertices;
+use refusal::Refusal;
 ghost use Prim.Native.Nat.{_+_, _≤_};
 ghost use mathlib.Core.Path.{_≡_};
 ghost use mathlib.Core.List.{_++_};

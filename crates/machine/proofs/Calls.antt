@@ -9,7 +9,8 @@ use native.Mathlib.Omega.{arith}
 use lib.ListN.{length}
 use Rattle.graph.specs.Tables.{Lent}
 use Rattle.graph.proofs.TestLaws.{true-false}
-use Rattle.machine.specs.Answers.{Said, accepted, unsound-tables}
+use Rattle.refusal.specs.Refusals.{unsound-tables}
+use Rattle.machine.specs.Answers.{Said, accepted}
 use Rattle.machine.specs.Stepping.{steppable, step}
 use Rattle.machine.specs.Running.{canStep, lowest, allFinished, Ending, refused, RunOutcome, ended, look, runOn, run}
 use Rattle.machine.specs.Demand2.{Looks, Ran, run-refused, run-steps}

@@ -7,7 +7,7 @@ use mathlib.Core.List.{List, [], _∷_}
 use mathlib.Core.Option.{some}
 use lib.ListN.{length, drop, getD}
 use Rattle.graph.specs.Tables.{Lent, NEW, RELEASED, EXECUTING, FINISHED, status}
-use Rattle.graph.specs.Answers.{no-such-vertex, edge-leads-in, vertex-new, vertex-finished}
+use Rattle.refusal.specs.Refusals.{no-such-vertex, edge-leads-in, vertex-is-new, vertex-is-finished}
 use Rattle.graph.specs.Sound.{sound}
 use Rattle.graph.specs.Paths.{holds}
 use Rattle.program.specs.Located.{Code, job-at, codeAt}
@@ -57,8 +57,8 @@ pub record Follows (p : Code) (L : ℕ) (s : Lent) (S : State) : Type 0 where
 pub data Refuses (S : State) (v : ℕ) : ℕ → Type 0 where
   absent : S .count ≤ v → Refuses S v no-such-vertex
   blocked : {c : Code} → S .control v ≡ ready c → (u : ℕ) → S .edge u v ≡ true → Refuses S v edge-leads-in
-  is-new : isNew (S .control v) ≡ true → Refuses S v vertex-new
-  is-over : v < S .count → S .control v ≡ over → Refuses S v vertex-finished
+  is-new : isNew (S .control v) ≡ true → Refuses S v vertex-is-new
+  is-over : v < S .count → S .control v ≡ over → Refuses S v vertex-is-finished
 
 -- what a move is answered with
 pub data Answers (S : State) (v : ℕ) : Event → Said → Type 0 where

@@ -32,7 +32,8 @@ use Rattle.program.proofs.CodeLaws.{cond-yes, cond-no}
 use Rattle.program.proofs.Exactness.{reading-sound, reading-complete}
 use Rattle.program.proofs.StopLaws.{ItemStop, ran-out, offended, Stop, stop, main-stop}
 use Rattle.program.proofs.ReadingLaws as read
-use Rattle.machine.specs.Answers.{LoadingOutcome, loaded, loading-refused, isLoaded, refuseLoading, too-few-vertex-rows, too-few-edge-rows}
+use Rattle.refusal.specs.Refusals.{too-few-vertex-rows, too-few-edge-rows}
+use Rattle.machine.specs.Answers.{LoadingOutcome, loaded, loading-refused, isLoaded, refuseLoading}
 use Rattle.machine.specs.Loading.{placed, loadedTables, loadRead, load}
 use Rattle.machine.specs.Demand2.{Lends, Unloaded, unread, few-vertex-rows, few-edge-rows, HasPlace}
 

@@ -29,7 +29,8 @@ use Rattle.graph.specs.Commands.{command}
 use Rattle.graph.proofs.TestLaws.{true-false, decide, not-so, equal?, both-right}
 use Rattle.graph.proofs.SoundLaws.{Known, sound-fits, fits-sound}
 use Rattle.graph.proofs.Demand2.{stays-sound}
-use Rattle.machine.specs.Answers.{Said, Outcome, accepted, unsound-tables}
+use Rattle.refusal.specs.Refusals.{unsound-tables}
+use Rattle.machine.specs.Answers.{Said, Outcome, accepted}
 use Rattle.machine.specs.Stepping.{stepLimit, steppable, Own, Due, refusal-due, job-due, command-due, due, step}
 use Rattle.machine.specs.Running.{canStep, lowest, allFinished, done, stuck, spent, refused, RunOutcome, ended, look, runOn, run}
 use Rattle.machine.specs.Demand2.{Adds, Does}

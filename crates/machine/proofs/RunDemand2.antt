@@ -11,7 +11,8 @@ use borrow.Author.Tests.{ltb-true, eq-eqb, eqb-true}
 use Rattle.graph.specs.Tables.{Lent, FINISHED, status}
 use Rattle.graph.specs.Commands.{isMade, hasStatus}
 use Rattle.graph.proofs.TestLaws.{true-false, not-so, every-at, every-all, below-suc}
-use Rattle.machine.specs.Answers.{Said, unsound-tables}
+use Rattle.refusal.specs.Refusals.{unsound-tables}
+use Rattle.machine.specs.Answers.{Said}
 use Rattle.machine.specs.Stepping.{steppable, due, step}
 use Rattle.machine.specs.Running.{canStep, orThis, lowestBelow, lowest, allFinished, Ending, refused, RunOutcome, ended, look, runOn, run}
 use Rattle.machine.specs.Demand2.{Steps, no-step, one-more, AllFinished, Looks, Ran, run-refused, run-steps}

@@ -24,7 +24,8 @@ use lib.Dec.{eqb}
 use lib.ListN.{length}
 use borrow.Author.Tests.{ltb-true, lt-ltb, ne-eqb}
 use Rattle.graph.specs.Tables.{Lent, NEW, RELEASED, FINISHED, EXECUTING, vertexRows, status}
-use Rattle.graph.specs.Answers.{edge-leads-in, decided}
+use Rattle.refusal.specs.Refusals.{edge-leads-in, nothing-starts}
+use Rattle.graph.specs.Answers.{decided}
 use Rattle.graph.specs.Answers as of-graph
 use Rattle.graph.specs.Sound.{sound}
 use Rattle.graph.specs.Paths.{CycleFree, leadsInto}
@@ -40,7 +41,7 @@ use Rattle.graph.proofs.Reasons.{refused-place}
 use Rattle.graph.proofs.Demand2.{refused-keeps, effect, acceptance}
 use Rattle.program.specs.Encodings.{Spot, Command, perform, newTd, newEdge, transfer, release, Row}
 use Rattle.program.specs.Located.{itemAt}
-use Rattle.machine.specs.Answers.{Said, Outcome, accepted, refuse, saidAs, unreadable}
+use Rattle.machine.specs.Answers.{Said, Outcome, accepted, refuse, saidAs}
 use Rattle.machine.specs.Stepping.{stepLimit, steppable, place, phase, Task, item, ends, nothing, task, Own, Due, refusal-due}
 use Rattle.machine.specs.Stepping.{job-due, command-due, dueIf, filledIn, nextOf, nextAt, due, doDue, step}
 use Rattle.machine.specs.Demand2.{IsCommand, Does, Before, Refused, before, by-command}
@@ -185,7 +186,7 @@ before-cond : (b : Bool) (d d' : Due) → OnlyBefore d → OnlyBefore d' → Onl
 before-cond true d d' p q = p
 before-cond false d d' p q = q
 
-unreadable-before : Before unreadable
+unreadable-before : Before nothing-starts
 unreadable-before = inr (inr (inr (inr refl)))
 
 before-command : (s : Lent) (v n : ℕ) (spot : Spot → ℕ) (w : Own) (c : Command) → OnlyBefore (filledIn s v n spot w c)

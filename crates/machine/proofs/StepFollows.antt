@@ -11,7 +11,7 @@ use lib.Dec.{ltb}
 use lib.ListN.{length}
 use borrow.Author.Tests.{ltb-true, ltb-false}
 use Rattle.graph.specs.Tables.{Lent, NEW, RELEASED, EXECUTING, FINISHED, vertexRows, edgeRows}
-use Rattle.graph.specs.Answers.{no-such-vertex, edge-leads-in, vertex-new, vertex-finished}
+use Rattle.refusal.specs.Refusals.{no-such-vertex, edge-leads-in, vertex-is-new, vertex-is-finished}
 use Rattle.graph.specs.Paths.{leadsInto}
 use Rattle.graph.specs.declared.Command.the-variants.{NewTd, Start, Stop}
 use Rattle.graph.proofs.TestLaws.{decide, true-false}
@@ -115,11 +115,11 @@ module _
     refuses-new : isNew (S .control v) ≡ true → Result
     refuses-new q =
         let (made, new) = stands shape F v NEW (new-is (S .control v) q) (omega arith) in
-        refused vertex-new (is-new q) (step-is bytes s v (due-new bytes s v ok made new))
+        refused vertex-is-new (is-new q) (step-is bytes s v (due-new bytes s v ok made new))
 
     refuses-over : v < S .count → S .control v ≡ over → Result
     refuses-over lt q =
-        refused vertex-finished (is-over lt q)
+        refused vertex-is-finished (is-over lt q)
         (step-is bytes s v (due-over bytes s v ok (is-made lt) (follows-status s S v F lt ∙ over-is q)))
 
     -- a released vertex starts, unless an edge leads in

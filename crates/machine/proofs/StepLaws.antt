@@ -9,7 +9,7 @@ use native.Mathlib.Omega.{arith}
 use lib.ListN.{length, getD}
 use borrow.Author.Tests.{lt-ltb, le-ltb, eq-eqb, ne-eqb}
 use Rattle.graph.specs.Tables.{Lent, NEW, RELEASED, EXECUTING, FINISHED, status}
-use Rattle.graph.specs.Answers.{no-such-vertex, vertex-new, vertex-finished}
+use Rattle.refusal.specs.Refusals.{no-such-vertex, vertex-is-new, vertex-is-finished}
 use Rattle.graph.specs.Sound.{sound}
 use Rattle.graph.specs.Commands.{hasStatus}
 use Rattle.graph.specs.declared.Command.the-variants.{Start, Stop}
@@ -45,14 +45,14 @@ module _ (bytes : List ℕ) (s : Lent) (v : ℕ) (ok : steppable s ≡ true) whe
   due-absent le = if-pass _ _ ok ∙ if-stop _ _ (le-ltb v (s .made) le)
 
   module _ (made : v < s .made) where
-    pub due-new : status (s .vertices) v ≡ NEW → due bytes s v ≡ refusal-due vertex-new
+    pub due-new : status (s .vertices) v ≡ NEW → due bytes s v ≡ refusal-due vertex-is-new
     unfolding due
     due-new q =
         if-pass _ _ ok
         ∙ if-pass _ _ (lt-ltb v (s .made) made)
         ∙ if-stop _ _ (not-of-true (eq-eqb (status (s .vertices) v) NEW q))
 
-    pub due-over : status (s .vertices) v ≡ FINISHED → due bytes s v ≡ refusal-due vertex-finished
+    pub due-over : status (s .vertices) v ≡ FINISHED → due bytes s v ≡ refusal-due vertex-is-finished
     unfolding due
     due-over q =
         if-pass _ _ ok

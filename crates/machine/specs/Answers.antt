@@ -4,19 +4,6 @@ use mathlib.Core.Bool.{Bool, true, false}
 use Rattle.graph.specs.Tables.{Lent}
 use Rattle.graph.specs.Answers as of-graph
 
--- "The lender:"
-abbrev pub too-few-vertex-rows : ℕ
-too-few-vertex-rows = 10
-
-abbrev pub too-few-edge-rows : ℕ
-too-few-edge-rows = 11
-
-abbrev pub unsound-tables : ℕ
-unsound-tables = 12
-
-abbrev pub unreadable : ℕ
-unreadable = 13
-
 -- "An accepted step says one of seven things: start, new v, edge a b, release v, transfer v, job (number, offset), stop." A refusal has its
 -- number and place.
 pub data Said : Type 0 where

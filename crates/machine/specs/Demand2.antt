@@ -8,7 +8,8 @@ use mathlib.Core.Bool.{true, false}
 use mathlib.Core.List.{List}
 use mathlib.Core.Option.{Option, none, some}
 use Rattle.graph.specs.Tables.{Lent, FINISHED, vertexWords, edgeWords, placeWord, phaseWord, madeWord, vertexRows, edgeRows, status}
-use Rattle.graph.specs.Answers.{no-such-vertex, vertex-new, vertex-finished}
+use Rattle.refusal.specs.Refusals.{no-such-vertex, vertex-is-new, vertex-is-finished, number-malformed, job-too-large}
+use Rattle.refusal.specs.Refusals.{too-few-vertex-rows, too-few-edge-rows, unsound-tables, nothing-starts}
 use Rattle.graph.specs.Answers as of-graph
 use Rattle.graph.specs.Commands.{command}
 use Rattle.graph.specs.Demand2.{graph, SameBut}
@@ -16,9 +17,8 @@ use Rattle.graph.specs.declared.Command as single
 use Rattle.program.specs.Trees.{Body}
 use Rattle.program.specs.Encodings as needs
 use Rattle.program.specs.Encodings.{firstEdition}
-use Rattle.program.specs.Reader.{program, refusal, reading, number-malformed, job-too-large}
-use Rattle.machine.specs.Answers.{Said, Outcome, accepted, refuse, saidAs, too-few-vertex-rows, too-few-edge-rows, unsound-tables}
-use Rattle.machine.specs.Answers.{unreadable}
+use Rattle.program.specs.Reader.{program, refusal, reading}
+use Rattle.machine.specs.Answers.{Said, Outcome, accepted, refuse, saidAs}
 use Rattle.machine.specs.Stepping.{steppable, Own, ownOf, Due, refusal-due, job-due, command-due, due, step}
 use Rattle.machine.specs.Running.{canStep, Ending, done, stuck, spent, refused, RunOutcome, ended}
 
@@ -73,7 +73,7 @@ Does s v o (command-due c w) = IsCommand c w s v o
 
 -- the refusals that come before any command
 abbrev pub Before : ℕ → Type 0
-Before n = (n ≡ unsound-tables) ⊎ (n ≡ no-such-vertex) ⊎ (n ≡ vertex-new) ⊎ (n ≡ vertex-finished) ⊎ (n ≡ unreadable)
+Before n = (n ≡ unsound-tables) ⊎ (n ≡ no-such-vertex) ⊎ (n ≡ vertex-is-new) ⊎ (n ≡ vertex-is-finished) ⊎ (n ≡ nothing-starts)
 
 -- why a step is refused: before any command, or as its command is
 pub data Refused (bytes : List ℕ) (s : Lent) (v : ℕ) : ℕ → ℕ → Type 0 where

@@ -7,7 +7,7 @@ use mathlib.Core.List.{List, [], _∷_, _++_}
 use mathlib.Core.Option.{some}
 use lib.Dec.{eqb}
 use Rattle.graph.specs.Tables.{Lent}
-use Rattle.graph.specs.Answers.{no-such-vertex, edge-leads-in, vertex-new, vertex-finished}
+use Rattle.refusal.specs.Refusals.{no-such-vertex, edge-leads-in, vertex-is-new, vertex-is-finished}
 use Rattle.graph.specs.Paths.{CycleFree, holds}
 use Rattle.program.specs.Trees.{Body, counts}
 use Rattle.program.specs.Encodings.{stepFormula}
@@ -50,7 +50,7 @@ pub data Answered (a : Said) : List Said → Type 0 where
 
 -- a refusal that the host's choice of a vertex causes
 abbrev pub ByChoice : ℕ → Type 0
-ByChoice n = (n ≡ no-such-vertex) ⊎ ((n ≡ edge-leads-in) ⊎ ((n ≡ vertex-new) ⊎ (n ≡ vertex-finished)))
+ByChoice n = (n ≡ no-such-vertex) ⊎ ((n ≡ edge-leads-in) ⊎ ((n ≡ vertex-is-new) ⊎ (n ≡ vertex-is-finished)))
 
 -- something holds after loading and after every step
 unfoldable pub Throughout : {bytes : List ℕ} {s₀ : Lent} {answers : List Said} {s : Lent} → (Lent → Type 0) → Reached bytes s₀ answers s → Type 0

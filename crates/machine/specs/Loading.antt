@@ -10,7 +10,8 @@ use Rattle.graph.specs.Commands.{appended}
 use Rattle.program.specs.Encodings as needs
 use Rattle.program.specs.Encodings.{firstEdition}
 use Rattle.program.specs.Reader.{Reading, program, refusal, reading}
-use Rattle.machine.specs.Answers.{LoadingOutcome, loaded, refuseLoading, too-few-vertex-rows, too-few-edge-rows}
+use Rattle.refusal.specs.Refusals.{too-few-vertex-rows, too-few-edge-rows}
+use Rattle.machine.specs.Answers.{LoadingOutcome, loaded, refuseLoading}
 
 -- a vertex as loading sets it
 abbrev pub placed : List ℕ → ℕ → ℕ → List ℕ

@@ -6,7 +6,8 @@ use mathlib.Core.Option.{Option, none, some}
 use Rattle.graph.specs.Tests.{every}
 use Rattle.graph.specs.Tables.{Lent, FINISHED}
 use Rattle.graph.specs.Commands.{hasStatus}
-use Rattle.machine.specs.Answers.{Said, accepted, unsound-tables}
+use Rattle.refusal.specs.Refusals.{unsound-tables}
+use Rattle.machine.specs.Answers.{Said, accepted}
 use Rattle.machine.specs.Stepping.{steppable, step}
 
 -- "A vertex can step if a step naming it there would be accepted."

@@ -8,7 +8,7 @@ use lib.Dec.{eqb, ltb}
 use lib.ListN.{length, take}
 use Rattle.graph.specs.Tests.{both}
 use Rattle.graph.specs.Tables.{Lent, NEW, RELEASED, FINISHED, placeWord, scopeWord, phaseWord, madeWord, vertexWord, setVertexWord}
-use Rattle.graph.specs.Answers.{no-such-vertex, vertex-new, vertex-finished}
+use Rattle.refusal.specs.Refusals.{no-such-vertex, vertex-is-new, vertex-is-finished, unsound-tables, nothing-starts}
 use Rattle.graph.specs.Answers as of-graph
 use Rattle.graph.specs.Sound.{sound}
 use Rattle.graph.specs.Commands.{isMade, hasStatus, command}
@@ -20,7 +20,7 @@ use Rattle.program.specs.Encodings.{Command, perform, newTd, newEdge, transfer,
 use Rattle.program.specs.Answers as of-program
 use Rattle.program.specs.Answers.{Stands}
 use Rattle.program.specs.Located.{itemAt}
-use Rattle.machine.specs.Answers.{Said, Outcome, refuse, oneStep, saidAs, unsound-tables, unreadable}
+use Rattle.machine.specs.Answers.{Said, Outcome, refuse, oneStep, saidAs}
 
 -- "steps 8,192 or more (at a step or run only)"
 abbrev pub stepLimit : ℕ
@@ -134,22 +134,22 @@ filledIn s v n spot w (release a) = command-due (Release v (named s v a)) w
 
 -- "a phase not below that item's commands"
 unfoldable pub nextOf : Lent → ℕ → Row → ℕ → (Spot → ℕ) → Option Command → Due
-nextOf s v row n spot none = refusal-due unreadable
+nextOf s v row n spot none = refusal-due nothing-starts
 nextOf s v row n spot (some c) = filledIn s v n spot (movedOn row spot c (phase s v) (s .made) (ownOf s v)) c
 
 -- "the next command of the item at its place"; "end byte: stop"; "A start or a stop changes no place, phase or made vertex."
 unfoldable pub nextAt : Lent → ℕ → Task → Due
 nextAt s v (item row n spot) = nextOf s v row n spot (nth (row .commands) (phase s v))
-nextAt s v ends = dueIf (eqb (phase s v) 0) unreadable (command-due (Stop v) (ownOf s v))
-nextAt s v nothing = refusal-due unreadable
+nextAt s v ends = dueIf (eqb (phase s v) 0) nothing-starts (command-due (Stop v) (ownOf s v))
+nextAt s v nothing = refusal-due nothing-starts
 
 -- "Step: 12, 20, 22, 23, then 21, or 13 and the command's own": 21 is start's own
 unfoldable pub due : List ℕ → Lent → ℕ → Due
 due bytes s v =
     dueIf (steppable s) unsound-tables
     (dueIf (isMade s v) no-such-vertex
-    (dueIf (not (hasStatus s v NEW)) vertex-new
-    (dueIf (not (hasStatus s v FINISHED)) vertex-finished
+    (dueIf (not (hasStatus s v NEW)) vertex-is-new
+    (dueIf (not (hasStatus s v FINISHED)) vertex-is-finished
     (cond (hasStatus s v RELEASED) (command-due (Start v) (ownOf s v)) (nextAt s v (task (length bytes - 1) (itemAt bytes (place s v))))))))
 
 -- a vertex's own words are stored in its row

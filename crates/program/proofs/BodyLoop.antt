@@ -7,12 +7,13 @@ use lib.ListN.{length, getD, drop, length-drop, drop-of-length-le}
 use lib.Seq.{drop-cons, drop-drop}
 use borrow.Rule.Slice.PartAt.{part-to-end}
 use Rattle.program.specs.declared.Reader.{Reader}
-use Rattle.program.specs.declared.Refusal.{Refusal}
+use Rattle.refusal.specs.declared.Refusal.{Refusal}
 use Rattle.program.specs.declared.Advanced.{Advanced}
 use Rattle.program.specs.declared.Advanced.the-variants as of-reader
 use Rattle.program.specs.Trees.{Body, Item, a-job, an-async, a-finish, a-fork, ahead, Counts, counts}
 use Rattle.program.specs.Bytes.{endByte}
-use Rattle.program.specs.Reader.{Read, took, refused, andThen, item, body, bytes-run-out}
+use Rattle.refusal.specs.Refusals.{bytes-run-out}
+use Rattle.program.specs.Reader.{Read, took, refused, andThen, item, body}
 use Rattle.program.specs.Answers.{itemCounts}
 use Rattle.program.specs.Progress.{plus, past, stopped, reached, progress, countsOf, Ready}
 use Rattle.program.proofs.ReaderLaws.{body-empty, body-end, body-item}

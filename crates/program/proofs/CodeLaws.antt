@@ -10,7 +10,7 @@ use Rattle.program.specs.declared.ItemCounts.{ItemCounts}
 use Rattle.program.specs.Limits.{jobLimit, programBytes}
 use Rattle.program.specs.Trees.{Counts}
 use Rattle.program.specs.Bytes.{jobByte, asyncByte, finishByte, forkByte}
-use Rattle.program.specs.Reader.{number-malformed, job-too-large}
+use Rattle.refusal.specs.Refusals.{number-malformed, job-too-large}
 use Rattle.program.specs.Answers.{itemCounts}
 use Rattle.program.specs.Progress.{NumberProgress, value, ended, plus, oneOf}
 

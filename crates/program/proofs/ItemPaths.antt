@@ -9,7 +9,7 @@ use lib.Seq.{drop-cons, drop-drop}
 use borrow.Rule.Slice.PartAt.{part-to-end}
 use Rattle.program.specs.declared.ItemCounts.{ItemCounts}
 use Rattle.program.specs.declared.Reader.{Reader}
-use Rattle.program.specs.declared.Refusal.{Refusal}
+use Rattle.refusal.specs.declared.Refusal.{Refusal}
 use Rattle.program.specs.declared.Advanced.{Advanced}
 use Rattle.program.specs.declared.Advanced.the-variants as of-reader
 use Rattle.program.specs.declared.NumberRead.{NumberRead}
@@ -17,7 +17,8 @@ use Rattle.program.specs.declared.NumberRead.the-variants as of-number
 use Rattle.program.specs.Limits.{levelLimit}
 use Rattle.program.specs.Trees.{Body, Item, a-job, an-async, a-finish, a-fork, ahead, Counts, counts, total, same}
 use Rattle.program.specs.Bytes.{endByte, jobByte, asyncByte, finishByte, forkByte, encode}
-use Rattle.program.specs.Reader.{Read, took, refused, andThen, number, kindOf, jobOf, itemOf, item, body, byte-unknown, level-too-deep, bytes-run-out}
+use Rattle.refusal.specs.Refusals.{byte-unknown, level-too-deep, bytes-run-out}
+use Rattle.program.specs.Reader.{Read, took, refused, andThen, number, kindOf, jobOf, itemOf, item, body}
 use Rattle.program.specs.Answers.{itemCounts}
 use Rattle.program.specs.Progress.{plus, Progress, past, stopped, reached, progress, countsOf, NumberProgress, value, reachedNumber}
 use Rattle.program.specs.Progress.{numberProgress, oneOf, Few, Ready}

@@ -11,7 +11,8 @@ use lib.ListN.{length}
 use borrow.Author.Tests.{ltb-true, ltb-false, lt-ltb, le-ltb, leb-true, le-leb, lt-leb}
 use Rattle.program.specs.Limits.{numberBytes, jobLimit}
 use Rattle.program.specs.Bytes.{topBit, groupBytes, encodeNumber}
-use Rattle.program.specs.Reader.{Read, took, refused, andThen, unless, groups, number, number-malformed, byte-unknown, bytes-run-out, job-too-large}
+use Rattle.refusal.specs.Refusals.{number-malformed, byte-unknown, bytes-run-out, job-too-large}
+use Rattle.program.specs.Reader.{Read, took, refused, andThen, unless, groups, number}
 use Rattle.program.specs.Claims.{TopBits, BadNumber, too-long, not-shortest, too-large}
 use Rattle.program.proofs.ReadLaws.{Outcome, was-took, was-refused, took-bytes, took-fits, behind-shorter, guarded}
 

@@ -15,7 +15,8 @@ use borrow.Author.Tests.{ne-eqb}
 use Rattle.program.specs.Limits.{numberBytes, jobLimit}
 use Rattle.program.specs.Trees.{Counts}
 use Rattle.program.specs.Bytes.{topBit}
-use Rattle.program.specs.Reader.{Read, took, refused, andThen, unless, groups, number, number-malformed, bytes-run-out, job-too-large}
+use Rattle.refusal.specs.Refusals.{number-malformed, bytes-run-out, job-too-large}
+use Rattle.program.specs.Reader.{Read, took, refused, andThen, unless, groups, number}
 use Rattle.program.specs.Progress.{NumberProgress, value, numberProgress, ended}
 use Rattle.program.proofs.NumberLaws.{groups-last, groups-more}
 

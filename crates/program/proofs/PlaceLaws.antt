@@ -13,7 +13,8 @@ use Rattle.program.specs.Limits.{programBytes}
 use Rattle.program.specs.Trees.{Body, Counts}
 use Rattle.program.specs.Bytes.{encode, size}
 use Rattle.program.specs.Reader.{Reading, program, refusal, reading}
-use Rattle.program.specs.Answers.{Said, loads, refused, told, Stands, nothing-starts}
+use Rattle.refusal.specs.Refusals.{nothing-starts}
+use Rattle.program.specs.Answers.{Said, loads, refused, told, Stands}
 use Rattle.program.specs.Located.{Code, locate, codeAt, head, found, standsIn, itemAt, isSome, startsIn, startsAt}
 use Rattle.program.specs.Claims.{Fits, Loadable, Encoding, encoding}
 use Rattle.program.specs.Progress.{Holds, holds, Shows, inNumber}

@@ -13,7 +13,7 @@ use Rattle.program.specs.Limits.{levelLimit}
 use Rattle.program.specs.Trees.{Kind, jobs, asyncs, finishes, forks, Body, end, Item, a-job, an-async, a-finish, a-fork, ahead}
 use Rattle.program.specs.Bytes.{endByte, jobByte, asyncByte, finishByte, forkByte}
 use Rattle.program.specs.Reader.{Read, took, refused, andThen, unless, number, kindOf, deeper, jobOf, itemOf, item, bodyOf, body}
-use Rattle.program.specs.Reader.{byte-unknown, level-too-deep, bytes-run-out}
+use Rattle.refusal.specs.Refusals.{byte-unknown, level-too-deep, bytes-run-out}
 use Rattle.program.proofs.ReadLaws.{took-shorter, and-then-same}
 use Rattle.program.proofs.Soundness.{Sound, bodyOf-outcome, behind-item-of}
 

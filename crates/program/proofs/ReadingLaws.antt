@@ -12,8 +12,8 @@ use Rattle.program.specs.Limits.{programBytes, vertexLimit}
 use Rattle.program.specs.Trees.{Body, end, job, async, finish, fork}
 use Rattle.program.specs.Bytes.{encode, size}
 use Rattle.program.specs.Encodings.{firstEdition, vertices}
-use Rattle.program.specs.Reader.{Read, took, refused, body, Reading, program, refusal, counted, whole, reading, length-outside}
-use Rattle.program.specs.Reader.{bytes-after-end, too-many-vertices}
+use Rattle.refusal.specs.Refusals.{length-outside, bytes-after-end, too-many-vertices}
+use Rattle.program.specs.Reader.{Read, took, refused, body, Reading, program, refusal, counted, whole, reading}
 use Rattle.program.specs.Claims.{Fits, Loadable}
 use Rattle.program.proofs.Soundness.{body-sound, body-fits}
 use Rattle.program.proofs.Completeness.{body-complete}

@@ -8,7 +8,8 @@ use lib.ListN.{length, length-append}
 use Rattle.program.specs.Limits.{programBytes}
 use Rattle.program.specs.Trees.{Body}
 use Rattle.program.specs.Bytes.{encode}
-use Rattle.program.specs.Reader.{Read, took, refused, body, refusal, whole, reading, length-outside, bytes-run-out, bytes-after-end, too-many-vertices}
+use Rattle.refusal.specs.Refusals.{length-outside, bytes-run-out, bytes-after-end, too-many-vertices}
+use Rattle.program.specs.Reader.{Read, took, refused, body, refusal, whole, reading}
 use Rattle.program.specs.Claims.{Fits, Encoding, encoding, Extends, extended, Unfinished, unfinished, Overlong, overlong, Crowded}
 use Rattle.program.specs.Claims.{crowded, ByPlace, LeadsTo, too-long, not-shortest, too-large, Offends, unknown, opener, misnumbered}
 use Rattle.program.specs.Claims.{no-byte, Blamed, blamed}

@@ -8,7 +8,8 @@ use mathlib.Core.Logic.{_⊎_, _↔_}
 use native.Mathlib.Nat.{sub-zero}
 use lib.ListN.{length}
 use Rattle.program.specs.Limits.{programBytes}
-use Rattle.program.specs.Reader.{refusal, whole, reading, length-outside, bytes-run-out, bytes-after-end, too-many-vertices}
+use Rattle.refusal.specs.Refusals.{length-outside, bytes-run-out, bytes-after-end, too-many-vertices}
+use Rattle.program.specs.Reader.{refusal, whole, reading}
 use Rattle.program.specs.Claims.{Unfinished, Overlong, Crowded, ByPlace, Blamed}
 use Rattle.program.proofs.ReadingLaws.{reading-comes, reading-outside, reading-within}
 use Rattle.program.proofs.RefusalLaws.{out-comes, prefix-out, after-comes, overlong-after, blamed-comes, blamed-reads, outside-comes}

@@ -11,8 +11,8 @@ use borrow.Author.Tests.{eqb-true, ltb-true}
 use Rattle.program.specs.Limits.{jobLimit, levelLimit}
 use Rattle.program.specs.Trees.{jobs, forks, Body, end, job, async, finish, fork, Item, a-job, an-async, a-finish, a-fork, ahead, depth, largest}
 use Rattle.program.specs.Bytes.{endByte, jobByte, asyncByte, finishByte, forkByte, encodeNumber, encode}
-use Rattle.program.specs.Reader.{Read, took, andThen, kindOf, deeper, number, jobOf, itemOf, item, bodyOf, body, byte-unknown}
-use Rattle.program.specs.Reader.{level-too-deep, bytes-run-out}
+use Rattle.refusal.specs.Refusals.{byte-unknown, level-too-deep, bytes-run-out}
+use Rattle.program.specs.Reader.{Read, took, andThen, kindOf, deeper, number, jobOf, itemOf, item, bodyOf, body}
 use Rattle.program.proofs.ReadLaws.{Outcome, was-took, refused-here, refused-end, took-bytes, took-fits, go-on, guarded}
 use Rattle.program.proofs.NumberLaws.{number-outcome}
 

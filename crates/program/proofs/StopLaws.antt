@@ -12,7 +12,7 @@ use Rattle.program.specs.Limits.{numberBytes, jobLimit, levelLimit}
 use Rattle.program.specs.Trees.{Body, end, job, async, finish, fork, Item, a-job, an-async, a-finish, a-fork, ahead}
 use Rattle.program.specs.Bytes.{endByte, jobByte, asyncByte, finishByte, forkByte, encodeNumber, encode}
 use Rattle.program.specs.Reader.{Read, took, refused, andThen, unless, groups, number, deeper, jobOf, itemOf, kindOf, item, body}
-use Rattle.program.specs.Reader.{level-too-deep, bytes-run-out, job-too-large}
+use Rattle.refusal.specs.Refusals.{level-too-deep, bytes-run-out, job-too-large}
 use Rattle.program.specs.Claims.{FitsFrom, LeadsTo, here, past, into, second, TopBits, too-long, not-shortest, too-large, Offends}
 use Rattle.program.specs.Claims.{unknown, opener, misnumbered, no-byte}
 use Rattle.program.proofs.Soundness.{itemBytes, encode-ahead, FitsAt, ItemFits, fits-ahead, fits-limits, limits-fit, body-sound}

@@ -12,7 +12,8 @@ use Rattle.program.specs.declared.Reader.{Reader}
 use Rattle.program.specs.Limits.{programBytes, vertexLimit}
 use Rattle.program.specs.Trees.{Body, Counts, counts}
 use Rattle.program.specs.Encodings.{vertexFormula}
-use Rattle.program.specs.Reader.{Read, took, refused, bytes-after-end, length-outside, too-many-vertices, body, program, refusal, counted, whole, reading}
+use Rattle.refusal.specs.Refusals.{bytes-after-end, length-outside, too-many-vertices}
+use Rattle.program.specs.Reader.{Read, took, refused, body, program, refusal, counted, whole, reading}
 use Rattle.program.specs.Answers.{Said, loads, told, itemCounts, readerAt}
 use Rattle.program.specs.Progress.{plus, Progress, past, stopped, progress, finished, Ready}
 use Rattle.program.proofs.Formulas.{vertices-formula}

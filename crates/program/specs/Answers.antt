@@ -11,10 +11,6 @@ use Rattle.program.specs.declared.ItemRead.the-variants as of-item
 use Rattle.program.specs.Trees.{Counts, counts}
 use Rattle.program.specs.Reader.{Reading, program, refusal}
 
--- "13 .. a place where no item or end byte starts"
-abbrev pub nothing-starts : ℕ
-nothing-starts = 13
-
 -- reading a program: the counts of its items, or a refusal's number and place
 pub data Said : Type 0 where
   loads : Counts → Said

@@ -8,7 +8,7 @@ use Rattle.program.specs.Limits.{numberBytes, jobLimit, levelLimit, prog
 use Rattle.program.specs.Trees.{Body, end, Item, ahead, depth, largest}
 use Rattle.program.specs.Bytes.{endByte, jobByte, asyncByte, forkByte, topBit, encodeNumber, encode, size}
 use Rattle.program.specs.Encodings.{firstEdition, vertices}
-use Rattle.program.specs.Reader.{number-malformed, byte-unknown, level-too-deep, job-too-large}
+use Rattle.refusal.specs.Refusals.{number-malformed, byte-unknown, level-too-deep, job-too-large}
 
 -- a tree within the limits on numbers and levels
 pub record Fits (b : Body) : Type 0 where

@@ -9,7 +9,8 @@ use lib.ListN.{length, getD}
 use Rattle.program.specs.Trees.{Body, end, job, async, finish, fork}
 use Rattle.program.specs.Bytes.{numberSize, size}
 use Rattle.program.specs.Reader.{Reading, program, refusal, reading}
-use Rattle.program.specs.Answers.{Stands, nothing-starts}
+use Rattle.refusal.specs.Refusals.{nothing-starts}
+use Rattle.program.specs.Answers.{Stands}
 
 -- A body with the byte offset of each of its items and of its end byte. It is also the code that a vertex has left: what stands
 -- from its place to the end byte of the body that the place is in.

@@ -14,7 +14,8 @@ use Rattle.program.specs.declared.NumberRead.the-variants as of-number
 use Rattle.program.specs.Limits.{jobLimit, programBytes, vertexLimit}
 use Rattle.program.specs.Trees.{Counts, counts, Body, end, Item, ahead}
 use Rattle.program.specs.Bytes.{jobByte, asyncByte, finishByte, forkByte, topBit, encodeNumber, numberSize, encode, size}
-use Rattle.program.specs.Reader.{Read, took, refused, number-malformed, bytes-after-end, job-too-large, too-many-vertices}
+use Rattle.refusal.specs.Refusals.{number-malformed, bytes-after-end, job-too-large, too-many-vertices}
+use Rattle.program.specs.Reader.{Read, took, refused}
 use Rattle.program.specs.Answers.{Said, loads, itemCounts, Stands}
 use Rattle.program.specs.Located.{locate, head}
 use Rattle.program.specs.Encodings.{vertexFormula}

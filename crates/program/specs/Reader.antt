@@ -9,31 +9,8 @@ use Rattle.program.specs.Limits.{numberBytes, jobLimit, levelLimit, prog
 use Rattle.program.specs.Trees.{Kind, jobs, asyncs, finishes, forks, Body, end, Item, a-job, an-async, a-finish, a-fork, ahead}
 use Rattle.program.specs.Bytes.{endByte, topBit}
 use Rattle.program.specs.Encodings.{firstEdition, vertices}
-
--- "Refusals by who causes them. The program's writer:"
-abbrev pub length-outside : ℕ
-length-outside = 1
-
-abbrev pub number-malformed : ℕ
-number-malformed = 2
-
-abbrev pub byte-unknown : ℕ
-byte-unknown = 3
-
-abbrev pub level-too-deep : ℕ
-level-too-deep = 4
-
-abbrev pub bytes-run-out : ℕ
-bytes-run-out = 5
-
-abbrev pub bytes-after-end : ℕ
-bytes-after-end = 6
-
-abbrev pub job-too-large : ℕ
-job-too-large = 7
-
-abbrev pub too-many-vertices : ℕ
-too-many-vertices = 8
+use Rattle.refusal.specs.Refusals.{byte-unknown, level-too-deep, length-outside, bytes-run-out}
+use Rattle.refusal.specs.Refusals.{number-malformed, too-many-vertices, bytes-after-end, job-too-large}
 
 -- What is read from bytes: a value, and the bytes behind it, or a refusal, and the bytes from its place on.
 pub data Read (A : Type 0) : Type 0 where

@@ -22,23 +22,3 @@ pub const LEVEL_LIMIT: u32 = 32;
 pub const PROGRAM_BYTES: usize = 4096;
 
 pub const VERTEX_LIMIT: u64 = 1024;
-
-// The refusals of the program's writer.
-pub const LENGTH_OUTSIDE: u32 = 1;
-
-pub const NUMBER_MALFORMED: u32 = 2;
-
-pub const BYTE_UNKNOWN: u32 = 3;
-
-pub const LEVEL_TOO_DEEP: u32 = 4;
-
-pub const BYTES_RUN_OUT: u32 = 5;
-
-pub const BYTES_AFTER_END: u32 = 6;
-
-pub const JOB_TOO_LARGE: u32 = 7;
-
-pub const TOO_MANY_VERTICES: u32 = 8;
-
-// The refusal of a step at a place where nothing can be read.
-pub const NOTHING_STARTS: u32 = 13;

@@ -9,18 +9,14 @@ mod numbers;
 pub mod reading;
 pub mod starts;
 
+use refusal::Refusal;
+
 // How many items of each kind.
 pub struct ItemCounts {
     pub jobs: u32,
     pub asyncs: u32,
     pub finishes: u32,
     pub forks: u32,
-}
-
-// A refusal's number, and its place: an offset in the program, or 0 where it has none.
-pub struct Refusal {
-    pub number: u32,
-    pub place: u32,
 }
 
 // Where a reader is in the program, and the items that it has seen.

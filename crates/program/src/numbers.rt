@@ -1,13 +1,13 @@
 // Reading a number.
 use crate::NumberRead;
 use crate::Reader;
-use crate::Refusal;
-use crate::format::BYTES_RUN_OUT;
 use crate::format::JOB_LIMIT;
-use crate::format::JOB_TOO_LARGE;
 use crate::format::NUMBER_BYTES;
-use crate::format::NUMBER_MALFORMED;
 use crate::format::TOP_BIT;
+use refusal::BYTES_RUN_OUT;
+use refusal::JOB_TOO_LARGE;
+use refusal::NUMBER_MALFORMED;
+use refusal::Refusal;
 ghost use mathlib.Core.Path.{_≡_};
 ghost use Prim.Native.Nat.{_+_, _≤_};
 ghost use lib.ListN.{length};

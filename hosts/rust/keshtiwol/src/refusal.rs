@@ -19,9 +19,9 @@ pub const NOTHING_STARTS: u32 = 13;
 // The host, choosing.
 pub const NO_SUCH_VERTEX: u32 = 20;
 pub const EDGE_LEADS_IN: u32 = 21;
-pub const IS_NEW: u32 = 22;
-pub const IS_FINISHED: u32 = 23;
-pub const IS_EXECUTING: u32 = 39;
+pub const VERTEX_IS_NEW: u32 = 22;
+pub const VERTEX_IS_FINISHED: u32 = 23;
+pub const VERTEX_IS_EXECUTING: u32 = 39;
 // The caller of single commands.
 pub const CALLER_NOT_EXECUTING: u32 = 30;
 pub const NO_VERTEX_ROW: u32 = 31;
@@ -59,9 +59,9 @@ pub fn text(number: u32) -> &'static str {
         NOTHING_STARTS => "no item can be read at the vertex's place, or its phase is past the item",
         NO_SUCH_VERTEX => "there is no such vertex",
         EDGE_LEADS_IN => "something must finish before this vertex starts",
-        IS_NEW => "the vertex is not released yet",
-        IS_FINISHED => "the vertex is finished",
-        IS_EXECUTING => "the vertex executes already",
+        VERTEX_IS_NEW => "the vertex is not released yet",
+        VERTEX_IS_FINISHED => "the vertex is finished",
+        VERTEX_IS_EXECUTING => "the vertex executes already",
         CALLER_NOT_EXECUTING => "the caller is not executing",
         NO_VERTEX_ROW => "no vertex row is left",
         NO_EDGE_ROW => "no edge row is left",

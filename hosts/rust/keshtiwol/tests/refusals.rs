@@ -101,7 +101,7 @@ fn commands() {
         assert_eq!(lent.new_vertex(), Answer::New(vertex));
     }
     assert_eq!(lent.new_vertex(), refused(refusal::NO_VERTEX_ROW));
-    assert_eq!(lent.start(1), refused(refusal::IS_NEW));
+    assert_eq!(lent.start(1), refused(refusal::VERTEX_IS_NEW));
     assert_eq!(lent.release(1), Answer::Release(1));
     assert_eq!(lent.release(1), refused(refusal::RELEASE_NOT_NEW));
     assert_eq!(lent.transfer(1), refused(refusal::TRANSFER_NOT_NEW));
@@ -109,14 +109,14 @@ fn commands() {
     assert_eq!(lent.edge(2, 3), refused(refusal::NO_EDGE_ROW));
     assert_eq!(lent.edge(1, 0), refused(refusal::TARGET_NOT_WAITING));
     assert_eq!(lent.start(1), refused(refusal::EDGE_LEADS_IN));
-    assert_eq!(lent.start(0), refused(refusal::IS_EXECUTING));
+    assert_eq!(lent.start(0), refused(refusal::VERTEX_IS_EXECUTING));
     assert_eq!(lent.stop(1), refused(refusal::CALLER_NOT_EXECUTING));
     assert_eq!(lent.edge(4, 1), refused(refusal::NO_SUCH_VERTEX));
     assert_eq!(lent.start(u32::MAX), refused(refusal::NO_SUCH_VERTEX));
     assert_eq!(lent.release(2), Answer::Release(2));
     assert_eq!(lent.start(2), Answer::Start);
     assert_eq!(lent.stop(2), Answer::Stop);
-    assert_eq!(lent.start(2), refused(refusal::IS_FINISHED));
+    assert_eq!(lent.start(2), refused(refusal::VERTEX_IS_FINISHED));
     // The stop freed the row; an edge from a finished vertex is accepted and takes none.
     assert_eq!(lent.tally, Tally { made: 4, held: 0, steps: 0 });
     assert_eq!(lent.edge(2, 3), Answer::Edge(2, 3));
@@ -134,11 +134,11 @@ fn a_host_that_chooses_badly() {
     assert_eq!(lent.step(&program, 1), refused(refusal::EDGE_LEADS_IN));
     assert_eq!(lent.step(&program, 0), Answer::Start);
     assert_eq!(lent.step(&program, 0), Answer::New(2));
-    assert_eq!(lent.step(&program, 2), refused(refusal::IS_NEW));
+    assert_eq!(lent.step(&program, 2), refused(refusal::VERTEX_IS_NEW));
     assert_eq!(lent.step(&program, 0), Answer::Edge(2, 1));
     assert_eq!(lent.step(&program, 0), Answer::Release(2));
     assert_eq!(lent.step(&program, 0), Answer::Stop);
-    assert_eq!(lent.step(&program, 0), refused(refusal::IS_FINISHED));
+    assert_eq!(lent.step(&program, 0), refused(refusal::VERTEX_IS_FINISHED));
     // Another program: the bytes at vertex 2's place begin no item, or are refused as a whole.
     assert_eq!(lent.step(&program, 2), Answer::Start);
     assert_eq!(lent.step(&[0], 2), refused(refusal::NOTHING_STARTS));
