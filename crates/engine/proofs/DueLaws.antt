@@ -18,7 +18,7 @@ use Rattle.graph.proofs.CallLaws.{answered-yes, answered-no}
 use Rattle.graph.proofs.SoundChecks.{sound-rows}
 use Rattle.program.specs.Limits.{programBytes}
 use Rattle.program.specs.Answers.{Stands}
-use Rattle.program.specs.Located.{itemAt, startsAt, Marked}
+use Rattle.program.specs.Located.{itemAt, startsAt, MarksStarts}
 use Rattle.machine.specs.Stepping as machine
 use Rattle.machine.specs.Stepping.{stepLimit, steppable, place, task, ownOf, Due, refusal-due, command-due, dueIf, nextAt, due}
 use Rattle.engine.specs.declared.Own.{Own}
@@ -48,7 +48,7 @@ mark-is : (b : Bool) → eqb (cond b 1 0) 1 ≡ b
 mark-is true = refl
 mark-is false = refl
 
-pub marked-starts : (bytes marks : List ℕ) (p : ℕ) {r : Bool} → Marked bytes marks → length marks ≡ programBytes → r ≡ eqb (getD marks p 0) 1 → r ≡ startsAt bytes p
+pub marked-starts : (bytes marks : List ℕ) (p : ℕ) {r : Bool} → MarksStarts bytes marks → length marks ≡ programBytes → r ≡ eqb (getD marks p 0) 1 → r ≡ startsAt bytes p
 marked-starts bytes marks p marked full e =
     e
     ∙ ⊎-elim

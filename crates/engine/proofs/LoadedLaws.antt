@@ -40,7 +40,7 @@ clear-length l from zero = refl
 clear-length l from (suc n) = length-set (clear l from n) (from + n) 0 ∙ clear-length l from n
 
 -- what reading told
-pub unread-is : (r : Reading) {n p : ℕ} → of-program.Said.refused n p ≡ told r → r ≡ refusal n p
+pub unread-is : (r : Reading) {n p : ℕ} → of-program.ProgramSaid.refused n p ≡ told r → r ≡ refusal n p
 unfolding told
 unread-is (program b) h = absurd (let z : _≡_ {A = ℕ} 0 1 = cc in omega arith)
 unread-is (refusal n p) h = cc
@@ -65,15 +65,15 @@ refused-lent : (v e : List ℕ) {t t' : Tally} → t' ≡ t → lent v e t' ≡ 
 refused-lent v e p = ap (lent v e) p
 
 pub load-unread :
-    (bytes v e : List ℕ) (t : Tally) {a : LoadingSaid} {t' : Tally} (n p : ℕ) → of-program.Said.refused n p ≡ told (reading bytes)
+    (bytes v e : List ℕ) (t : Tally) {a : LoadingSaid} {t' : Tally} (n p : ℕ) → of-program.ProgramSaid.refused n p ≡ told (reading bytes)
     → (a ≡ loading-refused n p) × (t' ≡ t) → Loaded bytes (lent v e t) a (lent v e t')
 load-unread bytes v e t n p is h = refusing bytes (lent v e t) n p (unread (unread-is (reading bytes) is)) (h .0) (refused-lent v e (h .1))
 
 -- the rows that a program needs, as the code counts them
-needs-vertices : (b : Body) {c : Counts} {n : ℕ} → c ≡ counts b → n ≡ vertexFormula c → n ≡ needs.vertices firstEdition b
+needs-vertices : (b : Body) {c : Counts} {n : ℕ} → c ≡ counts b → n ≡ vertexFormula c → n ≡ needs.verticesMade firstEdition b
 needs-vertices b p q = q ∙ ap vertexFormula p ∙ sym (vertices-formula b)
 
-needs-edges : (b : Body) {c : Counts} {n : ℕ} → c ≡ counts b → n ≡ edgeRowFormula c → n ≡ needs.edgeRows firstEdition b
+needs-edges : (b : Body) {c : Counts} {n : ℕ} → c ≡ counts b → n ≡ edgeRowFormula c → n ≡ needs.edgeRowsNeeded firstEdition b
 needs-edges b p q = q ∙ ap edgeRowFormula p ∙ sym (edgeRows-formula b)
 
 below : {r r' n n' : ℕ} → r ≡ r' → n ≡ n' → r < n → r' < n'
@@ -102,7 +102,7 @@ module _ (bytes v e : List ℕ) (t : Tally) (c : ItemCounts) (is : loads (itemCo
   load-few-vertices lt h =
       refusing bytes (lent v e t) 10 0 (few-vertex-rows (found .tree) (found .is-read) (below rows (needs-vertices (found .tree) (found .counted) need) lt)) (h .0) (refused-lent v e (h .1))
 
-  there : vn ≤ vr → needs.vertices firstEdition (found .tree) ≤ vertexRows v
+  there : vn ≤ vr → needs.verticesMade firstEdition (found .tree) ≤ vertexRows v
   there le = enough rows (needs-vertices (found .tree) (found .counted) need) le
 
   pub load-few-edges : {a : LoadingSaid} {t' : Tally} {er en : ℕ} → vn ≤ vr → er ≡ edgeRows e → en ≡ edgeRowFormula (itemCounts c) → er < en → (a ≡ loading-refused 11 0) × (t' ≡ t) → Loaded bytes (lent v e t) a (lent v e t')

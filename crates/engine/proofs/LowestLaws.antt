@@ -15,7 +15,7 @@ use Rattle.graph.specs.declared.Command.{Command}
 use Rattle.graph.specs.declared.Tally.{Tally}
 use Rattle.graph.specs.Tests.{both, either, any}
 use Rattle.graph.specs.Tables.{Lent, lent, usableLimit, target, status}
-use Rattle.graph.specs.Answers.{Said, accepted, decided}
+use Rattle.graph.specs.Answers.{CommandSaid, accepted, decided}
 use Rattle.graph.specs.Sound.{sound}
 use Rattle.graph.specs.Search.{blank}
 use Rattle.graph.specs.Paths.{leadsInto}
@@ -71,7 +71,7 @@ blocked-more e i marks h lt =
 
 -- COMMANDS
 -- a command is accepted exactly where its refusal is 0
-pub told : (s : Lent) {r n : ℕ} (said : Said) (after : Lent) → accepted said ≡ true → r ≡ n → eqb r 0 ≡ accepted (decided s n said after .answer)
+pub told : (s : Lent) {r n : ℕ} (said : CommandSaid) (after : Lent) → accepted said ≡ true → r ≡ n → eqb r 0 ≡ accepted (decided s n said after .answer)
 unfolding decided
 told s {r = r} {n = zero} said after q p = eq-eqb r 0 p ∙ sym q
 told s {r = r} {n = suc n} said after q p = ne-eqb r 0 (λ e. omega arith)

@@ -14,7 +14,7 @@ use lib.ListN.{length, getD, take}
 use lib.Seq.{take-suc, take-all}
 use borrow.Author.Tests.{not-true, not-false}
 use Rattle.graph.specs.Tables.{Lent}
-use Rattle.machine.specs.Answers.{Said, LoadingSaid, isLoaded}
+use Rattle.machine.specs.Answers.{StepSaid, LoadingSaid, isLoaded}
 use Rattle.machine.specs.Loading.{load}
 use Rattle.machine.specs.Reached.{Reached, begun, stepped}
 use Rattle.machine.specs.Traces.{Loaded, Stepped}
@@ -24,7 +24,7 @@ use Rattle.engine.specs.Promise.{BySteps, no-steps, then-step, Promised,
 
 -- from the loading of these bytes onto s₀, steps of these vertices, in this order, came to s
 pub data Came (bytes : List ℕ) (s₀ : Lent) (named : List ℕ) (s : Lent) : Type 0 where
-  came : (answers : List Said) (q : Reached bytes s₀ answers s) → BySteps bytes s₀ named answers s q → Came bytes s₀ named s
+  came : (answers : List StepSaid) (q : Reached bytes s₀ answers s) → BySteps bytes s₀ named answers s q → Came bytes s₀ named s
 
 loaded-came : {bytes : List ℕ} {s₀ u : Lent} {loading : LoadingSaid} → Loaded bytes s₀ loading u → isLoaded loading ≡ true → Came bytes s₀ [] u
 loaded-came {bytes} {s₀} l h =
@@ -32,7 +32,7 @@ loaded-came {bytes} {s₀} l h =
     subst (λ (x : Lent). Came bytes s₀ [] x) (sym (l .leaves)) (came [] (begun g) (no-steps g))
 
 step-came :
-    {bytes : List ℕ} {s₀ s s' : Lent} {named : List ℕ} {v : ℕ} {answer : Said} → Came bytes s₀ named s → Stepped bytes s v answer s'
+    {bytes : List ℕ} {s₀ s s' : Lent} {named : List ℕ} {v : ℕ} {answer : StepSaid} → Came bytes s₀ named s → Stepped bytes s v answer s'
     → Came bytes s₀ (named ++ (v ∷ [])) s'
 step-came {bytes} {s₀} {named = named} {v} (came answers q b) l =
     subst (λ (x : Lent). Came bytes s₀ (named ++ (v ∷ [])) x) (sym (l .leaves)) (came _ (stepped q v) (then-step b v))
@@ -45,7 +45,7 @@ pub onward-none : (bytes : List ℕ) (u : Lent) (named : List ℕ) → Onward by
 onward-none bytes u named = onward (λ s₀ h. h)
 
 pub onward-more :
-    {bytes : List ℕ} {u s s' : Lent} {named : List ℕ} {i : ℕ} {answer : Said} → Onward bytes u named i s → i < length named
+    {bytes : List ℕ} {u s s' : Lent} {named : List ℕ} {i : ℕ} {answer : StepSaid} → Onward bytes u named i s → i < length named
     → Stepped bytes s (getD named i 0) answer s' → Onward bytes u named (i + 1) s'
 onward-more {bytes} {s' = s'} {named} {i} (onward f) lt l =
     onward (λ s₀ h. rw (add-one i) (subst (λ (x : List ℕ). Came bytes s₀ x s') (sym (take-suc named i 0 lt)) (step-came (f s₀ h) l)))

@@ -30,7 +30,7 @@ use Rattle.graph.specs.Sound.{sound}
 use Rattle.graph.proofs.TestLaws.{below-suc, both-true, both-false-left, both-false-right, at-end}
 use Rattle.graph.proofs.SoundChecks.{sound-rows}
 use Rattle.refusal.specs.Refusals.{unsound-tables}
-use Rattle.machine.specs.Answers.{Said, accepted}
+use Rattle.machine.specs.Answers.{StepSaid, accepted}
 use Rattle.machine.specs.Stepping.{stepLimit, steppable, Due, due, step}
 use Rattle.machine.specs.Running.{canStep, lowest, chosen, choose, no-choice, choice-refused, Ending, spent, refused, allFinished, RunOutcome, ended, runOn, run}
 use Rattle.machine.specs.Traces.{Stepped, Ran}
@@ -78,7 +78,7 @@ due-here bytes v₀ e₀ v e marks t k known p q early made may not-may there =
 
 -- a step that is refused leaves the tables, and its vertex cannot step
 pub turned-down :
-    (bytes v₀ e₀ v e v' e' : List ℕ) (t t' : Tally) (k : ℕ) {r : Bool} (answer : Said) → v ≡ v₀ → e ≡ e₀
+    (bytes v₀ e₀ v e v' e' : List ℕ) (t t' : Tally) (k : ℕ) {r : Bool} (answer : StepSaid) → v ≡ v₀ → e ≡ e₀
     → Stepped bytes (lent v e t) k answer (lent v' e' t') → r ≡ not (accepted answer) → not r ≡ false → CannotBelow bytes (lent v₀ e₀ t) k
     → (v' ≡ v₀) × (e' ≡ e₀) × CannotBelow bytes (lent v₀ e₀ t) (k + 1)
 turned-down bytes v₀ e₀ v e v' e' t t' k answer p q stepped refuses is-refused lower =
@@ -93,7 +93,7 @@ turned-down bytes v₀ e₀ v e v' e' t t' k answer p q stepped refuses is-refus
 
 -- a step that is accepted is the lowest vertex's
 pub taken-up :
-    (bytes v₀ e₀ v e v' e' : List ℕ) (t t' : Tally) (k : ℕ) {r : Bool} (answer : Said) → v ≡ v₀ → e ≡ e₀ → k < t .made
+    (bytes v₀ e₀ v e v' e' : List ℕ) (t t' : Tally) (k : ℕ) {r : Bool} (answer : StepSaid) → v ≡ v₀ → e ≡ e₀ → k < t .made
     → Stepped bytes (lent v e t) k answer (lent v' e' t') → r ≡ not (accepted answer) → not r ≡ true → CannotBelow bytes (lent v₀ e₀ t) k
     → (u : ℕ) × (lowest bytes (lent v₀ e₀ t) ≡ some u) × Stepped bytes (lent v₀ e₀ t) u answer (lent v' e' t')
 taken-up bytes v₀ e₀ v e v' e' t t' k answer p q made stepped refuses not-refused lower =
@@ -200,7 +200,7 @@ run-starts bytes s budget h q =
 
 -- a run goes on behind a step
 on-step :
-    (bytes : List ℕ) (s : Lent) (n m : ℕ) (last : Option Said) (taken v : ℕ) {answer : Said} {s' : Lent} → n ≡ suc m → lowest bytes s ≡ some v
+    (bytes : List ℕ) (s : Lent) (n m : ℕ) (last : Option StepSaid) (taken v : ℕ) {answer : StepSaid} {s' : Lent} → n ≡ suc m → lowest bytes s ≡ some v
     → answer ≡ step bytes s v .answer → s' ≡ step bytes s v .after
     → runOn bytes n s last taken ≡ runOn bytes m s' (some answer) (taken + 1)
 on-step bytes s n m last taken v e low says leaves = rw (e, says, leaves, add-one taken) (goes-on bytes m s last taken v low)
@@ -211,7 +211,7 @@ left-none budget taken le = omega arith
 
 -- and the run ends
 on-used :
-    (bytes : List ℕ) (s : Lent) (last : Option Said) (taken : ℕ) (o : Option ℕ) → lowest bytes s ≡ o
+    (bytes : List ℕ) (s : Lent) (last : Option StepSaid) (taken : ℕ) (o : Option ℕ) → lowest bytes s ≡ o
     → runOn bytes 0 s last taken ≡ ended (endsWith o (allFinished s)) last taken s
 unfolding endsWith
 on-used bytes s last taken none low = rests bytes 0 s last taken low
@@ -219,7 +219,7 @@ on-used bytes s last taken (some v) low = used-up bytes s last taken v low
 
 -- a turn that takes a step
 pub run-turn :
-    (bytes : List ℕ) (s : Lent) (budget taken : ℕ) (last : Option Said) {o : RunOutcome} {a : Attempt} {d : Done} (vs es : List ℕ)
+    (bytes : List ℕ) (s : Lent) (budget taken : ℕ) (last : Option StepSaid) {o : RunOutcome} {a : Attempt} {d : Done} (vs es : List ℕ)
     → taken < budget → sound s ≡ true → o ≡ runOn bytes (budget - taken) s last taken → Attempted bytes s a vs es → a ≡ of-attempt.Taken d
     → (sound (lent vs es (d .tally)) ≡ true)
     × (o ≡ runOn bytes (budget - (taken + 1)) (lent vs es (d .tally)) (some (said (d .answer))) (taken + 1))
@@ -245,7 +245,7 @@ rest-is s h = sym h
 
 -- a turn that takes none
 pub run-rests :
-    (bytes v₀ e₀ : List ℕ) (t : Tally) (left taken : ℕ) (last : Option Said) {o : RunOutcome} {a : Attempt} {e : Ending} (vs es : List ℕ)
+    (bytes v₀ e₀ : List ℕ) (t : Tally) (left taken : ℕ) (last : Option StepSaid) {o : RunOutcome} {a : Attempt} {e : Ending} (vs es : List ℕ)
     → o ≡ runOn bytes left (lent v₀ e₀ t) last taken → Attempted bytes (lent v₀ e₀ t) a vs es → a ≡ of-attempt.NoStep
     → e ≡ atRest (every (λ k. eqb (status vs k) FINISHED) (t .made)) → o ≡ ended e last taken (lent vs es t)
 run-rests bytes v₀ e₀ t left taken last {o} {a} {e} vs es so attempted is rest =
@@ -257,7 +257,7 @@ run-rests bytes v₀ e₀ t left taken last {o} {a} {e} vs es so attempted is re
 
 -- a run whose budget is used
 pub run-used :
-    (bytes : List ℕ) (s : Lent) (budget taken : ℕ) (last : Option Said) {o : RunOutcome} {e : Ending} → budget ≤ taken
+    (bytes : List ℕ) (s : Lent) (budget taken : ℕ) (last : Option StepSaid) {o : RunOutcome} {e : Ending} → budget ≤ taken
     → o ≡ runOn bytes (budget - taken) s last taken → e ≡ whenUsed bytes s → o ≡ ended e last taken s
 run-used bytes s budget taken last le so is =
     so ∙ ap (λ (n : ℕ). runOn bytes n s last taken) (left-none budget taken le) ∙ on-used bytes s last taken (lowest bytes s) refl
@@ -265,7 +265,7 @@ run-used bytes s budget taken last le so is =
 
 -- so this is what a run answers and leaves
 pub ran :
-    (bytes : List ℕ) (s : Lent) (budget : ℕ) {e e' : Ending} {l l' : Option Said} {n n' : ℕ} (vs es : List ℕ) {t t' : Tally}
+    (bytes : List ℕ) (s : Lent) (budget : ℕ) {e e' : Ending} {l l' : Option StepSaid} {n n' : ℕ} (vs es : List ℕ) {t t' : Tally}
     → run bytes s budget ≡ ended e' l' n' (lent vs es t') → e ≡ e' → l ≡ l' → n ≡ n' → t ≡ t'
     → Ran bytes s budget e l n (lent vs es t)
 ran bytes s budget vs es h p q r u =

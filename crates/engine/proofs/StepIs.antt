@@ -19,7 +19,7 @@ use Rattle.graph.specs.declared.Tally.{Tally}
 use Rattle.graph.specs.declared.Done.{Done}
 use Rattle.graph.specs.declared.Command.{Command}
 use Rattle.graph.proofs.Demand2.{refused-keeps, effect}
-use Rattle.machine.specs.Answers.{Said, Outcome, oneStep, saidAs}
+use Rattle.machine.specs.Answers.{StepSaid, Outcome, oneStep, saidAs}
 use Rattle.machine.specs.Stepping as machine
 use Rattle.machine.specs.Stepping.{stepLimit, Due, due, stored, withOwn, doDue}
 use Rattle.machine.specs.Traces.{Stepped}
@@ -33,7 +33,7 @@ use Rattle.engine.specs.Private.{IsDue, is-due, DoesDue}
 
 -- a step is what is due, done
 stepped :
-    (bytes : List ℕ) (s : Lent) (k : ℕ) {d : Due} {a : Said} {after : Lent} → due bytes s k ≡ d → a ≡ doDue s k d .answer
+    (bytes : List ℕ) (s : Lent) (k : ℕ) {d : Due} {a : StepSaid} {after : Lent} → due bytes s k ≡ d → a ≡ doDue s k d .answer
     → after ≡ doDue s k d .after → Stepped bytes s k a after
 stepped bytes s k e p q =
     record {
@@ -53,7 +53,7 @@ ready-is : {s : Lent} {v : ℕ} {d : Due} → IsDue s v d → ReadyFor s v d
 ready-is {s} {v} {d} (is-due bytes same) = subst (λ (x : Due). ReadyFor s v x) (sym same) (ready-due bytes s v)
 
 -- a refusal is due
-pub refused-path : (s : Lent) (k n : ℕ) (d : code.Due) → d ≡ of-due.Refused n → DoesDue s k (dueOf d) (Said.refused n 0) s
+pub refused-path : (s : Lent) (k n : ℕ) (d : code.Due) → d ≡ of-due.Refused n → DoesDue s k (dueOf d) (StepSaid.refused n 0) s
 refused-path s k n d is bytes same = stepped bytes s k (sym same ∙ ap dueOf is) refl refl
 
 -- a job is due
@@ -65,7 +65,7 @@ module _ (v e : List ℕ) (t : Tally) (k n p : ℕ) (w : Own) (d : code.Due) (is
   pub job-path :
       (v' : List ℕ) (t' : Tally) → v' ≡ stored v k (ownWords w)
       → (t' .made ≡ t .made) × (t' .held ≡ t .held) × (t' .steps ≡ t .steps + 1)
-      → DoesDue (lent v e t) k (dueOf d) (Said.job n p) (lent v' e t')
+      → DoesDue (lent v e t) k (dueOf d) (StepSaid.job n p) (lent v' e t')
   job-path v' t' words counted bytes same =
       stepped bytes (lent v e t) k (sym same ∙ ap dueOf is) refl (stored-counted v e t t' v' k (ownWords w) words counted)
 
@@ -87,7 +87,7 @@ module _ (v e : List ℕ) (t : Tally) (k : ℕ) (c : Command) (w : Own) (d : cod
 
   -- it is refused
   pub turned-path :
-      (a : Said) → b ≡ true → a ≡ saidAs (of-graph.said (done .answer))
+      (a : StepSaid) → b ≡ true → a ≡ saidAs (of-graph.said (done .answer))
       → DoesDue (lent v e t) k (dueOf d) a (lent v' e' (done .tally))
   turned-path a h q bytes same =
       let no : of-graph.accepted (command c (lent v e t) .answer) ≡ false =
@@ -107,7 +107,7 @@ module _ (v e : List ℕ) (t : Tally) (k : ℕ) (c : Command) (w : Own) (d : cod
       (rw long (ready .0), rw steps (ready .1))
 
   pub taken-path :
-      (a : Said) (v'' : List ℕ) (t'' : Tally) → b ≡ false → a ≡ saidAs (of-graph.said (done .answer)) → v'' ≡ stored v' k (ownWords w)
+      (a : StepSaid) (v'' : List ℕ) (t'' : Tally) → b ≡ false → a ≡ saidAs (of-graph.said (done .answer)) → v'' ≡ stored v' k (ownWords w)
       → (t'' .made ≡ done .tally .made) × (t'' .held ≡ done .tally .held) × (t'' .steps ≡ done .tally .steps + 1)
       → DoesDue (lent v e t) k (dueOf d) a (lent v'' e' t'')
   taken-path a v'' t'' h q words counted bytes same =

@@ -1,7 +1,7 @@
 -- "Where an answer is an enum, a definition gives this paper's number and values for each of its cases": the plain machine's answers have
 -- them.
 use mathlib.Core.Option.{Option, none, some}
-use Rattle.machine.specs.Answers.{Said, LoadingSaid, loaded, loading-refused}
+use Rattle.machine.specs.Answers.{StepSaid, LoadingSaid, loaded, loading-refused}
 use Rattle.machine.specs.Running.{done, stuck, spent, refused, Choice, choose, no-choice, choice-refused}
 use Rattle.machine.specs.Running as machine-run
 use Rattle.machine.specs.Stepping as machine
@@ -25,15 +25,15 @@ loadingSaid of-loading.Loaded = loaded
 loadingSaid (of-loading.Refused r) = loading-refused (r .number) (r .place)
 
 -- what a step says
-abbrev pub said : Answer → Said
-said of-answer.Start = Said.start
-said (of-answer.New v) = Said.new v
-said (of-answer.Edge a b) = Said.edge a b
-said (of-answer.Release v) = Said.release v
-said (of-answer.Transfer v) = Said.transfer v
-said (of-answer.Job n o) = Said.job n o
-said of-answer.Stop = Said.stop
-said (of-answer.Refused r) = Said.refused (r .number) (r .place)
+abbrev pub said : Answer → StepSaid
+said of-answer.Start = StepSaid.start
+said (of-answer.New v) = StepSaid.new v
+said (of-answer.Edge a b) = StepSaid.edge a b
+said (of-answer.Release v) = StepSaid.release v
+said (of-answer.Transfer v) = StepSaid.transfer v
+said (of-answer.Job n o) = StepSaid.job n o
+said of-answer.Stop = StepSaid.stop
+said (of-answer.Refused r) = StepSaid.refused (r .number) (r .place)
 
 -- how a run ends
 abbrev pub endingOf : Ending → machine-run.Ending
@@ -43,7 +43,7 @@ endingOf of-ending.Spent = spent
 endingOf (of-ending.Refused r) = refused (r .number) (r .place)
 
 -- its last step
-abbrev pub lastOf : LastStep → Option Said
+abbrev pub lastOf : LastStep → Option StepSaid
 lastOf of-last.NoStep = none
 lastOf (of-last.Step a) = some (said a)
 

@@ -12,7 +12,7 @@ use Rattle.graph.specs.Commands.{hasStatus, command}
 use Rattle.graph.specs.declared.Command.the-variants.{Start}
 use Rattle.program.specs.Answers.{Stands}
 use Rattle.program.specs.Located.{itemAt}
-use Rattle.machine.specs.Answers.{Said}
+use Rattle.machine.specs.Answers.{StepSaid}
 use Rattle.machine.specs.Stepping.{scope, place, task, Own, own, ownOf, Due, refusal-due, job-due, command-due, nextAt, due}
 use Rattle.machine.specs.Running.{canStep, lowest, allFinished, Ending, done, stuck, spent}
 use Rattle.machine.specs.Traces.{Stepped}
@@ -45,7 +45,7 @@ pub data IsDue (s : Lent) (v : ℕ) (d : Due) : Type 0 where
   is-due : (bytes : List ℕ) → d ≡ due bytes s v → IsDue s v d
 
 -- what is due was done: this is the step, in every program where d is due
-abbrev pub DoesDue : Lent → ℕ → Due → Said → Lent → Type 0
+abbrev pub DoesDue : Lent → ℕ → Due → StepSaid → Lent → Type 0
 DoesDue s v d answer after = (bytes : List ℕ) → d ≡ due bytes s v → Stepped bytes s v answer after
 
 -- what is due would be accepted

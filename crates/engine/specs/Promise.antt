@@ -6,17 +6,17 @@ use mathlib.Core.List.{List, [], _∷_, _++_}
 use Rattle.graph.specs.Tables.{Lent}
 use Rattle.program.specs.Trees.{Body}
 use Rattle.program.specs.Reader.{program, reading}
-use Rattle.machine.specs.Answers.{Said, LoadingSaid, isLoaded}
+use Rattle.machine.specs.Answers.{StepSaid, LoadingSaid, isLoaded}
 use Rattle.machine.specs.Loading.{load}
 use Rattle.machine.specs.Stepping.{step}
 use Rattle.machine.specs.Reached.{Reached, begun, stepped}
 use Rattle.machine.specs.Demand3.{acceptedIn, Demand3}
 
 -- what was reached, was reached by steps of these vertices, in this order
-pub data BySteps (bytes : List ℕ) (s₀ : Lent) : List ℕ → (answers : List Said) → (s : Lent) → Reached bytes s₀ answers s → Type 0 where
+pub data BySteps (bytes : List ℕ) (s₀ : Lent) : List ℕ → (answers : List StepSaid) → (s : Lent) → Reached bytes s₀ answers s → Type 0 where
   no-steps : (h : isLoaded (load bytes s₀ .answer) ≡ true) → BySteps bytes s₀ [] [] (load bytes s₀ .after) (begun h)
   then-step :
-      {named : List ℕ} {answers : List Said} {s : Lent} {q : Reached bytes s₀ answers s} → BySteps bytes s₀ named answers s q → (v : ℕ)
+      {named : List ℕ} {answers : List StepSaid} {s : Lent} {q : Reached bytes s₀ answers s} → BySteps bytes s₀ named answers s q → (v : ℕ)
       → BySteps bytes s₀ (named ++ (v ∷ [])) (answers ++ (step bytes s v .answer ∷ [])) (step bytes s v .after) (stepped q v)
 
 -- A loading that is refused changes nothing. After one that is accepted, demand 3 holds of the list; so many of its steps were accepted.
@@ -24,6 +24,6 @@ pub data Promised (bytes : List ℕ) (s₀ : Lent) (named : List ℕ) (loading :
   not-loaded :
       loading ≡ load bytes s₀ .answer → isLoaded loading ≡ false → count ≡ 0 → after ≡ s₀ → Promised bytes s₀ named loading count after
   demand-3 :
-      loading ≡ load bytes s₀ .answer → isLoaded loading ≡ true → (t : Body) → reading bytes ≡ program t → (answers : List Said)
+      loading ≡ load bytes s₀ .answer → isLoaded loading ≡ true → (t : Body) → reading bytes ≡ program t → (answers : List StepSaid)
       → (q : Reached bytes s₀ answers after) → BySteps bytes s₀ named answers after q → count ≡ acceptedIn answers → Demand3 bytes t q
       → Promised bytes s₀ named loading count after

@@ -35,7 +35,7 @@ ghost use Rattle.graph.specs.Search.{Rows};
 ghost use Rattle.graph.specs.Commands.{command};
 ghost use Rattle.graph.specs.Answers as of-graph;
 ghost use Rattle.program.specs.Limits.{programBytes};
-ghost use Rattle.program.specs.Located.{Marked};
+ghost use Rattle.program.specs.Located.{MarksStarts};
 ghost use Rattle.refusal.specs.Refusals.{unsound-tables};
 ghost use Rattle.machine.specs.Running.{lowest, chosen, choice, choice-refused};
 ghost use Rattle.engine.specs.Answers.{dueOf, choiceOf};
@@ -73,7 +73,7 @@ pub(crate) fn lowest_marked(
     edges: &[u32],
     tally: Tally,
 ) -> Lowest
-    requires { ⌜ Marked (now program) (now marks) × (length (now marks) ≡ programBytes) × (sound (lent (now vertices) (now edges) tally) ≡ true) ⌝ }
+    requires { ⌜ MarksStarts (now program) (now marks) × (length (now marks) ≡ programBytes) × (sound (lent (now vertices) (now edges) tally) ≡ true) ⌝ }
     ensures { λ r. ⌜ choiceOf r ≡ chosen (lowest (now (program .entry)) (lent (now (vertices .entry)) (now (edges .entry)) tally)) ⌝ }
 {
     if STEP_LIMIT <= tally.steps {

@@ -30,7 +30,7 @@ ghost use Rattle.graph.specs.Tables.{lent, vertexWords};
 ghost use Rattle.graph.specs.declared.Command.the-variants.{NewTd, NewEdge, Release, Transfer};
 ghost use Rattle.program.specs.Limits.{programBytes};
 ghost use Rattle.program.specs.Answers.{Stands};
-ghost use Rattle.program.specs.Located.{startsAt, Marked};
+ghost use Rattle.program.specs.Located.{startsAt, MarksStarts};
 ghost use Rattle.machine.specs.Stepping as machine;
 ghost use Rattle.machine.specs.Stepping.{due};
 ghost use Rattle.engine.specs.Answers.{ownWords, dueOf};
@@ -91,7 +91,7 @@ pub(crate) fn marked_due(
     made: u32,
     vertex: u32,
 ) -> Due
-    requires { ⌜ Marked (now program) (now marks) × (length (now marks) ≡ programBytes) × (vertexWords * vertex + vertexWords ≤ length (now vertices)) ⌝ }
+    requires { ⌜ MarksStarts (now program) (now marks) × (length (now marks) ≡ programBytes) × (vertexWords * vertex + vertexWords ≤ length (now vertices)) ⌝ }
     ensures { λ r. ⌜ DueThere (now (program .entry)) (now (vertices .entry)) made vertex (dueOf r) ⌝ }
 {
     let at = VERTEX_WORDS * (vertex as usize);

@@ -34,7 +34,7 @@ ghost use Rattle.graph.specs.Tests.{every};
 ghost use Rattle.graph.specs.Tables.{lent, vertexWords, status, FINISHED};
 ghost use Rattle.graph.specs.Sound.{sound};
 ghost use Rattle.program.specs.Limits.{programBytes};
-ghost use Rattle.program.specs.Located.{Marked};
+ghost use Rattle.program.specs.Located.{MarksStarts};
 ghost use Rattle.refusal.specs.Refusals.{unsound-tables};
 ghost use Rattle.machine.specs.Answers.{accepted};
 ghost use Rattle.machine.specs.Running as of-run;
@@ -122,7 +122,7 @@ fn take_lowest(
     edges: &mut [u32],
     tally: Tally,
 ) -> Attempt
-    requires { ⌜ Marked (now program) (now marks) × (length (now marks) ≡ programBytes) × (sound (lent (now vertices) (now edges) tally) ≡ true) ⌝ }
+    requires { ⌜ MarksStarts (now program) (now marks) × (length (now marks) ≡ programBytes) × (sound (lent (now vertices) (now edges) tally) ≡ true) ⌝ }
     ensures { λ r. ⌜ Attempted (now (program .entry)) (lent (now (vertices .entry)) (now (edges .entry)) tally) r (now (vertices .exit)) (now (edges .exit)) ⌝ }
 {
     if STEP_LIMIT <= tally.steps {
@@ -169,7 +169,7 @@ fn take_lowest_from(
     tally: Tally,
     first: u32,
 ) -> Attempt
-    requires { ⌜ Marked (now program) (now marks) × (length (now marks) ≡ programBytes) × (sound (lent (now vertices) (now edges) tally) ≡ true) × (tally .steps < stepLimit) × (first ≤ tally .made) × CannotBelow (now program) (lent (now vertices) (now edges) tally) first ⌝ }
+    requires { ⌜ MarksStarts (now program) (now marks) × (length (now marks) ≡ programBytes) × (sound (lent (now vertices) (now edges) tally) ≡ true) × (tally .steps < stepLimit) × (first ≤ tally .made) × CannotBelow (now program) (lent (now vertices) (now edges) tally) first ⌝ }
     ensures { λ r. ⌜ Attempted (now (program .entry)) (lent (now (vertices .entry)) (now (edges .entry)) tally) r (now (vertices .exit)) (now (edges .exit)) ⌝ }
 {
     let mut blocked = [0u8; USABLE_LIMIT];
@@ -206,7 +206,7 @@ pub(crate) fn step_refused(answer: Answer) -> bool
 
 // How a run ends whose budget is used.
 fn when_used(program: &[u8], marks: &[u8], vertices: &[u32], edges: &[u32], tally: Tally) -> Ending
-    requires { ⌜ Marked (now program) (now marks) × (length (now marks) ≡ programBytes) × (sound (lent (now vertices) (now edges) tally) ≡ true) ⌝ }
+    requires { ⌜ MarksStarts (now program) (now marks) × (length (now marks) ≡ programBytes) × (sound (lent (now vertices) (now edges) tally) ≡ true) ⌝ }
     ensures { λ r. ⌜ endingOf r ≡ whenUsed (now (program .entry)) (lent (now (vertices .entry)) (now (edges .entry)) tally) ⌝ }
 {
     let found = lowest_marked(program, marks, vertices, edges, tally);

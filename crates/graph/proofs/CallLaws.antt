@@ -15,7 +15,7 @@ use Rattle.graph.specs.declared.Tally.{Tally}
 use Rattle.graph.specs.Tables.{Lent, lent, usableLimit, vertexWords, statusWord, edgeWords, vertexRows, edgeRows, RELEASED, FINISHED}
 use Rattle.graph.specs.Tables.{status, setStatus, clear}
 use Rattle.refusal.specs.Refusals.{too-few-vertex-rows, unsound-tables}
-use Rattle.graph.specs.Answers.{Said, said, Outcome, outcome, opened, opening-refused, unless, decided}
+use Rattle.graph.specs.Answers.{CommandSaid, said, Outcome, outcome, opened, opening-refused, unless, decided}
 use Rattle.graph.specs.Sound.{sound}
 use Rattle.graph.specs.Search.{Searchable}
 use Rattle.graph.specs.Commands.{openedTables, opening, callerRefusal, newTdRefusal, newEdgeRefusal, releaseRefusal}
@@ -25,20 +25,20 @@ use Rattle.graph.proofs.TestLaws.{both-true, both-false-left, both-fals
 use Rattle.graph.proofs.TakenLaws.{Runs, taken, taken-caller, unsound}
 use Rattle.graph.proofs.RefusalLaws.{unless-pass, unless-stop, decided-is}
 
-due : (s : Lent) (k : ℕ) (a : Said) (s' : Lent) → (k ≡ 0 → ⊥) → _≡_ {A = Outcome} (record { answer = Said.refused k 0; after = s }) (decided s k a s')
+due : (s : Lent) (k : ℕ) (a : CommandSaid) (s' : Lent) → (k ≡ 0 → ⊥) → _≡_ {A = Outcome} (record { answer = CommandSaid.refused k 0; after = s }) (decided s k a s')
 unfolding decided
 due s zero a s' z = absurd (z refl)
 due s (suc k) a s' z = refl
 
 -- a refused call
 pub refused-outcome :
-    (r : Done) (v e : List ℕ) (t : Tally) {m n : ℕ} (a : Said) (s' : Lent) → m ≡ n → (m ≡ 0 → ⊥)
-    → (said (r .answer) ≡ Said.refused m 0) × (r .tally ≡ t) → outcome r v e ≡ decided (lent v e t) n a s'
+    (r : Done) (v e : List ℕ) (t : Tally) {m n : ℕ} (a : CommandSaid) (s' : Lent) → m ≡ n → (m ≡ 0 → ⊥)
+    → (said (r .answer) ≡ CommandSaid.refused m 0) × (r .tally ≡ t) → outcome r v e ≡ decided (lent v e t) n a s'
 refused-outcome r v e t {m} {n} a s' p q h =
     (λ i. record { answer = h .0 i; after = lent v e (h .1 i) }) ∙ due (lent v e t) m a s' q ∙ ap (λ (k : ℕ). decided (lent v e t) k a s') p
 
 -- an accepted one
-pub accepted-outcome : {o : Outcome} (s : Lent) {m n : ℕ} (a : Said) (s' : Lent) → m ≡ n → m ≡ 0 → o ≡ record { answer = a; after = s' } → o ≡ decided s n a s'
+pub accepted-outcome : {o : Outcome} (s : Lent) {m n : ℕ} (a : CommandSaid) (s' : Lent) → m ≡ n → m ≡ 0 → o ≡ record { answer = a; after = s' } → o ≡ decided s n a s'
 accepted-outcome s {n = n} a s' p q h = h ∙ sym (decided-is s n a s' (sym p ∙ q))
 
 -- A chain of tests, test by test: one that passes hands over to the rest, one that does not answers its number. A `cond` answers
@@ -213,5 +213,5 @@ command-case s p h = h ∙ ap (λ (x : Command). command x s) (sym p)
 -- a command that is refused at the door
 pub unsound-outcome :
     (r : Done) (v e : List ℕ) (t : Tally) (c : Command) → sound (lent v e t) ≡ false
-    → (said (r .answer) ≡ Said.refused unsound-tables 0) × (r .tally ≡ t) → outcome r v e ≡ command c (lent v e t)
+    → (said (r .answer) ≡ CommandSaid.refused unsound-tables 0) × (r .tally ≡ t) → outcome r v e ≡ command c (lent v e t)
 unsound-outcome r v e t c p h = (λ i. record { answer = h .0 i; after = lent v e (h .1 i) }) ∙ sym (unsound c (lent v e t) p)

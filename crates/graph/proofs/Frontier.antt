@@ -14,7 +14,7 @@ use lib.ListN.{length, getD, set, replicate, length-set}
 use lib.Seq.{getD-set-same, getD-set-other}
 use Rattle.graph.specs.Tables.{usableLimit, source, target}
 use Rattle.graph.specs.Paths.{Leads, one, more, holds, reaches}
-use Rattle.graph.specs.Search.{last, blank, zeros, Room, Marked, Counts, Covered, Frontier}
+use Rattle.graph.specs.Search.{last, blank, zeros, Room, IsMarked, Sought, Covered, Frontier}
 use Rattle.graph.proofs.TestLaws.{true-false, equal?, below-suc}
 use Rattle.graph.proofs.PathLaws.{go-on, holds-at, held-row, reaches-is}
 use Rattle.graph.proofs.Chains.{last-row, below-last, blank-long}
@@ -54,26 +54,26 @@ blank-at zero x = refl
 blank-at (suc n) zero = refl
 blank-at (suc n) (suc x) = blank-at n x
 
-unmarked : {m : List ℕ} → m ≡ blank → (x : ℕ) → Marked m x → ⊥
+unmarked : {m : List ℕ} → m ≡ blank → (x : ℕ) → IsMarked m x → ⊥
 unmarked h x p = omega (arith, ap (λ (l : List ℕ). getD l x 0) h ∙ blank-at usableLimit x)
 
-marked-below : (m : List ℕ) (x : ℕ) → Marked m x → x < length m
+marked-below : (m : List ℕ) (x : ℕ) → IsMarked m x → x < length m
 marked-below [] x h = absurd (omega arith)
 marked-below (y ∷ m) zero h = omega arith
 marked-below (y ∷ m) (suc x) h = omega (arith, marked-below m x h)
 
 module _ (m : List ℕ) (s : ℕ) (lt : s < length m) where
-  mark-new : Marked (set m s 1) s
+  mark-new : IsMarked (set m s 1) s
   mark-new = omega (arith, getD-set-same m s 1 0 lt)
 
-  mark-kept : (x : ℕ) → Marked m x → Marked (set m s 1) x
+  mark-kept : (x : ℕ) → IsMarked m x → IsMarked (set m s 1) x
   mark-kept x h =
       ⊎-elim
-      (λ e. subst (λ (y : ℕ). Marked (set m s 1) y) (sym e) mark-new)
+      (λ e. subst (λ (y : ℕ). IsMarked (set m s 1) y) (sym e) mark-new)
       (λ e. omega (arith, getD-set-other m s x 1 0 e))
       (equal? x s)
 
-  mark-was : (x : ℕ) → Marked (set m s 1) x → (x ≡ s) ⊎ Marked m x
+  mark-was : (x : ℕ) → IsMarked (set m s 1) x → (x ≡ s) ⊎ IsMarked m x
   mark-was x h = ⊎-elim (λ e. inl e) (λ e. inr (omega (arith, getD-set-other m s x 1 0 e))) (equal? x s)
 
 -- ---- the steps
@@ -96,11 +96,11 @@ module _ {e : List ℕ} {n to v head c : ℕ} {m q : List ℕ} {tail : ℕ} (f :
   queued-usable r k lt = omega (arith, marked-below m (getD q k 0) (f .queued k lt))
 
   -- a marked vertex is an answer
-  pub answer-yes : (a : ℕ) → Marked m a → true ≡ reaches e n a to
+  pub answer-yes : (a : ℕ) → IsMarked m a → true ≡ reaches e n a to
   answer-yes a h = reaches-is e n a to true (λ r. f .leads a h) (λ p. refl)
 
   -- row i is followed, and its source is marked
-  pub seen : (i d : ℕ) → c ≡ suc i → d ≡ last e (target e i) i → Marked m (source e i) → Frontier e n to v head d m q tail
+  pub seen : (i d : ℕ) → c ≡ suc i → d ≡ last e (target e i) i → IsMarked m (source e i) → Frontier e n to v head d m q tail
   seen i d p h marked =
       let (held, here) = f .row i p in
       let h′ : d ≡ last e v i = h ∙ ap (λ (x : ℕ). last e x i) here in
@@ -117,7 +117,7 @@ module _ {e : List ℕ} {n to v head c : ℕ} {m q : List ℕ} {tail : ℕ} (f :
             (⊎-elim
             (λ a.
             ⊎-elim
-            (λ b. inl (subst (λ (x : ℕ). Marked m (source e x)) (sym b) marked))
+            (λ b. inl (subst (λ (x : ℕ). IsMarked m (source e x)) (sym b) marked))
             (λ b. inr (inl (a .0, omega (arith, below-last e v i k b (a .0)))))
             (below-suc (subst (λ (x : ℕ). k < x) p (a .1))))
             (λ a. inr (inr a)))
@@ -132,8 +132,8 @@ module _ {e : List ℕ} {n to v head c : ℕ} {m q : List ℕ} {tail : ℕ} (f :
         queued =
             λ k l.
             ⊎-elim
-            (λ b. subst (λ (x : ℕ). Marked (set m s 1) x) (sym (ap (λ (x : ℕ). getD (set q tail s) x 0) b ∙ put)) (mark-new m s lt))
-            (λ b. subst (λ (x : ℕ). Marked (set m s 1) x) (sym (stays k b)) (kept (getD q k 0) (f .queued k b)))
+            (λ b. subst (λ (x : ℕ). IsMarked (set m s 1) x) (sym (ap (λ (x : ℕ). getD (set q tail s) x 0) b ∙ put)) (mark-new m s lt))
+            (λ b. subst (λ (x : ℕ). IsMarked (set m s 1) x) (sym (stays k b)) (kept (getD q k 0) (f .queued k b)))
             (below-suc {i = k} {n = tail} (rw add-one at l));
         leads = λ x l. ⊎-elim (λ a. subst (λ (y : ℕ). Leads (holds e n) y to) (is ∙ sym a) path) (λ a. f .leads x a) (mark-was m s lt x l);
         counts = ⊎-elim (λ a. inl a) (λ a. inr (kept v a)) (f .counts);
@@ -149,7 +149,7 @@ module _ {e : List ℕ} {n to v head c : ℕ} {m q : List ℕ} {tail : ℕ} (f :
             (mark-was m s lt (target e k) a));
       }
     where
-      kept : (x : ℕ) → Marked m x → Marked (set m s 1) x
+      kept : (x : ℕ) → IsMarked m x → IsMarked (set m s 1) x
       kept = mark-kept m s lt
 
       put : getD (set q tail s) tail 0 ≡ s
@@ -205,16 +205,16 @@ module _ {e : List ℕ} {n to v head : ℕ} {m q : List ℕ} {tail : ℕ} (f : F
             (f .closed i l r);
       }
 
-  source-marked : head ≡ tail → (x y : ℕ) → holds e n x y ≡ true → Counts to m y → Marked m x
+  source-marked : head ≡ tail → (x y : ℕ) → holds e n x y ≡ true → Sought to m y → IsMarked m x
   source-marked done x y h r =
       let (i, lt, from, into) = held-row e n x y h in
       ⊎-elim
-      (λ a. subst (λ (k : ℕ). Marked m k) from a)
+      (λ a. subst (λ (k : ℕ). IsMarked m k) from a)
       (⊎-elim (λ a. absurd (omega arith)) (λ a. absurd (omega arith)))
-      (f .closed i lt (subst (λ (k : ℕ). Counts to m k) (sym into) r))
+      (f .closed i lt (subst (λ (k : ℕ). Sought to m k) (sym into) r))
 
   -- or the queue is at its end: each vertex is marked from which a path leads to the one to be reached
-  pub over : head ≡ tail → {a b : ℕ} → Leads (holds e n) a b → b ≡ to → Marked m a
+  pub over : head ≡ tail → {a b : ℕ} → Leads (holds e n) a b → b ≡ to → IsMarked m a
   over done (one {a = a} {b = b} h) p = source-marked done a b h (inl p)
   over done (more {a = a} {b = b} h l) p = source-marked done a b h (inr (over done l p))
 

@@ -18,12 +18,12 @@ use Rattle.graph.specs.declared.Command.the-variants.{NewTd, NewEdge, Re
 use Rattle.graph.specs.Tests.{both, either, any, every}
 use Rattle.graph.specs.Tables.{Lent, NEW, RELEASED, EXECUTING, FINISHED, status}
 use Rattle.refusal.specs.Refusals.{closes-cycle, unsound-tables, no-such-vertex, caller-not-executing}
-use Rattle.graph.specs.Answers.{Said, accepted, unless}
+use Rattle.graph.specs.Answers.{CommandSaid, accepted, unless}
 use Rattle.graph.specs.Sound.{tallyFits, statusKnown, statusesKnown, endsMade, edgesMade, sound}
 use Rattle.graph.specs.Paths.{holds, leadsInto, leadsOutOf, reaches}
 use Rattle.graph.specs.Commands.{isMade, targetReaches, callerRefusal, newTdRefusal, newEdgeRefusal, releaseRefusal}
 use Rattle.graph.specs.Commands.{transferRefusal, startRefusal, stopRefusal, command}
-use Rattle.graph.specs.Demand2.{Reasons, no-more, refused-where, accepted-where, Due, NoneDue, NoneBefore, reasons}
+use Rattle.graph.specs.Demand2.{Reasons, no-more, refused-where, accepted-where, RefusalDue, NoneDue, NoneBefore, reasons}
 use Rattle.graph.specs.Demand2.{Unsound, HasStatus, EdgeOutOf, EdgeInto, EdgeHeld, NewEdgeCycle, TransferCycle}
 use Rattle.graph.proofs.TestLaws.{true-false, equal?, not-of-true, both-true, both-left, both-right, either-left, either-right}
 use Rattle.graph.proofs.TestLaws.{either-cases, either-false, either-false-left, either-false-right}
@@ -35,7 +35,7 @@ use Rattle.graph.proofs.TakenLaws.{refusal, not-refused, is-accepted, a
 -- A chain gives the number that is due, and 0 where none is.
 data Tells (R : Reasons) (r : ℕ) : Type 0 where
   none : r ≡ 0 → NoneDue R → Tells R r
-  some : (r ≡ 0 → ⊥) → Due r R → Tells R r
+  some : (r ≡ 0 → ⊥) → RefusalDue r R → Tells R r
 
 -- a reason that does not hold
 passes : {P : Type 0} {R : Reasons} {n r : ℕ} → (P → ⊥) → Tells R r → Tells (refused-where P n R) r
@@ -64,7 +64,7 @@ ends : Tells no-more 0
 ends = none refl tt
 
 -- One number at most is due, and none where nothing is.
-due-once : (R : Reasons) (m n : ℕ) → Due m R → Due n R → m ≡ n
+due-once : (R : Reasons) (m n : ℕ) → RefusalDue m R → RefusalDue n R → m ≡ n
 due-once no-more m n p q = absurd p
 due-once (refused-where P k R) m n (inl p) (inl q) = p .1 ∙ sym (q .1)
 due-once (refused-where P k R) m n (inl p) (inr q) = absurd (q .0 (p .0))
@@ -72,7 +72,7 @@ due-once (refused-where P k R) m n (inr p) (inl q) = absurd (p .0 (q .0))
 due-once (refused-where P k R) m n (inr p) (inr q) = due-once R m n (p .1) (q .1)
 due-once (accepted-where P R) m n p q = due-once R m n (p .1) (q .1)
 
-due-none : (R : Reasons) (n : ℕ) → NoneDue R → Due n R → ⊥
+due-none : (R : Reasons) (n : ℕ) → NoneDue R → RefusalDue n R → ⊥
 due-none no-more n p q = q
 due-none (refused-where P k R) n p (inl q) = p .0 (q .0)
 due-none (refused-where P k R) n p (inr q) = due-none R n (p .1) (q .1)
@@ -229,26 +229,26 @@ refusal-tells (Stop t) s =
 
 -- A command is refused with n at p exactly where p is 0 and n is due: its reason holds, and nothing before it does.
 pub command-refused :
-    (c : Command) (s : Lent) (n p : ℕ) → (command c s .answer ≡ Said.refused n p) ↔ ((p ≡ 0) × Due n (reasons c s))
+    (c : Command) (s : Lent) (n p : ℕ) → (command c s .answer ≡ CommandSaid.refused n p) ↔ ((p ≡ 0) × RefusalDue n (reasons c s))
 command-refused c s n p = (λ h. there (refusal-tells c s) (said .0 h), λ h. said .1 (back (refusal-tells c s) h))
   where
-    said : (command c s .answer ≡ Said.refused n p) ↔ ((refusal c s ≡ 0 → ⊥) × (refusal c s ≡ n) × (p ≡ 0))
+    said : (command c s .answer ≡ CommandSaid.refused n p) ↔ ((refusal c s ≡ 0 → ⊥) × (refusal c s ≡ n) × (p ≡ 0))
     said = answer-refused c s n p
 
     there :
         Tells (reasons c s) (refusal c s) → (refusal c s ≡ 0 → ⊥) × (refusal c s ≡ n) × (p ≡ 0)
-        → (p ≡ 0) × Due n (reasons c s)
+        → (p ≡ 0) × RefusalDue n (reasons c s)
     there (none z q) h = absurd (h .0 z)
-    there (some z q) h = (h .2, subst (λ (r : ℕ). Due r (reasons c s)) (h .1) q)
+    there (some z q) h = (h .2, subst (λ (r : ℕ). RefusalDue r (reasons c s)) (h .1) q)
 
     back :
-        Tells (reasons c s) (refusal c s) → (p ≡ 0) × Due n (reasons c s)
+        Tells (reasons c s) (refusal c s) → (p ≡ 0) × RefusalDue n (reasons c s)
         → (refusal c s ≡ 0 → ⊥) × (refusal c s ≡ n) × (p ≡ 0)
     back (none z q) h = absurd (due-none (reasons c s) n q (h .1))
     back (some z q) h = (z, due-once (reasons c s) (refusal c s) n q (h .1), h .0)
 
 -- "The place is an offset for 2 to 7, else 0": of every refusal of a command it is 0.
-pub refused-place : (c : Command) (s : Lent) (n p : ℕ) → command c s .answer ≡ Said.refused n p → p ≡ 0
+pub refused-place : (c : Command) (s : Lent) (n p : ℕ) → command c s .answer ≡ CommandSaid.refused n p → p ≡ 0
 refused-place c s n p h = command-refused c s n p .0 h .0
 
 -- A command is accepted exactly where no refusal is due.
@@ -265,12 +265,12 @@ command-accepted c s = (λ h. there (refusal-tells c s) (not-refused c s h), λ 
 
 -- Q is the reason with the number n, and the only one.
 data Only (n : ℕ) (Q : Type 0) : Reasons → Type 1 where
-  here : {R : Reasons} → (Due n R → ⊥) → Only n Q (refused-where Q n R)
+  here : {R : Reasons} → (RefusalDue n R → ⊥) → Only n Q (refused-where Q n R)
   behind : {P : Type 0} {m : ℕ} {R : Reasons} → (n ≡ m → ⊥) → Only n Q R → Only n Q (refused-where P m R)
   past : {P : Type 0} {R : Reasons} → Only n Q R → Only n Q (accepted-where P R)
 
 -- So n is due exactly where Q holds and nothing before it does.
-due-only : {n : ℕ} {Q : Type 0} {R : Reasons} → Only n Q R → Due n R ↔ (NoneBefore n R × Q)
+due-only : {n : ℕ} {Q : Type 0} {R : Reasons} → Only n Q R → RefusalDue n R ↔ (NoneBefore n R × Q)
 due-only (here f) = (⊎-elim (λ h. (inl refl, h .0)) (λ h. absurd (f (h .1))), λ h. inl (h .1, refl))
 due-only (behind f o) =
     let d = due-only o in (
@@ -283,7 +283,7 @@ due-only (past o) =
 
 refused-only :
     (c : Command) (s : Lent) (n : ℕ) {Q : Type 0} → Only n Q (reasons c s)
-    → (command c s .answer ≡ Said.refused n 0) ↔ (NoneBefore n (reasons c s) × Q)
+    → (command c s .answer ≡ CommandSaid.refused n 0) ↔ (NoneBefore n (reasons c s) × Q)
 refused-only c s n o =
     let d = due-only o in
     (λ h. d .0 (command-refused c s n 0 .0 h .1), λ h. command-refused c s n 0 .1 (refl, d .1 h))
@@ -291,7 +291,7 @@ refused-only c s n o =
 -- "Cycle for newEdge: t1 is t2 or t2 reaches t1."
 pub newEdge-cycle :
     (s : Lent) (t t1 t2 : ℕ)
-    → (command (NewEdge t t1 t2) s .answer ≡ Said.refused closes-cycle 0)
+    → (command (NewEdge t t1 t2) s .answer ≡ CommandSaid.refused closes-cycle 0)
     ↔ (NoneBefore closes-cycle (reasons (NewEdge t t1 t2) s) × NewEdgeCycle s t1 t2)
 newEdge-cycle s t t1 t2 =
     refused-only (NewEdge t t1 t2) s closes-cycle
@@ -306,7 +306,7 @@ newEdge-cycle s t t1 t2 =
 -- "For transfer: some target of t is t' or reaches t'."
 pub transfer-cycle :
     (s : Lent) (t t' : ℕ)
-    → (command (Transfer t t') s .answer ≡ Said.refused closes-cycle 0)
+    → (command (Transfer t t') s .answer ≡ CommandSaid.refused closes-cycle 0)
     ↔ (NoneBefore closes-cycle (reasons (Transfer t t') s) × TransferCycle s t t')
 transfer-cycle s t t' =
     refused-only (Transfer t t') s closes-cycle

@@ -11,7 +11,7 @@ use Rattle.graph.specs.declared.Command.{Command}
 use Rattle.graph.specs.declared.Command.the-variants.{NewTd, NewEdge, Release, Transfer, Start, Stop}
 use Rattle.graph.specs.Tables.{Lent, NEW, RELEASED, EXECUTING, FINISHED, vertexRows, edgeRows, status}
 use Rattle.refusal.specs.Refusals.{unsound-tables}
-use Rattle.graph.specs.Answers.{Said, accepted, decided}
+use Rattle.graph.specs.Answers.{CommandSaid, accepted, decided}
 use Rattle.graph.specs.Sound.{sound}
 use Rattle.graph.specs.Paths.{holds, leadsInto, leadsOutOf, reaches}
 use Rattle.graph.specs.Commands.{hasStatus, withStatus, withVertex, withEdge, withMoved, stopped, callerRefusal, newTdRefusal}
@@ -32,13 +32,13 @@ refusal (Transfer t t') s = transferRefusal s t t'
 refusal (Start t) s = startRefusal s t
 refusal (Stop t) s = stopRefusal s t
 
-abbrev pub says : Command → Lent → Said
-says (NewTd t place scope) s = Said.new (s .made)
-says (NewEdge t t1 t2) s = Said.edge t1 t2
-says (Release t t') s = Said.release t'
-says (Transfer t t') s = Said.transfer t'
-says (Start t) s = Said.start
-says (Stop t) s = Said.stop
+abbrev pub says : Command → Lent → CommandSaid
+says (NewTd t place scope) s = CommandSaid.new (s .made)
+says (NewEdge t t1 t2) s = CommandSaid.edge t1 t2
+says (Release t t') s = CommandSaid.release t'
+says (Transfer t t') s = CommandSaid.transfer t'
+says (Start t) s = CommandSaid.start
+says (Stop t) s = CommandSaid.stop
 
 abbrev pub leaves : Command → Lent → Lent
 leaves (NewTd t place scope) s = withVertex s place scope
@@ -84,7 +84,7 @@ after-refused c s h = rw (command-is c s) (decided-keeps s (refusal c s) (says c
 -- it is refused with the number that is due, at 0
 pub answer-refused :
     (c : Command) (s : Lent) (n p : ℕ)
-    → (command c s .answer ≡ Said.refused n p) ↔ ((refusal c s ≡ 0 → ⊥) × (refusal c s ≡ n) × (p ≡ 0))
+    → (command c s .answer ≡ CommandSaid.refused n p) ↔ ((refusal c s ≡ 0 → ⊥) × (refusal c s ≡ n) × (p ≡ 0))
 answer-refused c s n p = rw (command-is c s) (decided-refused s (refusal c s) (says c s) (leaves c s) n p (says-accepted c s))
 
 -- what holds before, and of what an accepted command leaves, holds afterwards
@@ -101,7 +101,7 @@ unsound-refusal (Transfer t t') s h = unless-stop _ _ h
 unsound-refusal (Start t) s h = unless-stop _ _ h
 unsound-refusal (Stop t) s h = unless-stop _ _ h
 
-pub unsound : (c : Command) (s : Lent) → sound s ≡ false → command c s ≡ record { answer = Said.refused unsound-tables 0; after = s }
+pub unsound : (c : Command) (s : Lent) → sound s ≡ false → command c s ≡ record { answer = CommandSaid.refused unsound-tables 0; after = s }
 unfolding decided
 unsound c s h = command-is c s ∙ ap (λ (n : ℕ). decided s n (says c s) (leaves c s)) (unsound-refusal c s h)
 

@@ -12,26 +12,26 @@ use Rattle.graph.specs.declared.Tally.{Tally}
 use Rattle.graph.specs.Tables.{Lent, lent}
 
 -- What the paper has a command say. A refusal has its number and its place.
-pub data Said : Type 0 where
-  start : Said
-  new : ℕ → Said
-  edge : ℕ → ℕ → Said
-  release : ℕ → Said
-  transfer : ℕ → Said
-  stop : Said
-  refused : ℕ → ℕ → Said
+pub data CommandSaid : Type 0 where
+  start : CommandSaid
+  new : ℕ → CommandSaid
+  edge : ℕ → ℕ → CommandSaid
+  release : ℕ → CommandSaid
+  transfer : ℕ → CommandSaid
+  stop : CommandSaid
+  refused : ℕ → ℕ → CommandSaid
 
 -- "Where an answer is an enum, a definition gives this paper's number and values for each of its cases"
-abbrev pub said : Answer → Said
-said Start = Said.start
-said (New v) = Said.new v
-said (Edge a b) = Said.edge a b
-said (Release v) = Said.release v
-said (Transfer v) = Said.transfer v
-said Stop = Said.stop
-said (Refused r) = Said.refused (r .number) (r .place)
+abbrev pub said : Answer → CommandSaid
+said Start = CommandSaid.start
+said (New v) = CommandSaid.new v
+said (Edge a b) = CommandSaid.edge a b
+said (Release v) = CommandSaid.release v
+said (Transfer v) = CommandSaid.transfer v
+said Stop = CommandSaid.stop
+said (Refused r) = CommandSaid.refused (r .number) (r .place)
 
-abbrev pub accepted : Said → Bool
+abbrev pub accepted : CommandSaid → Bool
 accepted start = true
 accepted (new v) = true
 accepted (edge a b) = true
@@ -41,7 +41,7 @@ accepted stop = true
 accepted (refused n p) = false
 
 pub record Outcome : Type 0 where
-  pub answer : Said
+  pub answer : CommandSaid
   pub after : Lent
 
 -- the outcome that the code gives: its answer, and the tables and the tally at exit
@@ -78,6 +78,6 @@ unless false n rest = n
 
 -- "A refusal gives its number and place, and every lent table and the tally hold what they held." With no refusal due
 -- the call says `answer` and leaves `after`. The refusals of commands have the place 0.
-unfoldable pub decided : Lent → ℕ → Said → Lent → Outcome
+unfoldable pub decided : Lent → ℕ → CommandSaid → Lent → Outcome
 decided s zero answer after = record { answer = answer; after = after }
 decided s (suc n) answer after = record { answer = refused (suc n) 0; after = s }

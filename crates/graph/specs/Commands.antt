@@ -11,7 +11,7 @@ use Rattle.graph.specs.Tables.{Lent, NEW, RELEASED, EXECUTING, FINISHED,
 use Rattle.graph.specs.Tables.{targetWord, vertexRows, edgeRows, status, setStatus, setVertexWord, setEdgeWord, source, target, clear}
 use Rattle.refusal.specs.Refusals.{too-few-vertex-rows, unsound-tables, no-such-vertex, edge-leads-in, vertex-is-new, vertex-is-finished, vertex-is-executing, caller-not-executing}
 use Rattle.refusal.specs.Refusals.{no-vertex-row, no-edge-row, target-not-waiting, edge-held, closes-cycle, release-not-new, transfer-not-new, transfer-has-edge-out}
-use Rattle.graph.specs.Answers.{Said, Outcome, OpeningOutcome, opened, opening-refused, unless, decided}
+use Rattle.graph.specs.Answers.{CommandSaid, Outcome, OpeningOutcome, opened, opening-refused, unless, decided}
 use Rattle.graph.specs.Sound.{sound}
 use Rattle.graph.specs.Paths.{holds, leadsInto, leadsOutOf, reaches}
 
@@ -73,7 +73,7 @@ withVertex s place scope =
     }
 
 unfoldable pub newTd : Lent → ℕ → ℕ → ℕ → Outcome
-newTd s t place scope = decided s (newTdRefusal s t) (Said.new (s .made)) (withVertex s place scope)
+newTd s t place scope = decided s (newTdRefusal s t) (CommandSaid.new (s .made)) (withVertex s place scope)
 
 -- "newEdge t1 to t2: t2 is new or released. A finished t1 adds nothing and is accepted. Otherwise the edge must not be held
 -- already, and is appended." "Cycle for newEdge: t1 is t2 or t2 reaches t1."
@@ -101,14 +101,14 @@ withEdge s t1 t2 =
 
 unfoldable pub newEdge : Lent → ℕ → ℕ → ℕ → Outcome
 newEdge s t t1 t2 =
-    decided s (newEdgeRefusal s t t1 t2) (Said.edge t1 t2) (cond (hasStatus s t1 FINISHED) s (withEdge s t1 t2))
+    decided s (newEdgeRefusal s t t1 t2) (CommandSaid.edge t1 t2) (cond (hasStatus s t1 FINISHED) s (withEdge s t1 t2))
 
 -- "release turns a new vertex released."
 unfoldable pub releaseRefusal : Lent → ℕ → ℕ → ℕ
 releaseRefusal s t t' = callerRefusal s t t' t' (unless (hasStatus s t' NEW) release-not-new 0)
 
 unfoldable pub release : Lent → ℕ → ℕ → Outcome
-release s t t' = decided s (releaseRefusal s t t') (Said.release t') (withStatus s t' RELEASED)
+release s t t' = decided s (releaseRefusal s t t') (CommandSaid.release t') (withStatus s t' RELEASED)
 
 -- "Cycle for transfer: some target of t is t' or reaches t'."
 unfoldable pub targetReaches : List ℕ → ℕ → ℕ → ℕ → Bool
@@ -142,7 +142,7 @@ withMoved s t t' =
     }
 
 unfoldable pub transfer : Lent → ℕ → ℕ → Outcome
-transfer s t t' = decided s (transferRefusal s t t') (Said.transfer t') (withMoved s t t')
+transfer s t t' = decided s (transferRefusal s t t') (CommandSaid.transfer t') (withMoved s t t')
 
 -- "start turns a released vertex with no edge into it executing."
 unfoldable pub startRefusal : Lent → ℕ → ℕ
@@ -155,7 +155,7 @@ startRefusal s t =
     (unless (not (leadsInto (s .edges) (s .held) t)) edge-leads-in 0)))))
 
 unfoldable pub start : Lent → ℕ → Outcome
-start s t = decided s (startRefusal s t) Said.start (withStatus s t EXECUTING)
+start s t = decided s (startRefusal s t) CommandSaid.start (withStatus s t EXECUTING)
 
 -- "stop finishes t and drops its edges out."
 unfoldable pub stopRefusal : Lent → ℕ → ℕ
@@ -186,7 +186,7 @@ stopped s t =
     }
 
 unfoldable pub stop : Lent → ℕ → Outcome
-stop s t = decided s (stopRefusal s t) Said.stop (stopped s t)
+stop s t = decided s (stopRefusal s t) CommandSaid.stop (stopped s t)
 
 -- the six commands as one
 unfoldable pub command : Command → Lent → Outcome

@@ -102,10 +102,10 @@ pub data Reasons : Type 1 where
   accepted-where : Type 0 → Reasons → Reasons
 
 -- the refusal n is due: its reason holds, and nothing before it does
-abbrev pub Due : ℕ → Reasons → Type 0
-Due n no-more = ⊥
-Due n (refused-where P m rest) = (P × (n ≡ m)) ⊎ ((P → ⊥) × Due n rest)
-Due n (accepted-where P rest) = (P → ⊥) × Due n rest
+abbrev pub RefusalDue : ℕ → Reasons → Type 0
+RefusalDue n no-more = ⊥
+RefusalDue n (refused-where P m rest) = (P × (n ≡ m)) ⊎ ((P → ⊥) × RefusalDue n rest)
+RefusalDue n (accepted-where P rest) = (P → ⊥) × RefusalDue n rest
 
 -- no refusal is due
 abbrev pub NoneDue : Reasons → Type 0

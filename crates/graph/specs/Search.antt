@@ -57,8 +57,8 @@ pub record Room (m q : List ℕ) (tail : ℕ) : Type 0 where
   pub places : length q ≡ usableLimit
   pub free : tail + zeros m ≡ usableLimit
 
-abbrev pub Marked : List ℕ → ℕ → Type 0
-Marked m x = 0 < getD m x 0
+abbrev pub IsMarked : List ℕ → ℕ → Type 0
+IsMarked m x = 0 < getD m x 0
 
 -- x stands in the queue, and was not yet looked at
 pub record Waits (q : List ℕ) (head tail x : ℕ) : Type 0 where
@@ -68,23 +68,23 @@ pub record Waits (q : List ℕ) (head tail x : ℕ) : Type 0 where
   pub there : getD q place 0 ≡ x
 
 -- x is the vertex to be reached, or is marked: its rows have to be looked at
-abbrev pub Counts : ℕ → List ℕ → ℕ → Type 0
-Counts to m x = (x ≡ to) ⊎ Marked m x
+abbrev pub Sought : ℕ → List ℕ → ℕ → Type 0
+Sought to m x = (x ≡ to) ⊎ IsMarked m x
 
 -- row i has a marked source, or it is one of those of v that are left, or its target still waits
 abbrev pub Covered : List ℕ → ℕ → ℕ → ℕ → List ℕ → List ℕ → ℕ → ℕ → Type 0
 Covered e v head c m q tail i =
-    Marked m (source e i) ⊎ (((target e i ≡ v) × (i < c)) ⊎ Waits q head tail (target e i))
+    IsMarked m (source e i) ⊎ (((target e i ≡ v) × (i < c)) ⊎ Waits q head tail (target e i))
 
 -- The search over the first n rows of e, with the marks m and the queue q, while it looks at v. Of the rows into v the one with the
 -- number c, counted from 1, is the next to be followed; those after it were.
 pub record Frontier (e : List ℕ) (n to v head c : ℕ) (m q : List ℕ) (tail : ℕ) : Type 0 where
   pub ordered : head ≤ tail
-  pub queued : (k : ℕ) → k < tail → Marked m (getD q k 0)
-  pub leads : (x : ℕ) → Marked m x → Leads (holds e n) x to
-  pub counts : Counts to m v
+  pub queued : (k : ℕ) → k < tail → IsMarked m (getD q k 0)
+  pub leads : (x : ℕ) → IsMarked m x → Leads (holds e n) x to
+  pub counts : Sought to m v
   pub row : (i : ℕ) → c ≡ suc i → (i < n) × (target e i ≡ v)
-  pub closed : (i : ℕ) → i < n → Counts to m (target e i) → Covered e v head c m q tail i
+  pub closed : (i : ℕ) → i < n → Sought to m (target e i) → Covered e v head c m q tail i
 
 -- what is lent to look at a vertex: its chain, from row c on
 pub record Chain (e next : List ℕ) (c : ℕ) : Type 0 where

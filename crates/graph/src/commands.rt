@@ -35,12 +35,12 @@ ghost use mathlib.Core.Path.{_≡_};
 ghost use mathlib.Core.Bool.{true};
 ghost use Rattle.graph.specs.Tables.{lent};
 ghost use Rattle.graph.specs.Sound.{sound};
-ghost use Rattle.graph.specs.Answers.{Said, said, outcome, openingOutcome};
+ghost use Rattle.graph.specs.Answers.{CommandSaid, said, outcome, openingOutcome};
 ghost use Rattle.graph.specs.Commands.{opening, newTd, newEdge, release, transfer, start, stop, command};
 
 // A refused command: the tally is as it was.
 fn refused(number: u32, tally: Tally) -> Done
-    ensures { λ r. ⌜ (said (r .answer) ≡ Said.refused number 0) × (r .tally ≡ tally) ⌝ }
+    ensures { λ r. ⌜ (said (r .answer) ≡ CommandSaid.refused number 0) × (r .tally ≡ tally) ⌝ }
 {
     Done {
         answer: Answer::Refused(Refusal { number, place: 0 }),

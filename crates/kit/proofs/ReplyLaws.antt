@@ -65,7 +65,7 @@ pub commanded-as :
     → (replyNumbers (r .answer) ≡ saidNumbers (saidAs (of-graph.said (d .answer)))) × (r .tally ≡ d .tally)
     → Commanded o (r .answer) (lent v e (r .tally))
 commanded-as d r v e p h =
-    replied-as (λ (a : of-graph.Said). saidNumbers (saidAs a)) r v e (d .tally) (ap (λ (o : of-graph.Outcome). o .answer) p)
+    replied-as (λ (a : of-graph.CommandSaid). saidNumbers (saidAs a)) r v e (d .tally) (ap (λ (o : of-graph.Outcome). o .answer) p)
     (ap (λ (o : of-graph.Outcome). o .after) p) h
 
 pub ran-as :

@@ -11,7 +11,7 @@ use Rattle.graph.specs.declared.Command.the-variants.{NewTd, NewEdge, Release, 
 use Rattle.graph.specs.Tables.{Lent}
 use Rattle.graph.specs.Answers as of-graph
 use Rattle.graph.specs.Commands.{command}
-use Rattle.machine.specs.Answers.{Said, Outcome, saidAs, LoadingSaid, loaded, loading-refused, LoadingOutcome}
+use Rattle.machine.specs.Answers.{StepSaid, Outcome, saidAs, LoadingSaid, loaded, loading-refused, LoadingOutcome}
 use Rattle.machine.specs.Running.{Ending, done, stuck, spent, refused, RunOutcome, Choice, choose, no-choice, choice-refused, choice}
 use Rattle.kit.specs.declared.Reply.{Reply}
 use Rattle.kit.specs.declared.RunReply.{RunReply}
@@ -37,18 +37,18 @@ loadingNumbers (loading-refused n p) = numbers 0 n p
 loadingNumbers loaded = numbers 1 0 0
 
 -- what a step or a command said
-unfoldable pub saidNumbers : Said → Numbers
-saidNumbers (Said.refused n p) = numbers 0 n p
-saidNumbers Said.start = numbers 2 0 0
-saidNumbers (Said.new v) = numbers 3 v 0
-saidNumbers (Said.edge a b) = numbers 4 a b
-saidNumbers (Said.release v) = numbers 5 v 0
-saidNumbers (Said.transfer v) = numbers 6 v 0
-saidNumbers (Said.job n o) = numbers 7 n o
-saidNumbers Said.stop = numbers 8 0 0
+unfoldable pub saidNumbers : StepSaid → Numbers
+saidNumbers (StepSaid.refused n p) = numbers 0 n p
+saidNumbers StepSaid.start = numbers 2 0 0
+saidNumbers (StepSaid.new v) = numbers 3 v 0
+saidNumbers (StepSaid.edge a b) = numbers 4 a b
+saidNumbers (StepSaid.release v) = numbers 5 v 0
+saidNumbers (StepSaid.transfer v) = numbers 6 v 0
+saidNumbers (StepSaid.job n o) = numbers 7 n o
+saidNumbers StepSaid.stop = numbers 8 0 0
 
 -- a run's last step
-unfoldable pub lastNumbers : Option Said → Numbers
+unfoldable pub lastNumbers : Option StepSaid → Numbers
 lastNumbers none = numbers 9 0 0
 lastNumbers (some a) = saidNumbers a
 

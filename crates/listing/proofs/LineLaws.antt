@@ -13,7 +13,7 @@ use Rattle.program.specs.Reader.{reading}
 use Rattle.program.specs.Answers.{loads, told}
 use Rattle.program.specs.Answers as of-program
 use Rattle.refusal.specs.Refusals.{unsound-tables}
-use Rattle.machine.specs.Answers.{Said, LoadingSaid, loading-refused, isLoaded}
+use Rattle.machine.specs.Answers.{StepSaid, LoadingSaid, loading-refused, isLoaded}
 use Rattle.machine.specs.Stepping.{steppable, dueIf, due, step}
 use Rattle.machine.specs.Running.{lowest, chosen, choice, choose, no-choice, choice-refused}
 use Rattle.machine.specs.Demand2.{unread}
@@ -32,7 +32,7 @@ use Rattle.listing.specs.Lines.{FirstLine, NextLine}
 -- THE FIRST LINE
 -- the program is not read
 pub unread-line :
-    (bytes : List ℕ) (s : Lent) (n : ℕ) {number place : ℕ} {text : List ℕ} → of-program.Said.refused number place ≡ told (reading bytes)
+    (bytes : List ℕ) (s : Lent) (n : ℕ) {number place : ℕ} {text : List ℕ} → of-program.ProgramSaid.refused number place ≡ told (reading bytes)
     → text ≡ refusalText number place → FirstLine bytes s (of-line.Last n) text (s .vertices) (s .edges)
 unread-line bytes s n {number = number} {place = place} is r =
     ((number, place, load-refused bytes s number place .1 (unread (unread-is (reading bytes) is)), r), (refl, refl))
@@ -66,7 +66,7 @@ finds true none h = clash cc
 finds false o h = clash cc
 
 pub stepped-line :
-    (bytes : List ℕ) (s : Lent) (n : ℕ) {v : ℕ} {a : Said} {text vs es : List ℕ} (tally : Tally) (x : Lowest)
+    (bytes : List ℕ) (s : Lent) (n : ℕ) {v : ℕ} {a : StepSaid} {text vs es : List ℕ} (tally : Tally) (x : Lowest)
     → choiceOf x ≡ choice bytes s → x ≡ of-lowest.Vertex v → Stepped bytes s v a (lent vs es tally) → text ≡ stepText v a
     → NextLine bytes s (of-line.Text n tally) text vs es
 unfolding choice

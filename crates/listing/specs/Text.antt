@@ -6,7 +6,7 @@ use Prim.Native.String.{String, [] as []ᵗ, _∷_ as _∷ᵗ_}
 use mathlib.Core.Bool.{cond}
 use mathlib.Core.List.{List, [], _∷_, _++_}
 use lib.Dec.{ltb}
-use Rattle.machine.specs.Answers.{Said}
+use Rattle.machine.specs.Answers.{StepSaid}
 
 -- the codes of a text's characters
 abbrev pub codes : String → List ℕ
@@ -27,18 +27,18 @@ numeral n = numeralBy (suc n) n
 
 -- "An accepted step says one of seven things: start, new v, edge a b, release v, transfer v, job (number, offset), stop." Of a job only the
 -- number is listed. The last is no accepted step's.
-unfoldable pub answerText : Said → List ℕ
-answerText Said.start = codes "start"
-answerText (Said.new v) = codes "new " ++ numeral v
-answerText (Said.edge a b) = codes "edge " ++ numeral a ++ codes " " ++ numeral b
-answerText (Said.release v) = codes "release " ++ numeral v
-answerText (Said.transfer v) = codes "transfer " ++ numeral v
-answerText (Said.job n o) = codes "job " ++ numeral n
-answerText Said.stop = codes "stop"
-answerText (Said.refused n p) = codes "refused " ++ numeral n ++ codes " " ++ numeral p
+unfoldable pub answerText : StepSaid → List ℕ
+answerText StepSaid.start = codes "start"
+answerText (StepSaid.new v) = codes "new " ++ numeral v
+answerText (StepSaid.edge a b) = codes "edge " ++ numeral a ++ codes " " ++ numeral b
+answerText (StepSaid.release v) = codes "release " ++ numeral v
+answerText (StepSaid.transfer v) = codes "transfer " ++ numeral v
+answerText (StepSaid.job n o) = codes "job " ++ numeral n
+answerText StepSaid.stop = codes "stop"
+answerText (StepSaid.refused n p) = codes "refused " ++ numeral n ++ codes " " ++ numeral p
 
 -- the line of a step of the vertex v
-unfoldable pub stepText : ℕ → Said → List ℕ
+unfoldable pub stepText : ℕ → StepSaid → List ℕ
 stepText v a = numeral v ++ codes " " ++ answerText a ++ codes "\n"
 
 -- the line of a refused program

@@ -13,7 +13,7 @@ use mathlib.Core.List.{List, [], _∷_, _++_}
 use native.Mathlib.Omega.{arith}
 use Rattle.program.specs.Trees.{Kind, asyncs, finishes, forks}
 use Rattle.program.specs.Located.{Code, job-at, async-at, finish-at, fork-at}
-use Rattle.machine.specs.Ahead.{Behind, job-behind, async-behind, finish-behind, fork-behind, Holds, async-holds, finish-holds}
+use Rattle.machine.specs.Ahead.{Behind, job-behind, async-behind, finish-behind, fork-behind, HoldsBody, async-holds, finish-holds}
 use Rattle.machine.specs.Ahead.{fork-holds-left, fork-holds-right, From, start, on, Way, job-itself, down, Within, whole, behind}
 use Rattle.machine.specs.Ahead.{inside, AFinish, this, further, Closed, apart, Ahead, ahead}
 use Rattle.machine.proofs.Order.{Job, InS, Pre}
@@ -64,7 +64,7 @@ closed-behind : {c r : Code} {p : ℕ} → Behind c r → ClosedWays r p → Clo
 closed-behind e (c', ks, f, w, k) = (c', ks, on e f, w, k)
 
 -- the first item, through a body that it holds
-ways-down : {c b : Code} {k : Kind} {p : ℕ} → Holds c k b → Ways b p → Ways c p
+ways-down : {c b : Code} {k : Kind} {p : ℕ} → HoldsBody c k b → Ways b p → Ways c p
 ways-down {c} {k = k} h (c', ks, f, w) = (c, k ∷ ks, start, down h f w)
 
 -- this is closed through a finish
@@ -72,7 +72,7 @@ finish-down : {o p : ℕ} {b r : Code} → Ways b p → ClosedWays (finish-at o 
 finish-down (c', ks, f, w) = (_, finishes ∷ ks, start, down finish-holds f w, closed-finish)
 
 -- and through a fork, where it is closed below
-fork-down : {c b : Code} {p : ℕ} → Holds c forks b → ClosedWays b p → ClosedWays c p
+fork-down : {c b : Code} {p : ℕ} → HoldsBody c forks b → ClosedWays b p → ClosedWays c p
 fork-down {c} h (c', ks, f, w, k) = (c, forks ∷ ks, start, down h f w, closed-fork k)
 
 -- a job that is there has a way
@@ -109,7 +109,7 @@ behind-job p finish-behind j = inr j
 behind-job p fork-behind j = inr (inr j)
 
 -- and so is one in a body that this item holds
-pub held-job : {c b : Code} {k : Kind} (p : ℕ) → Holds c k b → Job b p → Job c p
+pub held-job : {c b : Code} {k : Kind} (p : ℕ) → HoldsBody c k b → Job b p → Job c p
 unfolding Job
 held-job p async-holds j = inl j
 held-job p finish-holds j = inl j
@@ -162,7 +162,7 @@ ahead-behind : {m r : Code} {p q : ℕ} → Behind m r → Ahead r p q → Ahead
 ahead-behind e (ahead c ks (apart r c' ks' i w e' f w') k) = ahead c ks (apart r c' ks' (behind e i) w e' f w') k
 
 -- or in a body that it holds
-ahead-inside : {m b : Code} {k : Kind} {p q : ℕ} → Holds m k b → Ahead b p q → Ahead m p q
+ahead-inside : {m b : Code} {k : Kind} {p q : ℕ} → HoldsBody m k b → Ahead b p q → Ahead m p q
 ahead-inside h (ahead c ks (apart r c' ks' i w e' f w') k) = ahead c ks (apart r c' ks' (inside h i) w e' f w') k
 
 -- the first item has a closed way to p, and q is behind it
@@ -174,7 +174,7 @@ ahead-finish : {o p q : ℕ} {b r : Code} → Ways b p → Ways r q → Ahead (f
 ahead-finish (c', ks, f, w) j = ahead-first (finishes ∷ ks) (down finish-holds f w) closed-finish finish-behind j
 
 -- or through a fork
-ahead-fork : {m b r : Code} {p q : ℕ} → Holds m forks b → ClosedWays b p → Behind m r → Ways r q → Ahead m p q
+ahead-fork : {m b r : Code} {p q : ℕ} → HoldsBody m forks b → ClosedWays b p → Behind m r → Ways r q → Ahead m p q
 ahead-fork h (c', ks, f, w, k) e j = ahead-first (forks ∷ ks) (down h f w) (closed-fork k) e j
 
 -- the order by recursion is in the paper's
@@ -203,7 +203,7 @@ behind-pre p q finish-behind h = inr (inr h)
 behind-pre p q fork-behind h = inr (inr (inr h))
 
 -- or in a body that it holds
-held-pre : {m b : Code} {k : Kind} (p q : ℕ) → Holds m k b → Pre b p q → Pre m p q
+held-pre : {m b : Code} {k : Kind} (p q : ℕ) → HoldsBody m k b → Pre b p q → Pre m p q
 unfolding Pre
 held-pre p q async-holds h = inl h
 held-pre p q finish-holds h = inr (inl h)

@@ -16,7 +16,7 @@ use native.Mathlib.Omega.{arith}
 use Rattle.program.specs.Trees.{Body, Kind}
 use Rattle.program.specs.Located.{Code, job-at, async-at, finish-at, fork-at, locate}
 use Rattle.program.proofs.LocatedLaws.{Laid, laid-locate}
-use Rattle.machine.specs.Ahead.{Behind, job-behind, async-behind, finish-behind, fork-behind, Holds, async-holds, finish-holds}
+use Rattle.machine.specs.Ahead.{Behind, job-behind, async-behind, finish-behind, fork-behind, HoldsBody, async-holds, finish-holds}
 use Rattle.machine.specs.Ahead.{fork-holds-left, fork-holds-right, From, start, on, Way, job-itself, down, Within, whole, behind}
 use Rattle.machine.specs.Ahead.{inside, Apart, apart, Branches, branches, Stand, one-job, earlier, later, left-right, right-left}
 use Rattle.machine.specs.Ahead.{Ahead, ahead}
@@ -33,7 +33,7 @@ behind-laid async-behind l = l .2
 behind-laid finish-behind l = l .2
 behind-laid fork-behind l = l .3
 
-held-laid : {c b : Code} {k : Kind} → Holds c k b → Laid c → Laid b
+held-laid : {c b : Code} {k : Kind} → HoldsBody c k b → Laid c → Laid b
 unfolding Laid
 held-laid async-holds l = l .1
 held-laid finish-holds l = l .1
@@ -45,7 +45,7 @@ from-laid start l = l
 from-laid (on e f) l = from-laid f (behind-laid e l)
 
 -- the jobs of a body that the first item holds stand before those behind this item
-held-less : {c b r : Code} {k : Kind} (p q : ℕ) → Laid c → Holds c k b → Behind c r → Job b p → Job r q → p < q
+held-less : {c b r : Code} {k : Kind} (p q : ℕ) → Laid c → HoldsBody c k b → Behind c r → Job b p → Job r q → p < q
 held-less p q l async-holds async-behind i j = async-before _ _ _ p q l i j
 held-less p q l finish-holds finish-behind i j = finish-before _ _ _ p q l i j
 held-less p q l fork-holds-left fork-behind i j = left-before _ _ _ _ p q l i j
@@ -65,7 +65,7 @@ behind-one fork-behind fork-behind = refl
 
 -- a job is in one of the bodies that an item holds
 held-one :
-    {c b b' : Code} {k k' : Kind} (p : ℕ) → Laid c → Holds c k b → Holds c k' b' → Job b p → Job b' p → (k ≡ k') × (b ≡ b')
+    {c b b' : Code} {k k' : Kind} (p : ℕ) → Laid c → HoldsBody c k b → HoldsBody c k' b' → Job b p → Job b' p → (k ≡ k') × (b ≡ b')
 held-one p l async-holds async-holds i j = (refl, refl)
 held-one p l finish-holds finish-holds i j = (refl, refl)
 held-one p l fork-holds-left fork-holds-left i j = (refl, refl)
@@ -74,7 +74,7 @@ held-one p l fork-holds-right fork-holds-left i j = absurd (omega (arith, fork-b
 held-one p l fork-holds-right fork-holds-right i j = (refl, refl)
 
 -- no body is held by a job
-job-holds-none : {o n : ℕ} {r b : Code} {k : Kind} → Holds (job-at o n r) k b → ⊥
+job-holds-none : {o n : ℕ} {r b : Code} {k : Kind} → HoldsBody (job-at o n r) k b → ⊥
 job-holds-none = elim [ ]
 
 -- a body has one item with the job at p
@@ -118,11 +118,11 @@ later-in {q = q} i (first r w e j) = within-job q i (behind-job q e j)
 not-behind : {c r : Code} {p q : ℕ} {ks : List Kind} → Laid c → First c p q ks → Behind c r → Job r p → ⊥
 not-behind {p = p} l (first r w e j) e' i = absurd (omega (arith, way-less p l w e' i))
 
-not-held : {c b : Code} {p q : ℕ} {k : Kind} {ks : List Kind} → Laid c → First c p q ks → Holds c k b → Job b q → ⊥
+not-held : {c b : Code} {p q : ℕ} {k : Kind} {ks : List Kind} → Laid c → First c p q ks → HoldsBody c k b → Job b q → ⊥
 not-held {q = q} l (first r w e j) h i = absurd (omega (arith, held-less q q l h e i j))
 
 -- nor is a job in both
-not-both : {c b r : Code} {k : Kind} (p : ℕ) → Laid c → Holds c k b → Behind c r → Job b p → Job r p → ⊥
+not-both : {c b r : Code} {k : Kind} (p : ℕ) → Laid c → HoldsBody c k b → Behind c r → Job b p → Job r p → ⊥
 not-both p l h e i j = absurd (omega (arith, held-less p p l h e i j))
 
 -- two codes with a job in common are one within the other
@@ -200,13 +200,13 @@ apart-order t p q a b =
 
 -- In a body around it, whose item d has it inside, both jobs are in this item.
 pub around-one :
-    {m b c d : Code} {k : Kind} {ks : List Kind} (p q : ℕ) → Apart m p q c ks → Holds d k b → Within b c
+    {m b c d : Code} {k : Kind} {ks : List Kind} (p q : ℕ) → Apart m p q c ks → HoldsBody d k b → Within b c
     → ((ls : List Kind) × Way d p ls) × ((ls : List Kind) × Way d q ls)
 around-one p q a h i =
     let (_, x) = apart-first a in
     (through h (job-way _ p (earlier-in i x)), through h (job-way _ q (later-in i x)))
   where
-    through : {b d : Code} {k : Kind} {p : ℕ} → Holds d k b → Ways b p → (ls : List Kind) × Way d p ls
+    through : {b d : Code} {k : Kind} {p : ℕ} → HoldsBody d k b → Ways b p → (ls : List Kind) × Way d p ls
     through {k = k} h (c', ks, f, w) = (k ∷ ks, down h f w)
 
 -- the fork, with a job in each of its branches
@@ -263,13 +263,13 @@ first-apart : {m r : Code} {p : ℕ} {ks : List Kind} (q : ℕ) → Way m p ks �
 first-apart q w e j = let (c', ks', f, w') = job-way _ q j in apart _ c' ks' whole w e f w'
 
 held-apart :
-    {m b r : Code} {k : Kind} (p q : ℕ) → Holds m k b → Behind m r → Job b p → Job r q → (ks : List Kind) × Apart m p q m ks
+    {m b r : Code} {k : Kind} (p q : ℕ) → HoldsBody m k b → Behind m r → Job b p → Job r q → (ks : List Kind) × Apart m p q m ks
 held-apart {k = k} p q h e i j = let (b', ks, f, w) = job-way _ p i in (k ∷ ks, first-apart q (down h f w) e j)
 
-held-earlier : {m b r : Code} {k : Kind} {p q : ℕ} → Holds m k b → Behind m r → Job b p → Job r q → Stand m p q
+held-earlier : {m b r : Code} {k : Kind} {p q : ℕ} → HoldsBody m k b → Behind m r → Job b p → Job r q → Stand m p q
 held-earlier {p = p} {q} h e i j = let (ks, a) = held-apart p q h e i j in earlier _ ks a
 
-held-later : {m b r : Code} {k : Kind} {p q : ℕ} → Holds m k b → Behind m r → Job r p → Job b q → Stand m p q
+held-later : {m b r : Code} {k : Kind} {p q : ℕ} → HoldsBody m k b → Behind m r → Job r p → Job b q → Stand m p q
 held-later {p = p} {q} h e i j = let (ks, a) = held-apart q p h e j i in later _ ks a
 
 job-apart : (o n : ℕ) {r : Code} {p q : ℕ} → p ≡ o → Job r q → Apart (job-at o n r) p q (job-at o n r) []

@@ -7,7 +7,7 @@ use mathlib.Core.Logic.{⊎-elim}
 use mathlib.Core.Option.{some}
 use native.Mathlib.Omega.{arith}
 use Rattle.graph.proofs.TestLaws.{equal?, true-false}
-use Rattle.program.specs.Located.{Code, place, last, codeAt}
+use Rattle.program.specs.Located.{Code, startOf, last, codeAt}
 use Rattle.program.proofs.LocatedLaws.{Laid, code-here, code-end}
 use Rattle.machine.proofs.Invariant.{isItem, waits, Settled, held, given, planned, one, HasItem, Ranks, Roads, Coded}
 use Rattle.machine.proofs.GhostLaws.{put-other, in-empty}
@@ -60,8 +60,8 @@ roads-beginning p L =
 
 -- the program starts at its place, and ends with its last byte
 pub coded-beginning : (p : Code) (L : ℕ) → Laid p → last p ≡ L → Coded p (beginning p L)
-unfolding beginning place
+unfolding beginning startOf
 coded-beginning p L l e u c h =
     beginning-code p L u h
-    (λ q i. subst (λ (c : Code). codeAt p (place c) ≡ some c) i (code-here p))
-    (λ q i. subst (λ (c : Code). codeAt p (place c) ≡ some c) i (rw (← e) (code-end p l)))
+    (λ q i. subst (λ (c : Code). codeAt p (startOf c) ≡ some c) i (code-here p))
+    (λ q i. subst (λ (c : Code). codeAt p (startOf c) ≡ some c) i (rw (← e) (code-end p l)))

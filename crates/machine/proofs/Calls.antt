@@ -10,28 +10,28 @@ use lib.ListN.{length}
 use Rattle.graph.specs.Tables.{Lent}
 use Rattle.graph.proofs.TestLaws.{true-false}
 use Rattle.refusal.specs.Refusals.{unsound-tables}
-use Rattle.machine.specs.Answers.{Said, accepted}
+use Rattle.machine.specs.Answers.{StepSaid, accepted}
 use Rattle.machine.specs.Stepping.{steppable, step}
 use Rattle.machine.specs.Running.{canStep, lowest, allFinished, Ending, refused, RunOutcome, ended, look, runOn, run}
-use Rattle.machine.specs.Demand2.{Looks, Ran, run-refused, run-steps}
-use Rattle.machine.specs.Reached.{Reached, stepped, Call, steps, runs, goOn, runAnswers, lastOr, AllAccepted, StandsAs, callAnswers}
+use Rattle.machine.specs.Demand2.{Looks, OnlySuchSteps, run-refused, run-steps}
+use Rattle.machine.specs.Reached.{Reached, stepped, Call, a-step, a-run, goOn, runAnswers, lastOr, AllAccepted, StandsAs, callAnswers}
 use Rattle.machine.specs.Reached.{callLeaves, answersOf, leavesOf}
 use Rattle.machine.proofs.RunDemand2.{Finds, lowest-finds, run-ran}
 
 module _ (bytes : List ℕ) (s₀ : Lent) where
   -- nothing more was answered
-  same-answers : {answers : List Said} {s : Lent} → Reached bytes s₀ answers s → Reached bytes s₀ (answers ++ []) s
-  same-answers {answers} {s} q = subst (λ (l : List Said). Reached bytes s₀ l s) (sym (append-nil answers)) q
+  same-answers : {answers : List StepSaid} {s : Lent} → Reached bytes s₀ answers s → Reached bytes s₀ (answers ++ []) s
+  same-answers {answers} {s} q = subst (λ (l : List StepSaid). Reached bytes s₀ l s) (sym (append-nil answers)) q
 
   -- a step, and then what comes behind it
   and-more :
-      (answers : List Said) {s' : Lent} (a : Said) (rest : List Said) → Reached bytes s₀ ((answers ++ (a ∷ [])) ++ rest) s'
+      (answers : List StepSaid) {s' : Lent} (a : StepSaid) (rest : List StepSaid) → Reached bytes s₀ ((answers ++ (a ∷ [])) ++ rest) s'
       → Reached bytes s₀ (answers ++ (a ∷ rest)) s'
-  and-more answers {s'} a rest q = subst (λ (l : List Said). Reached bytes s₀ l s') (append-assoc answers (a ∷ []) rest) q
+  and-more answers {s'} a rest q = subst (λ (l : List StepSaid). Reached bytes s₀ l s') (append-assoc answers (a ∷ []) rest) q
 
   -- what a run looks at when its budget is used: it stays where it is
   spent-reached :
-      (again : Lent → Option Said → ℕ → RunOutcome) {answers : List Said} (s : Lent) (last : Option Said) (taken : ℕ)
+      (again : Lent → Option StepSaid → ℕ → RunOutcome) {answers : List StepSaid} (s : Lent) (last : Option StepSaid) (taken : ℕ)
       → Reached bytes s₀ answers s → (b : Bool) (x : Option ℕ) → Reached bytes s₀ answers (look bytes again 0 s last taken b x .after)
   unfolding look
   spent-reached again s last taken q true x = q
@@ -40,9 +40,9 @@ module _ (bytes : List ℕ) (s₀ : Lent) where
 
   -- and when some of it is left
   look-reached :
-      (left : ℕ) (again : Lent → Option Said → ℕ → RunOutcome) (tells : Lent → List Said) {answers : List Said} (s : Lent)
-      (last : Option Said) (taken : ℕ)
-      → ((l : List Said) (s' : Lent) (last' : Option Said) (taken' : ℕ) → Reached bytes s₀ l s'
+      (left : ℕ) (again : Lent → Option StepSaid → ℕ → RunOutcome) (tells : Lent → List StepSaid) {answers : List StepSaid} (s : Lent)
+      (last : Option StepSaid) (taken : ℕ)
+      → ((l : List StepSaid) (s' : Lent) (last' : Option StepSaid) (taken' : ℕ) → Reached bytes s₀ l s'
       → Reached bytes s₀ (l ++ tells s') (again s' last' taken' .after))
       → Reached bytes s₀ answers s → (b : Bool) (x : Option ℕ)
       → Reached bytes s₀ (answers ++ goOn bytes tells s b x) (look bytes again (suc left) s last taken b x .after)
@@ -55,7 +55,7 @@ module _ (bytes : List ℕ) (s₀ : Lent) where
 
   -- from where a run has come to, with so much of its budget left
   on-reached :
-      (left : ℕ) (answers : List Said) (s : Lent) (last : Option Said) (taken : ℕ) → Reached bytes s₀ answers s
+      (left : ℕ) (answers : List StepSaid) (s : Lent) (last : Option StepSaid) (taken : ℕ) → Reached bytes s₀ answers s
       → Reached bytes s₀ (answers ++ runAnswers bytes left s) (runOn bytes left s last taken .after)
   unfolding runAnswers runOn
   on-reached zero answers s last taken q =
@@ -66,7 +66,7 @@ module _ (bytes : List ℕ) (s₀ : Lent) where
 
   -- a run
   run-on-reached :
-      (budget : ℕ) {answers : List Said} (s : Lent) → Reached bytes s₀ answers s → (b : Bool)
+      (budget : ℕ) {answers : List StepSaid} (s : Lent) → Reached bytes s₀ answers s → (b : Bool)
       → Reached bytes s₀ (answers ++ cond b (runAnswers bytes budget s) [])
       (cond b (runOn bytes budget s none 0) (ended (refused unsound-tables 0) none 0 s) .after)
   run-on-reached budget {answers} s q true = on-reached budget answers s none 0 q
@@ -74,43 +74,43 @@ module _ (bytes : List ℕ) (s₀ : Lent) where
 
   -- a call
   call-reached :
-      {answers : List Said} (s : Lent) (c : Call) → Reached bytes s₀ answers s
+      {answers : List StepSaid} (s : Lent) (c : Call) → Reached bytes s₀ answers s
       → Reached bytes s₀ (answers ++ callAnswers bytes s c) (callLeaves bytes s c)
   unfolding callAnswers callLeaves run
-  call-reached s (steps v) q = stepped q v
-  call-reached s (runs budget) q = run-on-reached budget s q (steppable s)
+  call-reached s (a-step v) q = stepped q v
+  call-reached s (a-run budget) q = run-on-reached budget s q (steppable s)
 
   pub run-reached :
-      {answers : List Said} (s : Lent) (budget : ℕ) → Reached bytes s₀ answers s
-      → Reached bytes s₀ (answers ++ callAnswers bytes s (runs budget)) (run bytes s budget .after)
+      {answers : List StepSaid} (s : Lent) (budget : ℕ) → Reached bytes s₀ answers s
+      → Reached bytes s₀ (answers ++ callAnswers bytes s (a-run budget)) (run bytes s budget .after)
   unfolding callLeaves
-  run-reached s budget q = call-reached s (runs budget) q
+  run-reached s budget q = call-reached s (a-run budget) q
 
   -- a list of calls, from what was reached
   pub calls-reached :
-      (cs : List Call) {answers : List Said} (s : Lent) → Reached bytes s₀ answers s
+      (cs : List Call) {answers : List StepSaid} (s : Lent) → Reached bytes s₀ answers s
       → Reached bytes s₀ (answers ++ answersOf bytes s cs) (leavesOf bytes s cs)
   unfolding answersOf leavesOf
   calls-reached [] s q = same-answers q
   calls-reached (c ∷ cs) {answers} s q =
-      subst (λ (l : List Said). Reached bytes s₀ l (leavesOf bytes (callLeaves bytes s c) cs))
+      subst (λ (l : List StepSaid). Reached bytes s₀ l (leavesOf bytes (callLeaves bytes s c) cs))
       (append-assoc answers (callAnswers bytes s c) (answersOf bytes (callLeaves bytes s c) cs))
       (calls-reached cs (callLeaves bytes s c) (call-reached s c q))
 
 -- the same answers, with the run that makes these steps, from where it has come to
-record Along (before : Option Said) (taken : ℕ) (answers : List Said) (o : RunOutcome) : Type 0 where
+record Along (before : Option StepSaid) (taken : ℕ) (answers : List StepSaid) (o : RunOutcome) : Type 0 where
   accepts : AllAccepted answers
   last-is : o .last ≡ lastOr before answers
   number-is : o .taken ≡ taken + length answers
 
 -- no step
-along-none : (e : Ending) (before : Option Said) (taken : ℕ) (s : Lent) → Along before taken [] (ended e before taken s)
+along-none : (e : Ending) (before : Option StepSaid) (taken : ℕ) (s : Lent) → Along before taken [] (ended e before taken s)
 unfolding AllAccepted lastOr
 along-none e before taken s = record { accepts = tt; last-is = refl; number-is = omega arith }
 
 -- one step more
 along-more :
-    {before : Option Said} {taken : ℕ} {a : Said} {answers : List Said} {o : RunOutcome} → accepted a ≡ true
+    {before : Option StepSaid} {taken : ℕ} {a : StepSaid} {answers : List StepSaid} {o : RunOutcome} → accepted a ≡ true
     → Along (some a) (suc taken) answers o → Along before taken (a ∷ answers) o
 unfolding AllAccepted lastOr
 along-more h x = record { accepts = (h, x .accepts); last-is = x .last-is; number-is = omega (arith, x .number-is) }
@@ -118,7 +118,7 @@ along-more h x = record { accepts = (h, x .accepts); last-is = x .last-is; numbe
 module _ (bytes : List ℕ) where
   -- one look when the budget is used
   spent-along :
-      (again : Lent → Option Said → ℕ → RunOutcome) (s : Lent) (before : Option Said) (taken : ℕ) (b : Bool) (x : Option ℕ)
+      (again : Lent → Option StepSaid → ℕ → RunOutcome) (s : Lent) (before : Option StepSaid) (taken : ℕ) (b : Bool) (x : Option ℕ)
       → Along before taken [] (look bytes again 0 s before taken b x)
   unfolding look
   spent-along again s before taken true x = along-none _ before taken s
@@ -127,8 +127,8 @@ module _ (bytes : List ℕ) where
 
   -- and when some of it is left
   look-along :
-      (left : ℕ) (again : Lent → Option Said → ℕ → RunOutcome) (tells : Lent → List Said) (s : Lent) (before : Option Said) (taken : ℕ)
-      → ((s' : Lent) (before' : Option Said) (taken' : ℕ) → Along before' taken' (tells s') (again s' before' taken'))
+      (left : ℕ) (again : Lent → Option StepSaid → ℕ → RunOutcome) (tells : Lent → List StepSaid) (s : Lent) (before : Option StepSaid) (taken : ℕ)
+      → ((s' : Lent) (before' : Option StepSaid) (taken' : ℕ) → Along before' taken' (tells s') (again s' before' taken'))
       → (b : Bool) (x : Option ℕ) → Finds (canStep bytes s) (s .made) x
       → Along before taken (goOn bytes tells s b x) (look bytes again (suc left) s before taken b x)
   unfolding look goOn
@@ -138,7 +138,7 @@ module _ (bytes : List ℕ) where
 
   -- from where a run has come to, with so much of its budget left
   on-along :
-      (left : ℕ) (s : Lent) (before : Option Said) (taken : ℕ)
+      (left : ℕ) (s : Lent) (before : Option StepSaid) (taken : ℕ)
       → Along before taken (runAnswers bytes left s) (runOn bytes left s before taken)
   unfolding runAnswers runOn
   on-along zero s before taken = spent-along _ s before taken _ _
@@ -153,19 +153,19 @@ stands-none e s = record { all-accepted = tt; last-of-them = refl; their-number 
 
 -- "A run lent the same stands in a list as the steps that it makes": all are accepted, and it answers the last of them and their number.
 pub run-stands :
-    (bytes : List ℕ) (s : Lent) (budget : ℕ) → StandsAs (callAnswers bytes s (runs budget)) (run bytes s budget)
+    (bytes : List ℕ) (s : Lent) (budget : ℕ) → StandsAs (callAnswers bytes s (a-run budget)) (run bytes s budget)
 unfolding callAnswers run
 run-stands bytes s budget = go (steppable s) refl (run-ran bytes s budget)
   where
     along : Along none 0 (runAnswers bytes budget s) (runOn bytes budget s none 0)
     along = on-along bytes budget s none 0
 
-    not-refused : {o : RunOutcome} (n p : ℕ) → steppable s ≡ true → Ran bytes s budget o → o .ending ≡ refused n p → ⊥
+    not-refused : {o : RunOutcome} (n p : ℕ) → steppable s ≡ true → OnlySuchSteps bytes s budget o → o .ending ≡ refused n p → ⊥
     not-refused n p h (run-refused f _) e = true-false h f
     not-refused {o} n p h (run-steps _ _ _ looks _) e = subst (λ (x : Ending). Looks bytes budget (o .taken) (o .after) x) e looks
 
     go :
-        (b : Bool) → steppable s ≡ b → Ran bytes s budget (cond b (runOn bytes budget s none 0) (ended (refused unsound-tables 0) none 0 s))
+        (b : Bool) → steppable s ≡ b → OnlySuchSteps bytes s budget (cond b (runOn bytes budget s none 0) (ended (refused unsound-tables 0) none 0 s))
         → StandsAs (cond b (runAnswers bytes budget s) [])
         (cond b (runOn bytes budget s none 0) (ended (refused unsound-tables 0) none 0 s))
     go true h ran =

@@ -5,7 +5,7 @@ use mathlib.Core.Path.{_≡_, refl, sym, _∙_, ap, subst}
 use mathlib.Core.List.{List, [], _∷_, _++_}
 use mathlib.Core.Option.{some, Option·some-injective, Option·none-ne-some}
 use Rattle.program.specs.Encodings.{Name}
-use Rattle.program.specs.Located.{Code, place, last, codeAt}
+use Rattle.program.specs.Located.{Code, startOf, last, codeAt}
 use Rattle.program.proofs.LocatedLaws.{Laid, Inner, job-rest, async-body, async-rest, finish-body, finish-rest, fork-left, fork-right}
 use Rattle.program.proofs.LocatedLaws.{fork-rest, code-inner, code-end}
 use Rattle.machine.proofs.Ghost.{Do, Control, draft, fresh, busy, over, State, put, goes, onward, Event, Move, begins, performs}
@@ -18,17 +18,17 @@ use Rattle.machine.proofs.SplitLaws.{stirred-keeps}
 
 -- the code of this control, if it has code, stands in p
 abbrev Stands : Code → Control → Type 0
-Stands p x = (c : Code) → codeOf x ≡ some c → codeAt p (place c) ≡ some c
+Stands p x = (c : Code) → codeOf x ≡ some c → codeAt p (startOf c) ≡ some c
 
 -- of one with the same code
 stands-same : (p : Code) (x y : Control) → codeOf y ≡ codeOf x → Stands p x → Stands p y
 stands-same p x y e h c q = h c (sym e ∙ q)
 
 -- of one with this code
-stands-code : (p : Code) (x : Control) {c : Code} → codeOf x ≡ some c → codeAt p (place c) ≡ some c → Stands p x
-stands-code p x {c} e h d q = subst (λ (c : Code). codeAt p (place c) ≡ some c) (Option·some-injective c d (sym e ∙ q)) h
+stands-code : (p : Code) (x : Control) {c : Code} → codeOf x ≡ some c → codeAt p (startOf c) ≡ some c → Stands p x
+stands-code p x {c} e h d q = subst (λ (c : Code). codeAt p (startOf c) ≡ some c) (Option·some-injective c d (sym e ∙ q)) h
 
-stands-onward : (p c : Code) (ds : List Do) → codeAt p (place c) ≡ some c → Stands p (onward c ds)
+stands-onward : (p c : Code) (ds : List Do) → codeAt p (startOf c) ≡ some c → Stands p (onward c ds)
 stands-onward p c ds = stands-code p (onward c ds) (code-onward c ds)
 
 -- what an item makes is right inside it
@@ -44,9 +44,9 @@ splits-inner fork-3 = fork-rest
 
 -- where an item's vertex goes stands in the program
 goes-stands :
-    (p : Code) {c k : Code} {L : ℕ} {ms : List ℕ} {a : Name} → Laid p → last p ≡ L → Splits c ms k a → codeAt p (place c) ≡ some c
-    → codeAt p (place (goes L c)) ≡ some (goes L c)
-unfolding goes place
+    (p : Code) {c k : Code} {L : ℕ} {ms : List ℕ} {a : Name} → Laid p → last p ≡ L → Splits c ms k a → codeAt p (startOf c) ≡ some c
+    → codeAt p (startOf (goes L c)) ≡ some (goes L c)
+unfolding goes startOf
 goes-stands p l e async-1 h = code-inner p _ l h async-rest
 goes-stands p l e finish-2 h = rw (← e) (code-end p l)
 goes-stands p l e fork-3 h = rw (← e) (code-end p l)

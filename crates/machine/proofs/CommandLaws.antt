@@ -21,7 +21,7 @@ use Rattle.graph.proofs.TakenLaws as of-taken
 use Rattle.graph.proofs.TakenLaws.{leaves, says-accepted, taken-is, after-is, Runs, Taken, taken}
 use Rattle.graph.proofs.Demand2.{stays-sound}
 use Rattle.program.specs.Located.{Code}
-use Rattle.machine.specs.Answers.{Said, oneStep, saidAs}
+use Rattle.machine.specs.Answers.{StepSaid, oneStep, saidAs}
 use Rattle.machine.specs.Stepping.{Own, command-due, withOwn, doDue}
 use Rattle.machine.proofs.Ghost.{Do, link, hand, free, Control, draft, fresh, ready, busy, joining, over, State}
 use Rattle.machine.proofs.Invariant.{In, here, tasks, tasksOf, waits, planned, Shape, Ranks, Roads}
@@ -30,7 +30,7 @@ use Rattle.machine.proofs.Follows.{Follows}
 use Rattle.machine.proofs.FollowLaws.{statusOf, follows-status}
 
 -- what a step by a command that is taken says
-abbrev pub says : Command → Lent → Said
+abbrev pub says : Command → Lent → StepSaid
 says c s = saidAs (of-taken.says c s)
 
 -- and all that it comes to

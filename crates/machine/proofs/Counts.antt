@@ -31,10 +31,10 @@ use Rattle.graph.proofs.TestLaws.{equal?}
 use Rattle.program.specs.Trees.{Kind, jobs, asyncs, finishes, forks, Body, end, job, async, finish, fork}
 use Rattle.program.specs.Trees as trees
 use Rattle.program.specs.Encodings as table
-use Rattle.program.specs.Encodings.{Command, perform, newTd, newEdge, transfer, release, firstEdition, weight, itemsWeight, vertices}
-use Rattle.program.specs.Encodings.{edgeRows, steps}
+use Rattle.program.specs.Encodings.{Command, perform, newTd, newEdge, transfer, release, firstEdition, weight, itemsWeight, verticesMade}
+use Rattle.program.specs.Encodings.{edgeRowsNeeded, stepsTaken}
 use Rattle.program.specs.Bytes.{numberSize, size}
-use Rattle.program.specs.Located.{Code, end-at, job-at, async-at, finish-at, fork-at, locate, place, last}
+use Rattle.program.specs.Located.{Code, end-at, job-at, async-at, finish-at, fork-at, locate, startOf, last}
 use Rattle.program.proofs.LocatedLaws.{Laid}
 use Rattle.machine.proofs.Ghost.{Event, a-start, a-new, an-edge, a-release, a-transfer, a-job, a-stop, eventOf, Do, link, hand, free}
 use Rattle.machine.proofs.Ghost.{over, State, Move, begins, performs, stops, makes, splits, acts}
@@ -128,17 +128,17 @@ unfolding beginning total sumBelow left bodyWeight
 opening ω p L = omega arith
 
 -- what is counted at the beginning is what the program needs
-pub steps-total : (o L : ℕ) (t : Body) → total each (beginning (locate o t) L) ≡ steps firstEdition t
-unfolding steps vertices
+pub steps-total : (o L : ℕ) (t : Body) → total each (beginning (locate o t) L) ≡ stepsTaken firstEdition t
+unfolding stepsTaken verticesMade
 steps-total o L t = omega (arith, opening each (locate o t) L, items-weight each 1 (λ o. refl) o t, each-items t)
 
-pub vertices-total : (o L : ℕ) (t : Body) → 2 + total news (beginning (locate o t) L) ≡ vertices firstEdition t
-unfolding vertices itemsWeight news
+pub vertices-total : (o L : ℕ) (t : Body) → 2 + total news (beginning (locate o t) L) ≡ verticesMade firstEdition t
+unfolding verticesMade itemsWeight news
 vertices-total o L t =
     omega (arith, opening news (locate o t) L, items-weight news 0 (λ o. refl) o t, total-same _ _ news-kind t)
 
-pub edges-total : (o L : ℕ) (t : Body) → 1 + total links (beginning (locate o t) L) ≡ edgeRows firstEdition t
-unfolding edgeRows itemsWeight links
+pub edges-total : (o L : ℕ) (t : Body) → 1 + total links (beginning (locate o t) L) ≡ edgeRowsNeeded firstEdition t
+unfolding edgeRowsNeeded itemsWeight links
 edges-total o L t =
     omega (arith, opening links (locate o t) L, items-weight links 0 (λ o. refl) o t, total-same _ _ links-kind t)
 
@@ -199,8 +199,8 @@ told-job q o =
     (equal? o q)
 
 -- the jobs of laid code
-told : (q : ℕ) (c : Code) → Laid c → Told q (jobsAt q c) (Job c q) (place c) (last c)
-unfolding Job Laid place last
+told : (q : ℕ) (c : Code) → Laid c → Told q (jobsAt q c) (Job c q) (startOf c) (last c)
+unfolding Job Laid startOf last
 told q (end-at o) l = none-there (jobs-end q o) (λ h. h)
 told q (job-at o m r) l =
     beside (told-job q o) (told q r (l .1)) (jobs-job q o m r) (l .0 .starts) (omega arith) (omega arith) (l .0 .rest)
@@ -212,7 +212,7 @@ told q (finish-at o b r) l =
     (l .0 .rest)
 told q (fork-at o b c r) l =
     beside (told q b (l .1))
-    (beside {from = place c} (told q c (l .2)) (told q r (l .3)) refl (omega (arith, l .0 .ends)) (omega arith) (l .0 .right) (l .0 .rest))
+    (beside {from = startOf c} (told q c (l .2)) (told q r (l .3)) refl (omega (arith, l .0 .ends)) (omega arith) (l .0 .right) (l .0 .rest))
     (jobs-fork q o b c r) (omega (arith, l .0 .between)) (omega (arith, l .0 .starts)) (l .0 .left)
     (omega (arith, l .0 .right, l .0 .ends, l .0 .rest))
 
@@ -220,7 +220,7 @@ told q (fork-at o b c r) l =
 jobs-le : (q : ℕ) (c : Code) → Laid c → jobsAt q c ≤ 1
 jobs-le q c l = go (told q c l)
   where
-    go : Told q (jobsAt q c) (Job c q) (place c) (last c) → jobsAt q c ≤ 1
+    go : Told q (jobsAt q c) (Job c q) (startOf c) (last c) → jobsAt q c ≤ 1
     go (none-there e f) = omega arith
     go (one-there e s i) = omega arith
 
@@ -228,7 +228,7 @@ jobs-le q c l = go (told q c l)
 jobs-one : (q : ℕ) (c : Code) → Laid c → Job c q → jobsAt q c ≡ 1
 jobs-one q c l j = go (told q c l)
   where
-    go : Told q (jobsAt q c) (Job c q) (place c) (last c) → jobsAt q c ≡ 1
+    go : Told q (jobsAt q c) (Job c q) (startOf c) (last c) → jobsAt q c ≡ 1
     go (none-there e f) = absurd (f j)
     go (one-there e s i) = e
 
@@ -272,12 +272,12 @@ spent-each (e ∷ es) = omega (arith, spent-each es)
 
 pub steps-run :
     (o : ℕ) (t : Body) (L : ℕ) {es : List Event} {S : State} → Runs L (beginning (locate o t) L) es S
-    → length es + total each S ≡ steps firstEdition t
+    → length es + total each S ≡ stepsTaken firstEdition t
 steps-run o t L {es} r = omega (arith, runs-on each (locate o t) L r, spent-each es, steps-total o L t)
 
 pub steps-bound :
     (o : ℕ) (t : Body) (L : ℕ) {es : List Event} {S : State} → Runs L (beginning (locate o t) L) es S
-    → length es ≤ steps firstEdition t
+    → length es ≤ stepsTaken firstEdition t
 steps-bound o t L r = omega (arith, steps-run o t L r)
 
 -- Vertices: each new one is counted.
@@ -303,7 +303,7 @@ runs-count no-move = omega arith
 runs-count (and-then r m) = omega (arith, runs-count r, move-count m)
 
 pub vertices-bound :
-    (o : ℕ) (t : Body) (L : ℕ) {es : List Event} {S : State} → Runs L (beginning (locate o t) L) es S → S .count ≤ vertices firstEdition t
+    (o : ℕ) (t : Body) (L : ℕ) {es : List Event} {S : State} → Runs L (beginning (locate o t) L) es S → S .count ≤ verticesMade firstEdition t
 unfolding beginning
 vertices-bound o t L r = omega (arith, runs-on news (locate o t) L r, runs-count r, vertices-total o L t)
 
@@ -311,7 +311,7 @@ vertices-bound o t L r = omega (arith, runs-on news (locate o t) L r, runs-count
 
 pub edges-bound :
     (o : ℕ) (t : Body) (L : ℕ) {es : List Event} {S : State} → Runs L (beginning (locate o t) L) es S
-    → 1 + spent links es ≤ edgeRows firstEdition t
+    → 1 + spent links es ≤ edgeRowsNeeded firstEdition t
 edges-bound o t L r = omega (arith, runs-on links (locate o t) L r, edges-total o L t)
 
 -- Jobs.

@@ -14,13 +14,13 @@ use Rattle.graph.specs.Tables.{Lent}
 use Rattle.graph.specs.Paths.{CycleFree, more, holds}
 use Rattle.graph.proofs.TestLaws.{true-false, both-true}
 use Rattle.program.specs.Trees.{Body, counts}
-use Rattle.program.specs.Encodings.{steps, firstEdition, stepFormula}
+use Rattle.program.specs.Encodings.{stepsTaken, firstEdition, stepFormula}
 use Rattle.program.specs.Reader.{reading, program}
 use Rattle.program.specs.Located.{Code, job-at, locate}
 use Rattle.program.proofs.LocatedLaws.{laid-locate}
 use Rattle.program.proofs.Exactness.{reading-complete}
 use Rattle.program.proofs.Formulas.{steps-formula}
-use Rattle.machine.specs.Answers.{Said, Outcome, accepted}
+use Rattle.machine.specs.Answers.{StepSaid, Outcome, accepted}
 use Rattle.machine.specs.Answers as said
 use Rattle.machine.specs.Ahead.{Ahead}
 use Rattle.machine.specs.Stepping.{steppable, stepLimit, step}
@@ -50,7 +50,7 @@ use Rattle.machine.proofs.RunEnds.{Ends, ends-done, ends-spent, run-end
 
 -- no path of held edges closes
 acyclic :
-    {bytes : List ℕ} {t : Body} {s₀ : Lent} {answers : List Said} {s : Lent} → Tracked bytes t s₀ answers s
+    {bytes : List ℕ} {t : Body} {s₀ : Lent} {answers : List StepSaid} {s : Lent} → Tracked bytes t s₀ answers s
     → CycleFree (holds (s .edges) (s .held))
 acyclic T = cycle-free (T .inv .shape) (T .inv .ranks) (T .follows .edges-are)
 
@@ -90,7 +90,7 @@ free-taken shape (unblocked e none) (is-over lt h) = clash cc
 
 -- a vertex that answers a job stands at it
 answers-at :
-    {S : State} {v n o : ℕ} {e : Event} {a : Said} → Answers S v e a → a ≡ said.job n o
+    {S : State} {v n o : ℕ} {e : Event} {a : StepSaid} → Answers S v e a → a ≡ said.job n o
     → (r : Code) × (S .control v ≡ busy (job-at o n r) [])
 answers-at says-start h = clash cc
 answers-at says-new h = clash cc
@@ -103,7 +103,7 @@ answers-at {S} {v} {n} {o} (says-job {o = o'} {n = n'} {r} at) h =
 answers-at says-stop h = clash cc
 
 -- What was reached, and a further step of v.
-module _ (bytes : List ℕ) (t : Body) {s₀ : Lent} {answers : List Said} {s : Lent} (r : reading bytes ≡ program t)
+module _ (bytes : List ℕ) (t : Body) {s₀ : Lent} {answers : List StepSaid} {s : Lent} (r : reading bytes ≡ program t)
     (q : Reached bytes s₀ answers s)
   where
     abbrev T : Tracked bytes t s₀ answers s
@@ -121,7 +121,7 @@ module _ (bytes : List ℕ) (t : Body) {s₀ : Lent} {answers : List Said} {s : 
             → acceptedIn answers < stepFormula (counts t)
         go o p (refused n why e) = true-false p (ap (λ (x : Outcome). accepted (x .answer)) e)
         go o p (moved e S' m f says tally) =
-            let b : length (e ∷ T .events) ≤ steps firstEdition t = steps-bound 0 t (length bytes - 1) (and-then (T .runs) m) in
+            let b : length (e ∷ T .events) ≤ stepsTaken firstEdition t = steps-bound 0 t (length bytes - 1) (and-then (T .runs) m) in
             omega (arith, b, T .accepted-are, steps-formula t)
 
     -- a vertex that can move on can step
@@ -187,29 +187,29 @@ module _ (bytes : List ℕ) (t : Body) {s₀ : Lent} {answers : List Said} {s : 
 
 -- an answer in a list with one more at its end is that one, or stands before it
 snoc-split :
-    (answers before after : List Said) (a b : Said) → answers ++ (a ∷ []) ≡ before ++ (b ∷ after)
-    → ((a ≡ b) × (answers ≡ before)) ⊎ ((rest : List Said) × (answers ≡ before ++ (b ∷ rest)))
+    (answers before after : List StepSaid) (a b : StepSaid) → answers ++ (a ∷ []) ≡ before ++ (b ∷ after)
+    → ((a ≡ b) × (answers ≡ before)) ⊎ ((rest : List StepSaid) × (answers ≡ before ++ (b ∷ rest)))
 snoc-split [] [] after a b e = inl (cc, refl)
 snoc-split [] (c ∷ before) after a b e = absurd (empty before (let h : [] ≡ before ++ (b ∷ after) = cc in h))
   where
-    empty : (l : List Said) → [] ≡ l ++ (b ∷ after) → ⊥
+    empty : (l : List StepSaid) → [] ≡ l ++ (b ∷ after) → ⊥
     empty [] h = clash cc
     empty (x ∷ l) h = clash cc
-snoc-split (c ∷ answers) [] after a b e = let h : c ≡ b = cc in inr (answers, ap (λ (x : Said). x ∷ answers) h)
+snoc-split (c ∷ answers) [] after a b e = let h : c ≡ b = cc in inr (answers, ap (λ (x : StepSaid). x ∷ answers) h)
 snoc-split (c ∷ answers) (d ∷ before) after a b e =
     let h : answers ++ (a ∷ []) ≡ before ++ (b ∷ after) = cc in
     let g : c ≡ d = cc in
     more (snoc-split answers before after a b h) g
   where
     more :
-        ((a ≡ b) × (answers ≡ before)) ⊎ ((rest : List Said) × (answers ≡ before ++ (b ∷ rest))) → c ≡ d
-        → ((a ≡ b) × (c ∷ answers ≡ d ∷ before)) ⊎ ((rest : List Said) × (c ∷ answers ≡ d ∷ (before ++ (b ∷ rest))))
+        ((a ≡ b) × (answers ≡ before)) ⊎ ((rest : List StepSaid) × (answers ≡ before ++ (b ∷ rest))) → c ≡ d
+        → ((a ≡ b) × (c ∷ answers ≡ d ∷ before)) ⊎ ((rest : List StepSaid) × (c ∷ answers ≡ d ∷ (before ++ (b ∷ rest))))
     more (inl (p, q)) g = inl (p, cc)
     more (inr (rest, q)) g = inr (rest, cc)
 
 -- where no vertex can step the full count is reached
 none-left :
-    (bytes : List ℕ) (t : Body) {s₀ : Lent} {answers : List Said} {s : Lent} → reading bytes ≡ program t → Reached bytes s₀ answers s
+    (bytes : List ℕ) (t : Body) {s₀ : Lent} {answers : List StepSaid} {s : Lent} → reading bytes ≡ program t → Reached bytes s₀ answers s
     → ((v : ℕ) → canStep bytes s v ≡ false) → s .steps ≡ stepFormula (counts t)
 none-left bytes t {s₀} {answers} {s} r q none = go (ltb (acceptedIn answers) (stepFormula (counts t))) refl (tracked bytes t r q)
   where
@@ -230,7 +230,7 @@ none-left bytes t {s₀} {answers} {s} r q none = go (ltb (acceptedIn answers) (
 
 -- how a run ends from here
 ends :
-    (bytes : List ℕ) (t : Body) {s₀ : Lent} {answers : List Said} {s : Lent} → reading bytes ≡ program t → Reached bytes s₀ answers s
+    (bytes : List ℕ) (t : Body) {s₀ : Lent} {answers : List StepSaid} {s : Lent} → reading bytes ≡ program t → Reached bytes s₀ answers s
     → (budget : ℕ) → Ends t s (run bytes s budget)
 unfolding steppable
 ends bytes t {s₀} {s = s} r q budget =
@@ -241,7 +241,7 @@ ends bytes t {s₀} {s = s} r q budget =
 
 -- after loading and after every step
 never :
-    (bytes : List ℕ) (t : Body) {s₀ : Lent} {answers : List Said} {s : Lent} → reading bytes ≡ program t → (q : Reached bytes s₀ answers s)
+    (bytes : List ℕ) (t : Body) {s₀ : Lent} {answers : List StepSaid} {s : Lent} → reading bytes ≡ program t → (q : Reached bytes s₀ answers s)
     → Throughout (λ s'. CycleFree (holds (s' .edges) (s' .held))) q
 unfolding Throughout
 never bytes t r (begun h) = acyclic (tracked bytes t r (begun h))
@@ -262,22 +262,22 @@ rises (ends-spent e f c) = c
 
 -- in every list of answers
 ordered :
-    (bytes : List ℕ) (t : Body) {s₀ : Lent} {answers : List Said} {s : Lent} → reading bytes ≡ program t → (q : Reached bytes s₀ answers s)
-    → (before after : List Said) (n o p : ℕ) → answers ≡ before ++ (said.job n o ∷ after) → Ahead (locate 0 t) p o → ranIn p before ≡ 1
+    (bytes : List ℕ) (t : Body) {s₀ : Lent} {answers : List StepSaid} {s : Lent} → reading bytes ≡ program t → (q : Reached bytes s₀ answers s)
+    → (before after : List StepSaid) (n o p : ℕ) → answers ≡ before ++ (said.job n o ∷ after) → Ahead (locate 0 t) p o → ranIn p before ≡ 1
 ordered bytes t r (begun h) [] after n o p e a = clash cc
 ordered bytes t r (begun h) (b ∷ before) after n o p e a = clash cc
 ordered bytes t r (stepped {answers} {s} q v) before after n o p e a =
     go (snoc-split answers before after (step bytes s v .answer) (said.job n o) e) (λ rest f. ordered bytes t r q before rest n o p f a)
   where
     go :
-        ((step bytes s v .answer ≡ said.job n o) × (answers ≡ before)) ⊎ ((rest : List Said) × (answers ≡ before ++ (said.job n o ∷ rest)))
-        → ((rest : List Said) → answers ≡ before ++ (said.job n o ∷ rest) → ranIn p before ≡ 1) → ranIn p before ≡ 1
-    go (inl (x, y)) again = subst (λ (l : List Said). ranIn p l ≡ 1) y (was-answered bytes t r q v n o p x a)
+        ((step bytes s v .answer ≡ said.job n o) × (answers ≡ before)) ⊎ ((rest : List StepSaid) × (answers ≡ before ++ (said.job n o ∷ rest)))
+        → ((rest : List StepSaid) → answers ≡ before ++ (said.job n o ∷ rest) → ranIn p before ≡ 1) → ranIn p before ≡ 1
+    go (inl (x, y)) again = subst (λ (l : List StepSaid). ranIn p l ≡ 1) y (was-answered bytes t r q v n o p x a)
     go (inr (rest, f)) again = again rest f
 
 -- Demand 3, of whatever is reached from an accepted loading.
 pub demand3 :
-    (bytes : List ℕ) (t : Body) {s₀ : Lent} {answers : List Said} {s : Lent} → reading bytes ≡ program t → (q : Reached bytes s₀ answers s)
+    (bytes : List ℕ) (t : Body) {s₀ : Lent} {answers : List StepSaid} {s : Lent} → reading bytes ≡ program t → (q : Reached bytes s₀ answers s)
     → Demand3 bytes t q
 demand3 bytes t {answers} r q =
     let U = tracked bytes t r q in
@@ -305,7 +305,7 @@ demand3 bytes t {answers} r q =
 
 -- What was loaded has a tree.
 pub reached-program :
-    (bytes : List ℕ) {s₀ : Lent} {answers : List Said} {s : Lent} → Reached bytes s₀ answers s → (t : Body) × (reading bytes ≡ program t)
+    (bytes : List ℕ) {s₀ : Lent} {answers : List StepSaid} {s : Lent} → Reached bytes s₀ answers s → (t : Body) × (reading bytes ≡ program t)
 reached-program bytes {s₀} (begun h) =
     let (t, l, e, n) = load-exact bytes s₀ .0 h in
     (t, ap reading e ∙ reading-complete t l)

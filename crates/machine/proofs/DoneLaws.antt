@@ -20,7 +20,7 @@ use Rattle.graph.proofs.EdgeLaws.{Is, OneMore, NotFrom, Moved, is-same, without
 use Rattle.graph.proofs.SoundLaws.{sound-fits}
 use Rattle.graph.proofs.TakenLaws.{leaves, Taken}
 use Rattle.graph.proofs.EffectLaws.{leaves-edge, withEdge-is, withMoved-is}
-use Rattle.program.specs.Located.{Code, place, last}
+use Rattle.program.specs.Located.{Code, startOf, last}
 use Rattle.machine.proofs.Ghost.{Do, link, hand, free, Control, fresh, ready, busy, over, State, put, freed, withControl, withEdges}
 use Rattle.machine.proofs.Ghost.{grown, linked, handed, dropped, done, eventOf}
 use Rattle.machine.proofs.Invariant.{In, tasksOf, Shape, Ranks, Roads}
@@ -51,10 +51,10 @@ handed-is e v h x y = (
 )
 
 -- the row of a vertex that waits or is busy
-ready-row : {p : Code} {L σ : ℕ} {w : Words} {c : Code} → Shows p L w σ (ready c) → w ≡ row RELEASED (place c) σ 0 0 0 0
+ready-row : {p : Code} {L σ : ℕ} {w : Words} {c : Code} → Shows p L w σ (ready c) → w ≡ row RELEASED (startOf c) σ 0 0 0 0
 ready-row (shows-ready h) = h
 
-fresh-row : {p : Code} {L σ : ℕ} {w : Words} {c : Code} → Shows p L w σ (fresh c) → w ≡ row NEW (place c) σ 0 0 0 0
+fresh-row : {p : Code} {L σ : ℕ} {w : Words} {c : Code} → Shows p L w σ (fresh c) → w ≡ row NEW (startOf c) σ 0 0 0 0
 fresh-row (shows-fresh h) = h
 
 -- a started, a released and a finished row
@@ -100,9 +100,9 @@ module _ {p : Code} {L : ℕ} {s : Lent} {S : State} (F : Follows p L s S) where
 
   -- newTd, of a vertex with the code k and the scope σ
   pub new-done :
-      (v : ℕ) (x : Control) (k : Code) (σ : ℕ) → Shows p L (row NEW (place k) σ 0 0 0 0) σ x → Taken (NewTd v (place k) σ) s
-      → Follows p L (leaves (NewTd v (place k) σ) s) (grown S v x σ (place k) (last k))
-  new-done v x k σ shown h = vertex-follows s S v x k σ F (h .1) (leaves-sound (NewTd v (place k) σ) s (F .sound-is) h) shown
+      (v : ℕ) (x : Control) (k : Code) (σ : ℕ) → Shows p L (row NEW (startOf k) σ 0 0 0 0) σ x → Taken (NewTd v (startOf k) σ) s
+      → Follows p L (leaves (NewTd v (startOf k) σ) s) (grown S v x σ (startOf k) (last k))
+  new-done v x k σ shown h = vertex-follows s S v x k σ F (h .1) (leaves-sound (NewTd v (startOf k) σ) s (F .sound-is) h) shown
 
   -- newEdge, out of a vertex that is not finished
   edge-follows :

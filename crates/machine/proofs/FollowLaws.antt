@@ -12,7 +12,7 @@ use Rattle.graph.specs.Paths.{holds}
 use Rattle.graph.specs.Commands.{withVertex}
 use Rattle.graph.proofs.TestLaws.{equal?}
 use Rattle.graph.proofs.SoundLaws.{Known, Fits, sound-fits, fits-sound}
-use Rattle.program.specs.Located.{Code, place, last}
+use Rattle.program.specs.Located.{Code, startOf, last}
 use Rattle.machine.specs.Answers.{oneStep}
 use Rattle.machine.proofs.Ghost.{Control, draft, fresh, ready, busy, joining, over, State, put, woken, among, withControl, withEdges}
 use Rattle.machine.proofs.Ghost.{grown, stirred}
@@ -116,8 +116,8 @@ edges-follow {s} {s'} S e F q m h known =
 -- a vertex is made
 pub vertex-follows :
     {p : Code} {L : ℕ} (s : Lent) (S : State) (t : ℕ) (x : Control) (k : Code) (σ : ℕ) → Follows p L s S
-    → s .made < vertexRows (s .vertices) → sound (withVertex s (place k) σ) ≡ true → Shows p L (row NEW (place k) σ 0 0 0 0) σ x
-    → Follows p L (withVertex s (place k) σ) (grown S t x σ (place k) (last k))
+    → s .made < vertexRows (s .vertices) → sound (withVertex s (startOf k) σ) ≡ true → Shows p L (row NEW (startOf k) σ 0 0 0 0) σ x
+    → Follows p L (withVertex s (startOf k) σ) (grown S t x σ (startOf k) (last k))
 unfolding withVertex
 vertex-follows {p} {L} s S t x k σ F room known shown =
     record {
@@ -132,17 +132,17 @@ vertex-follows {p} {L} s S t x k σ F room known shown =
 
     rows :
         (u : ℕ) → u < suc (S .count)
-        → Shows p L (wordsOf (withVertex s (place k) σ) u) (put (S .scope) (S .count) σ u) (put (S .control) (S .count) x u)
+        → Shows p L (wordsOf (withVertex s (startOf k) σ) u) (put (S .scope) (S .count) σ u) (put (S .control) (S .count) x u)
     rows u lt =
         ⊎-elim
         (λ q.
         subst
-        (λ (z : ℕ). Shows p L (wordsOf (withVertex s (place k) σ) z) (put (S .scope) (S .count) σ z) (put (S .control) (S .count) x z))
+        (λ (z : ℕ). Shows p L (wordsOf (withVertex s (startOf k) σ) z) (put (S .scope) (S .count) σ z) (put (S .control) (S .count) x z))
         (sym q)
-        (rw (put-same (S .scope) (S .count) σ, put-same (S .control) (S .count) x, sym (F .made-is), new-row s (place k) σ room) shown))
+        (rw (put-same (S .scope) (S .count) σ, put-same (S .control) (S .count) x, sym (F .made-is), new-row s (startOf k) σ room) shown))
         (λ ne.
         rw (put-other (S .scope) (S .count) σ u ne, put-other (S .control) (S .count) x u ne)
-        (rw (new-others s (place k) σ u (λ q. ne (q ∙ F .made-is))) (F .rows-are u (omega arith))))
+        (rw (new-others s (startOf k) σ u (λ q. ne (q ∙ F .made-is))) (F .rows-are u (omega arith))))
         (equal? u (S .count))
 
 -- a draft and a fresh vertex have the same row

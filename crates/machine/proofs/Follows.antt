@@ -12,7 +12,7 @@ use Rattle.graph.specs.Sound.{sound}
 use Rattle.graph.specs.Paths.{holds}
 use Rattle.program.specs.Located.{Code, job-at, codeAt}
 use Rattle.program.specs.Located as code
-use Rattle.machine.specs.Answers.{Said, Outcome, refuse}
+use Rattle.machine.specs.Answers.{StepSaid, Outcome, refuse}
 use Rattle.machine.specs.Stepping as words
 use Rattle.machine.proofs.Ghost.{Do, Control, draft, fresh, ready, busy, joining, over, State, kids, goes, kindOf, commandsOf, joins}
 use Rattle.machine.proofs.Ghost.{Event, a-start, a-new, an-edge, a-release, a-transfer, a-job, a-stop, Move}
@@ -34,16 +34,16 @@ statusIn (row st pl sc ph a b c) = st
 
 -- A row shows a control, of a vertex with the scope σ, in a program p whose last byte is at L.
 pub data Shows (p : Code) (L : ℕ) (w : Words) (σ : ℕ) : Control → Type 0 where
-  shows-draft : {c : Code} → w ≡ row NEW (code.place c) σ 0 0 0 0 → Shows p L w σ (draft c)
-  shows-fresh : {c : Code} → w ≡ row NEW (code.place c) σ 0 0 0 0 → Shows p L w σ (fresh c)
-  shows-ready : {c : Code} → w ≡ row RELEASED (code.place c) σ 0 0 0 0 → Shows p L w σ (ready c)
+  shows-draft : {c : Code} → w ≡ row NEW (code.startOf c) σ 0 0 0 0 → Shows p L w σ (draft c)
+  shows-fresh : {c : Code} → w ≡ row NEW (code.startOf c) σ 0 0 0 0 → Shows p L w σ (fresh c)
+  shows-ready : {c : Code} → w ≡ row RELEASED (code.startOf c) σ 0 0 0 0 → Shows p L w σ (ready c)
   shows-busy :
-      {c : Code} {ms : List ℕ} → w ≡ row EXECUTING (code.place c) σ (length ms) (getD ms 0 0) (getD ms 1 0) (getD ms 2 0)
+      {c : Code} {ms : List ℕ} → w ≡ row EXECUTING (code.startOf c) σ (length ms) (getD ms 0 0) (getD ms 1 0) (getD ms 2 0)
       → Shows p L w σ (busy c ms)
   -- its item is at k's head, and has come to phase φ
   shows-joining :
       {c : Code} {d : Do} {ds : List Do} (k : Code) (φ : ℕ) (ms : List ℕ)
-      → w ≡ row EXECUTING (code.place k) σ φ (getD ms 0 0) (getD ms 1 0) (getD ms 2 0) → codeAt p (code.place k) ≡ some k → goes L k ≡ c
+      → w ≡ row EXECUTING (code.startOf k) σ φ (getD ms 0 0) (getD ms 1 0) (getD ms 2 0) → codeAt p (code.startOf k) ≡ some k → goes L k ≡ c
       → length (kids k) ≤ φ → joins σ ms (drop φ (commandsOf (kindOf k))) ≡ d ∷ ds → Shows p L w σ (joining c d ds)
   shows-over : (pl sc ph a b c : ℕ) → w ≡ row FINISHED pl sc ph a b c → Shows p L w σ over
 
@@ -61,14 +61,14 @@ pub data Refuses (S : State) (v : ℕ) : ℕ → Type 0 where
   is-over : v < S .count → S .control v ≡ over → Refuses S v vertex-is-finished
 
 -- what a move is answered with
-pub data Answers (S : State) (v : ℕ) : Event → Said → Type 0 where
-  says-start : Answers S v a-start Said.start
-  says-new : Answers S v a-new (Said.new (S .count))
-  says-edge : (a b : ℕ) → Answers S v an-edge (Said.edge a b)
-  says-release : (m : ℕ) → Answers S v a-release (Said.release m)
-  says-transfer : (h : ℕ) → Answers S v a-transfer (Said.transfer h)
-  says-job : {o n : ℕ} {r : Code} → S .control v ≡ busy (job-at o n r) [] → Answers S v (a-job o) (Said.job n o)
-  says-stop : Answers S v a-stop Said.stop
+pub data Answers (S : State) (v : ℕ) : Event → StepSaid → Type 0 where
+  says-start : Answers S v a-start StepSaid.start
+  says-new : Answers S v a-new (StepSaid.new (S .count))
+  says-edge : (a b : ℕ) → Answers S v an-edge (StepSaid.edge a b)
+  says-release : (m : ℕ) → Answers S v a-release (StepSaid.release m)
+  says-transfer : (h : ℕ) → Answers S v a-transfer (StepSaid.transfer h)
+  says-job : {o n : ℕ} {r : Code} → S .control v ≡ busy (job-at o n r) [] → Answers S v (a-job o) (StepSaid.job n o)
+  says-stop : Answers S v a-stop StepSaid.stop
 
 -- what a move does to the tally's other numbers, and to the tables' lengths
 pub record Tallied (e : Event) (s s' : Lent) : Type 0 where

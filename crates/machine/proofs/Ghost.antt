@@ -15,7 +15,7 @@ use Rattle.graph.specs.Tests.{both, either}
 use Rattle.program.specs.Trees.{Kind, jobs, asyncs, finishes, forks}
 use Rattle.program.specs.Encodings.{Name, own-scope, made-1, made-2, made-3, Command, perform, newTd, newEdge, transfer, release}
 use Rattle.program.specs.Encodings.{firstEdition}
-use Rattle.program.specs.Located.{Code, end-at, job-at, async-at, finish-at, fork-at, place, last}
+use Rattle.program.specs.Located.{Code, end-at, job-at, async-at, finish-at, fork-at, startOf, last}
 
 -- A command that joins vertices.
 pub data Do : Type 0 where
@@ -178,7 +178,7 @@ eventOf (free m) = a-release
 -- the vertices of an item under way and one more, made by v, which has come to x
 abbrev pub oneMore : State → ℕ → List ℕ → Control → Control → Code → Name → State
 oneMore S v ms x kid k a =
-    withControl (grown S v kid (resolved (S .scope v) ms a) (place k) (last k)) (put (put (S .control) (S .count) kid) v x)
+    withControl (grown S v kid (resolved (S .scope v) ms a) (startOf k) (last k)) (put (put (S .control) (S .count) kid) v x)
 
 -- with these vertices drafts no more
 abbrev pub stirred : (ℕ → Control) → List ℕ → ℕ → Control
@@ -187,7 +187,7 @@ stirred f ms u = cond (among u ms) (woken (f u)) (f u)
 -- the same at the split: those that were made before are drafts no more
 abbrev pub split : State → ℕ → List ℕ → Control → Code → Name → State
 split S v ms x k a =
-    withControl (grown S v (fresh k) (resolved (S .scope v) ms a) (place k) (last k))
+    withControl (grown S v (fresh k) (resolved (S .scope v) ms a) (startOf k) (last k))
     (put (put (stirred (S .control) ms) (S .count) (fresh k)) v x)
 
 -- The steps of a vertex v of a program whose last byte is at L.

@@ -11,7 +11,7 @@ use mathlib.Core.Logic.{_⊎_}
 use mathlib.Core.List.{List, [], _∷_}
 use mathlib.Core.Option.{Option, none, some}
 use Rattle.program.specs.Encodings.{Name}
-use Rattle.program.specs.Located.{Code, end-at, job-at, async-at, finish-at, fork-at, place, last, codeAt}
+use Rattle.program.specs.Located.{Code, end-at, job-at, async-at, finish-at, fork-at, startOf, last, codeAt}
 use Rattle.machine.proofs.Ghost.{Do, link, hand, free, Control, draft, fresh, ready, busy, joining, over, State, kids, resolved}
 
 -- x is in a list
@@ -98,7 +98,7 @@ pub data Way (R : ℕ → ℕ → Type 0) : ℕ → ℕ → Type 0 where
 pub record Draft (S : State) (v : ℕ) (all : List ℕ) (m : ℕ) (k : Code) (a : Name) : Type 0 where
   pub is-draft : S .control m ≡ draft k
   pub scope-is : S .scope m ≡ resolved (S .scope v) all a
-  pub rank-is : S .rank m ≡ place k
+  pub rank-is : S .rank m ≡ startOf k
   pub fin-is : S .fin m ≡ last k
   pub made-by : S .maker m ≡ v
 
@@ -172,4 +172,4 @@ pub record Roads (S : State) : Type 0 where
 
 -- the code of each vertex stands in the program p
 abbrev pub Coded : Code → State → Type 0
-Coded p S = (v : ℕ) (c : Code) → codeOf (S .control v) ≡ some c → codeAt p (place c) ≡ some c
+Coded p S = (v : ℕ) (c : Code) → codeOf (S .control v) ≡ some c → codeAt p (startOf c) ≡ some c

@@ -12,7 +12,7 @@ use Rattle.graph.specs.Tables.{EXECUTING}
 use Rattle.program.specs.Encodings.{Name, own-scope, made-1, Spot, first-body, second-body, past-item, Command, perform, newTd, newEdge}
 use Rattle.program.specs.Encodings.{transfer, release, firstEdition, weight}
 use Rattle.program.specs.Encodings as table
-use Rattle.program.specs.Located.{Code, end-at, job-at, async-at, finish-at, fork-at, place, codeAt}
+use Rattle.program.specs.Located.{Code, end-at, job-at, async-at, finish-at, fork-at, startOf, codeAt}
 use Rattle.machine.specs.Stepping.{nth, Own, own, withMade, withKept, withPhase, movedOn}
 use Rattle.machine.proofs.Ghost.{Do, link, hand, free, joining, kids, goes, kindOf, commandsOf, resolved, joins, todo, onward}
 use Rattle.machine.proofs.Invariant.{isItem}
@@ -143,10 +143,10 @@ joins-some σ ms (release a) cs j h = not-nil (sym h)
 
 -- the row of a vertex that is at phase φ of the first item of c, and of one whose item has made ms
 abbrev itemRow : Code → ℕ → ℕ → List ℕ → Words
-itemRow c σ φ ms = row EXECUTING (place c) σ φ (getD ms 0 0) (getD ms 1 0) (getD ms 2 0)
+itemRow c σ φ ms = row EXECUTING (startOf c) σ φ (getD ms 0 0) (getD ms 1 0) (getD ms 2 0)
 
 abbrev pub busyRow : Code → ℕ → List ℕ → Words
-busyRow c σ ms = row EXECUTING (place c) σ (length ms) (getD ms 0 0) (getD ms 1 0) (getD ms 2 0)
+busyRow c σ ms = row EXECUTING (startOf c) σ (length ms) (getD ms 0 0) (getD ms 1 0) (getD ms 2 0)
 
 module _ {p : Code} {L : ℕ} (σ : ℕ) (w : Words) (k : Code) (φ : ℕ) (ms : List ℕ) (i : ItemOf L k) (is-row : w ≡ itemRow k σ φ ms) where
   -- the row after an item's last command
@@ -157,7 +157,7 @@ module _ {p : Code} {L : ℕ} (σ : ℕ) (w : Words) (k : Code) (φ : ℕ) (ms :
 
   -- and after another one of those that join
   shows-next :
-      (ds : List Do) → codeAt p (place k) ≡ some k → length (kids k) ≤ φ → joins σ ms (drop (suc φ) (commandsOf (kindOf k))) ≡ ds
+      (ds : List Do) → codeAt p (startOf k) ≡ some k → length (kids k) ≤ φ → joins σ ms (drop (suc φ) (commandsOf (kindOf k))) ≡ ds
       → (ds ≡ [] → ⊥) → Shows p L (putOwn (withPhase (suc φ) (ownIn w)) w) σ (onward (goes L k) ds)
   unfolding onward withPhase
   shows-next [] at le h full = absurd (full refl)
@@ -166,7 +166,7 @@ module _ {p : Code} {L : ℕ} (σ : ℕ) (w : Words) (k : Code) (φ : ℕ) (ms :
 
   -- by what is left
   shows-onward :
-      (x : ℕ) (c : Command) (rest : List Command) (d : Do) (ds : List Do) → codeAt p (place k) ≡ some k → length (kids k) ≤ φ
+      (x : ℕ) (c : Command) (rest : List Command) (d : Do) (ds : List Do) → codeAt p (startOf k) ≡ some k → length (kids k) ≤ φ
       → drop (suc φ) (commandsOf (kindOf k)) ≡ rest → suc φ + length rest ≡ length (commandsOf (kindOf k)) → Joining rest → Joins σ ms c d
       → joins σ ms rest ≡ ds → Shows p L (advancing (rowOf i) (i .spot) c φ x w) σ (onward (goes L k) ds)
   unfolding joins movedOn
@@ -191,7 +191,7 @@ pub record Acting (p : Code) (L σ : ℕ) (w : Words) (d : Do) (ds : List Do) (t
   pub ms : List ℕ
   pub item : ItemOf L k
   pub is-row : w ≡ itemRow k σ φ ms
-  pub stands : codeAt p (place k) ≡ some k
+  pub stands : codeAt p (startOf k) ≡ some k
   pub command : Command
   pub next-is : nth (rowOf item .commands) φ ≡ some command
   pub does : Joins σ ms command d
@@ -234,14 +234,14 @@ pub record Making (L : ℕ) (c : Code) (ms : List ℕ) (k : Code) (a : Name) : T
   pub item : ItemOf L c
   pub spot-of : Spot
   pub next-is : nth (rowOf item .commands) (length ms) ≡ some (newTd spot-of a)
-  pub spot-is : item .spot spot-of ≡ place k
+  pub spot-is : item .spot spot-of ≡ startOf k
   pub row-is :
       (σ x : ℕ) → advancing (rowOf item) (item .spot) (newTd spot-of a) (length ms) x (busyRow c σ ms) ≡ busyRow c σ (ms ++ (x ∷ []))
 
 -- this one is the last: the row shows what the item does behind its split
 abbrev pub Splitting : ℕ → Code → List ℕ → Type 0
 Splitting L c ms =
-    (p : Code) (σ x : ℕ) (w : Words) → w ≡ busyRow c σ (ms ++ (x ∷ [])) → codeAt p (place c) ≡ some c
+    (p : Code) (σ x : ℕ) (w : Words) → w ≡ busyRow c σ (ms ++ (x ∷ [])) → codeAt p (startOf c) ≡ some c
     → Shows p L w σ (onward (goes L c) (todo σ (ms ++ (x ∷ [])) c))
 
 -- what an item does that has made ms and is not split

@@ -147,7 +147,7 @@ module _ (bytes : List ℕ) (s : Lent) (t : Body) (h : Lends t s) where
       (first-row (s .vertices) L (two-rows t s h) ∙ ap (λ (x : ℕ). row RELEASED x 1 0 0 0 0) (sym (place-locate 0 t)))
 
   second-shows : Shows (locate 0 t) L (wordsOf (loadedTables bytes s) 1) 1 (ready (end-at L))
-  unfolding loadedTables wordsOf code.place
+  unfolding loadedTables wordsOf code.startOf
   second-shows = shows-ready (second-row (s .vertices) L (two-rows t s h))
 
   rows-follow : (v : ℕ) → v < 2 → Shows (locate 0 t) L (wordsOf (loadedTables bytes s) v) 1 (beginning (locate 0 t) L .control v)

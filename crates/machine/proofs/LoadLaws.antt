@@ -47,12 +47,12 @@ module _ (bytes : List ℕ) (s : Lent) (b : Body) where
   unfolding loadRead
   enough-rows h = sym (cond-no _ _ (le-ltb _ _ (h .vertex-rows))) ∙ sym (cond-no _ _ (le-ltb _ _ (h .edge-rows)))
 
-  vertex-rows-wanting : vertexRows (s .vertices) < needs.vertices firstEdition b → loadRead bytes s (program b) ≡ refuseLoading s too-few-vertex-rows 0
+  vertex-rows-wanting : vertexRows (s .vertices) < needs.verticesMade firstEdition b → loadRead bytes s (program b) ≡ refuseLoading s too-few-vertex-rows 0
   unfolding loadRead
   vertex-rows-wanting lt = sym (cond-yes _ _ (lt-ltb _ _ lt))
 
   edge-rows-wanting :
-      needs.vertices firstEdition b ≤ vertexRows (s .vertices) → edgeRows (s .edges) < needs.edgeRows firstEdition b
+      needs.verticesMade firstEdition b ≤ vertexRows (s .vertices) → edgeRows (s .edges) < needs.edgeRowsNeeded firstEdition b
       → loadRead bytes s (program b) ≡ refuseLoading s too-few-edge-rows 0
   unfolding loadRead
   edge-rows-wanting le lt = sym (cond-no _ _ (le-ltb _ _ le)) ∙ sym (cond-yes _ _ (lt-ltb _ _ lt))
@@ -78,8 +78,8 @@ comes-program bytes s b r =
     (λ q.
     let l : Lends b s = record { vertex-rows = ltb-false _ _ p; edge-rows = ltb-false _ _ q } in
     loads b r l (enough-rows bytes s b l))
-    (decide (ltb (edgeRows (s .edges)) (needs.edgeRows firstEdition b))))
-    (decide (ltb (vertexRows (s .vertices)) (needs.vertices firstEdition b)))
+    (decide (ltb (edgeRows (s .edges)) (needs.edgeRowsNeeded firstEdition b))))
+    (decide (ltb (vertexRows (s .vertices)) (needs.verticesMade firstEdition b)))
 
 -- any bytes
 comes-of : (bytes : List ℕ) (s : Lent) (r : Reading) → reading bytes ≡ r → Comes bytes s (loadRead bytes s r)
@@ -146,11 +146,11 @@ load-accepted bytes s t r = there (load-comes bytes s)
 
 -- a program needs two vertex rows and one edge row
 pub two-rows : (t : Body) (s : Lent) → Lends t s → 2 ≤ vertexRows (s .vertices)
-unfolding needs.vertices
+unfolding needs.verticesMade
 two-rows t s h = omega (arith, h .vertex-rows)
 
 pub one-edge-row : (t : Body) (s : Lent) → Lends t s → 0 < edgeRows (s .edges)
-unfolding needs.edgeRows
+unfolding needs.edgeRowsNeeded
 one-edge-row t s h = omega (arith, h .edge-rows)
 
 -- the words from n on are what they were

@@ -30,7 +30,7 @@ use Rattle.graph.proofs.TestLaws.{true-false, decide, not-so, equal?, both-righ
 use Rattle.graph.proofs.SoundLaws.{Known, sound-fits, fits-sound}
 use Rattle.graph.proofs.Demand2.{stays-sound}
 use Rattle.refusal.specs.Refusals.{unsound-tables}
-use Rattle.machine.specs.Answers.{Said, Outcome, accepted}
+use Rattle.machine.specs.Answers.{StepSaid, Outcome, accepted}
 use Rattle.machine.specs.Stepping.{stepLimit, steppable, Own, Due, refusal-due, job-due, command-due, due, step}
 use Rattle.machine.specs.Running.{canStep, lowest, allFinished, done, stuck, spent, refused, RunOutcome, ended, look, runOn, run}
 use Rattle.machine.specs.Demand2.{Adds, Does}
@@ -169,7 +169,7 @@ run-goes bytes s budget h = rw h refl
 
 -- a look that finds none
 look-none :
-    (bytes : List ℕ) (again : Lent → Option Said → ℕ → RunOutcome) (left : ℕ) (s : Lent) (last : Option Said) (taken : ℕ) (all : Bool)
+    (bytes : List ℕ) (again : Lent → Option StepSaid → ℕ → RunOutcome) (left : ℕ) (s : Lent) (last : Option StepSaid) (taken : ℕ) (all : Bool)
     → look bytes again left s last taken all none ≡ ended (cond all done stuck) last taken s
 unfolding look
 look-none bytes again left s last taken true = refl
@@ -177,7 +177,7 @@ look-none bytes again left s last taken false = refl
 
 -- A run ends where it finds none: done or stuck.
 pub rests :
-    (bytes : List ℕ) (left : ℕ) (s : Lent) (last : Option Said) (taken : ℕ) → lowest bytes s ≡ none
+    (bytes : List ℕ) (left : ℕ) (s : Lent) (last : Option StepSaid) (taken : ℕ) → lowest bytes s ≡ none
     → runOn bytes left s last taken ≡ ended (cond (allFinished s) done stuck) last taken s
 unfolding runOn
 rests bytes zero s last taken h = rw h (look-none bytes _ 0 s last taken (allFinished s))
@@ -190,14 +190,14 @@ found-live bytes s v h =
 
 -- It ends where it finds a vertex and the budget is used,
 pub used-up :
-    (bytes : List ℕ) (s : Lent) (last : Option Said) (taken v : ℕ) → lowest bytes s ≡ some v
+    (bytes : List ℕ) (s : Lent) (last : Option StepSaid) (taken v : ℕ) → lowest bytes s ≡ some v
     → runOn bytes 0 s last taken ≡ ended spent last taken s
 unfolding runOn look
 used-up bytes s last taken v h = rw (found-live bytes s v h, h) refl
 
 -- and otherwise goes on behind the step of this vertex.
 pub goes-on :
-    (bytes : List ℕ) (left : ℕ) (s : Lent) (last : Option Said) (taken v : ℕ) → lowest bytes s ≡ some v
+    (bytes : List ℕ) (left : ℕ) (s : Lent) (last : Option StepSaid) (taken v : ℕ) → lowest bytes s ≡ some v
     → runOn bytes (suc left) s last taken ≡ runOn bytes left (step bytes s v .after) (some (step bytes s v .answer)) (suc taken)
 unfolding runOn look
 goes-on bytes left s last taken v h = rw (found-live bytes s v h, h) refl

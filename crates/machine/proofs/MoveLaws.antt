@@ -16,7 +16,7 @@ use Rattle.graph.proofs.TableLaws.{keptRows-le}
 use Rattle.graph.proofs.TakenLaws.{leaves, Taken}
 use Rattle.graph.proofs.WordLaws.{vertex-words-of, edge-words-of, steps-kept-of}
 use Rattle.program.specs.Encodings.{Name, Spot, Command, perform, newTd}
-use Rattle.program.specs.Located.{Code, job-at, place, last}
+use Rattle.program.specs.Located.{Code, job-at, startOf, last}
 use Rattle.machine.specs.Answers.{Outcome}
 use Rattle.machine.specs.Stepping.{Own, ownOf, movedOn, command-due, filledIn, withOwn, doDue}
 use Rattle.machine.proofs.Ghost.{Do, Control, busy, State, put, resolved, onward, done, withControl, grown, Event, Move}
@@ -102,17 +102,17 @@ module _ {p : Code} {L : ℕ} {s : Lent} {S : State} (F : Follows p L s S) (v : 
   -- a vertex more, which has the scope σ
   pub makes-follows :
       (c : Code) (ms : List ℕ) (k : Code) (a : Name) (m : Making L c ms k a) (x kid : Control) (σ : ℕ)
-      → Shows p L (row NEW (place k) σ 0 0 0 0) σ kid
+      → Shows p L (row NEW (startOf k) σ 0 0 0 0) σ kid
       → ((w : Words) → w ≡ busyRow c (S .scope v) (ms ++ (S .count ∷ [])) → Shows p L w (S .scope v) x)
-      → wordsOf s v ≡ busyRow c (S .scope v) ms → v < s .made → Taken (NewTd v (place k) σ) s
+      → wordsOf s v ≡ busyRow c (S .scope v) ms → v < s .made → Taken (NewTd v (startOf k) σ) s
       → Follows p L
-      (withOwn (leaves (NewTd v (place k) σ) s) v
+      (withOwn (leaves (NewTd v (startOf k) σ) s) v
       (movedOn (rowOf (m .item)) (m .item .spot) (newTd (m .spot-of) a) (length ms) (s .made) (ownOf s v)))
-      (withControl (grown S v kid σ (place k) (last k)) (put (put (S .control) (S .count) kid) v x))
+      (withControl (grown S v kid σ (startOf k) (last k)) (put (put (S .control) (S .count) kid) v x))
   makes-follows c ms k a m x kid σ kid-shown shown is-row lt taken =
-      own-follows (grown S v kid σ (place k) (last k)) x on (new-done F v kid k σ kid-shown taken)
-      (row-within s (F .sound-is) (NewTd v (place k) σ) v lt)
-      (new-others s (place k) σ v (omega arith))
+      own-follows (grown S v kid σ (startOf k) (last k)) x on (new-done F v kid k σ kid-shown taken)
+      (row-within s (F .sound-is) (NewTd v (startOf k) σ) v lt)
+      (new-others s (startOf k) σ v (omega arith))
       (rw (put-other (S .scope) (S .count) σ v (omega (arith, lt, F .made-is)))
       (shown _
       (ap (λ (w : Words). putOwn (on (ownIn w)) w) is-row

@@ -4,11 +4,11 @@ use Prim.Native.Nat.{ℕ}
 use mathlib.Core.Path.{_≡_, refl}
 use mathlib.Core.List.{List, [], _∷_, _++_}
 use Rattle.graph.specs.Tables.{Lent}
-use Rattle.program.specs.Trees.{ahead, total}
-use Rattle.program.specs.Encodings.{vertices, itemsWeight, firstEdition, weight, makes}
+use Rattle.program.specs.Trees.{withFirst, total}
+use Rattle.program.specs.Encodings.{verticesMade, itemsWeight, firstEdition, weight, makes}
 use Rattle.program.specs.Reader as reader
 use Rattle.program.specs.Reader.{reading, program}
-use Rattle.machine.specs.Answers.{Said, job}
+use Rattle.machine.specs.Answers.{StepSaid, job}
 use Rattle.machine.specs.Reached.{Reached}
 use Rattle.machine.specs.Demand3.{ranIn}
 use Rattle.machine.proofs.AheadExamples.{forked, left-ahead, right-ahead}
@@ -20,11 +20,11 @@ bytes = 0x04 ∷ 0x01 ∷ 0x01 ∷ 0x00 ∷ 0x01 ∷ 0x02 ∷ 0x00 ∷ 0x01 ∷ 
 -- the bytes are this program's
 reads : reading bytes ≡ program forked
 unfolding reading reader.whole reader.body reader.bodyOf reader.item reader.itemOf reader.deeper reader.kindOf reader.number
-    reader.groups reader.unless reader.andThen reader.jobOf reader.counted vertices itemsWeight firstEdition weight makes total ahead
+    reader.groups reader.takeIf reader.andThen reader.jobOf reader.counted verticesMade itemsWeight firstEdition weight makes total withFirst
 reads = refl
 
 -- Before job 3, at offset 7, is answered, jobs 1 and 2, at offsets 1 and 4, were answered once.
-pub job-3-last : {s₀ : Lent} {answers : List Said} {s : Lent} → Reached bytes s₀ answers s → (before after : List Said) (n : ℕ)
+pub job-3-last : {s₀ : Lent} {answers : List StepSaid} {s : Lent} → Reached bytes s₀ answers s → (before after : List StepSaid) (n : ℕ)
     → answers ≡ before ++ (job n 7 ∷ after) → (ranIn 1 before ≡ 1) × (ranIn 4 before ≡ 1)
 job-3-last q before after n e =
     let d = demand3 bytes forked reads q in

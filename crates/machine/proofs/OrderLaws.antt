@@ -17,7 +17,7 @@ use mathlib.Core.Logic.{inl, inr}
 use mathlib.Core.Option.{some}
 use native.Mathlib.Omega.{arith}
 use Rattle.program.specs.Trees.{Body}
-use Rattle.program.specs.Located.{Code, job-at, async-at, finish-at, fork-at, locate, place, last, codeAt}
+use Rattle.program.specs.Located.{Code, job-at, async-at, finish-at, fork-at, locate, startOf, last, codeAt}
 use Rattle.program.proofs.LocatedLaws.{Inner, job-rest, async-body, async-rest, finish-body, finish-rest, fork-left, fork-right, fork-rest}
 use Rattle.program.proofs.LocatedLaws.{Part, itself, inside, Laid, code-laid, code-part, part-code}
 use Rattle.machine.specs.Demand3.{Written, written}
@@ -52,8 +52,8 @@ pre-job (fork-at o b c r) p q (inr (inr (inl h))) = let (i, j) = pre-job c p q h
 pre-job (fork-at o b c r) p q (inr (inr (inr h))) = let (i, j) = pre-job r p q h in (inr (inr i), inr (inr j))
 
 -- the jobs of laid code stand from its start on and before its end
-pub job-range : (c : Code) (p : ℕ) → Laid c → Job c p → (place c ≤ p) × (p < last c)
-unfolding Job Laid place last
+pub job-range : (c : Code) (p : ℕ) → Laid c → Job c p → (startOf c ≤ p) × (p < last c)
+unfolding Job Laid startOf last
 job-range (job-at o n r) p (l, k) (inl e) = (omega arith, omega (arith, l .starts, l .rest))
 job-range (job-at o n r) p (l, k) (inr j) = let (s, e) = job-range r p k j in (omega (arith, l .starts, s), e)
 job-range (async-at o b r) p (l, kb, kr) (inl j) =
@@ -79,7 +79,7 @@ job-range (fork-at o b c r) p (l, kb, kc, kr) (inr (inr j)) =
     (omega (arith, l .starts, l .left, l .between, l .right, l .ends, s), e)
 
 -- of two codes that stand one behind the other so do the jobs
-codes-apart : (b r : Code) (p q : ℕ) → Laid b → Laid r → suc (last b) ≤ place r → Job b p → Job r q → p < q
+codes-apart : (b r : Code) (p q : ℕ) → Laid b → Laid r → suc (last b) ≤ startOf r → Job b p → Job r q → p < q
 codes-apart b r p q kb kr le i j = omega (arith, job-range b p kb i .1, job-range r q kr j .0)
 
 -- a job stands before the jobs of the rest
@@ -114,7 +114,7 @@ right-before o b c r p q (l, kb, kc, kr) i j = codes-apart c r p q kc kr (omega 
 
 -- what is right inside laid code is laid
 laid-inner : {m d : Code} → Inner m d → Laid m → Laid d
-laid-inner {m} {d} i l = code-laid m (place d) l (part-code (inside i itself) l)
+laid-inner {m} {d} i l = code-laid m (startOf d) l (part-code (inside i itself) l)
 
 -- what is ahead stands before
 pub pre-less : (c : Code) (p q : ℕ) → Laid c → Pre c p q → p < q
@@ -133,9 +133,9 @@ pre-less (fork-at o b c r) p q l (inr (inr (inl h))) = pre-less c p q (laid-inne
 pre-less (fork-at o b c r) p q l (inr (inr (inr h))) = pre-less r p q (laid-inner fork-rest l) h
 
 -- nothing is ahead of a job that stands first
-pub pre-not-first : (c : Code) (p : ℕ) → Laid c → Pre c p (place c) → ⊥
+pub pre-not-first : (c : Code) (p : ℕ) → Laid c → Pre c p (startOf c) → ⊥
 pre-not-first c p l h =
-    absurd (omega (arith, pre-less c p (place c) l h, job-range c p l (pre-job c p (place c) h .0) .0))
+    absurd (omega (arith, pre-less c p (startOf c) l h, job-range c p l (pre-job c p (startOf c) h .0) .0))
 
 -- the jobs of what is right inside are jobs of the whole
 inner-job : {m d : Code} (p : ℕ) → Inner m d → Job d p → Job m p

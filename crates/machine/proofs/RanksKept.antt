@@ -9,7 +9,7 @@ use mathlib.Core.Option.{some, Option·some-injective}
 use native.Mathlib.Omega.{arith}
 use Rattle.graph.proofs.TestLaws.{equal?, true-false}
 use Rattle.program.specs.Encodings.{Name}
-use Rattle.program.specs.Located.{Code, job-at, place, last}
+use Rattle.program.specs.Located.{Code, job-at, startOf, last}
 use Rattle.program.proofs.LocatedLaws.{Laid, laid-le, code-laid, code-inner}
 use Rattle.machine.proofs.Ghost.{Do, link, hand, free, Control, draft, fresh, busy, over, State, put, kids, goes, resolved, todo}
 use Rattle.machine.proofs.Ghost.{onward, withControl, withEdges, grown, split, done, Event, Move, begins, performs, stops, makes}
@@ -77,30 +77,30 @@ le-old g h n x y a b p q r = rw (put-below g n x a p, put-below h n y b q) r
 
 -- One new vertex, with the code k and a scope σ behind it: what is to do goes by rank, and an item is of k or ends where an item did.
 grown-ranks :
-    (S : State) (v : ℕ) (y : Control) (σ : ℕ) (k : Code) (f : ℕ → Control) → Shape S → Ranks S → place k ≤ last k → σ < S .count
+    (S : State) (v : ℕ) (y : Control) (σ : ℕ) (k : Code) (f : ℕ → Control) → Shape S → Ranks S → startOf k ≤ last k → σ < S .count
     → last k < S .rank σ
     → ((t a b : ℕ) → In (link a b) (tasks (f t))
-    → In (link a b) (tasksOf S t) ⊎ (put (S .fin) (S .count) (last k) a < put (S .rank) (S .count) (place k) b))
+    → In (link a b) (tasksOf S t) ⊎ (put (S .fin) (S .count) (last k) a < put (S .rank) (S .count) (startOf k) b))
     → ((t h : ℕ) → In (hand h) (tasks (f t))
     → In (hand h) (tasksOf S t) ⊎ (put (S .fin) (S .count) (last k) h ≤ put (S .fin) (S .count) (last k) t))
     → ((u : ℕ) (c : Code) → codeOf (f u) ≡ some c → isItem c ≡ true → ((u ≡ S .count) × (c ≡ k)) ⊎ Had S u c)
-    → Ranks (withControl (grown S v y σ (place k) (last k)) f)
+    → Ranks (withControl (grown S v y σ (startOf k) (last k)) f)
 grown-ranks S v y σ k f sh rk le below behind links hands items =
     record {
       rank-le =
           λ u h.
           ⊎-elim
-          (λ e. rw e (rw (put-same (S .rank) n (place k), put-same (S .fin) n (last k)) le))
-          (λ ne. let lt : u < n = omega arith in le-old (S .rank) (S .fin) n (place k) (last k) u u lt lt (rk .rank-le u lt))
+          (λ e. rw e (rw (put-same (S .rank) n (startOf k), put-same (S .fin) n (last k)) le))
+          (λ ne. let lt : u < n = omega arith in le-old (S .rank) (S .fin) n (startOf k) (last k) u u lt lt (rk .rank-le u lt))
           (equal? u n);
       edge-rank =
           λ a b e.
-          let (p, q) = sh .within a b e in lt-old (S .fin) (S .rank) n (last k) (place k) a b p q (rk .edge-rank a b e);
+          let (p, q) = sh .within a b e in lt-old (S .fin) (S .rank) n (last k) (startOf k) a b p q (rk .edge-rank a b e);
       link-rank =
           λ t a b i.
           ⊎-elim
           (λ j.
-          let (p, q) = link-below sh t a b j in lt-old (S .fin) (S .rank) n (last k) (place k) a b p q (rk .link-rank t a b j))
+          let (p, q) = link-below sh t a b j in lt-old (S .fin) (S .rank) n (last k) (startOf k) a b p q (rk .link-rank t a b j))
           (λ h. h)
           (links t a b i);
       hand-rank =
@@ -114,12 +114,12 @@ grown-ranks S v y σ k f sh rk le below behind links hands items =
       scope-rank =
           λ u c h.
           ⊎-elim
-          (λ e. rw (e .0) (rw (put-same (S .fin) n (last k), put-same (S .scope) n σ, put-below (S .rank) n (place k) σ below) behind))
+          (λ e. rw (e .0) (rw (put-same (S .fin) n (last k), put-same (S .scope) n σ, put-below (S .rank) n (startOf k) σ below) behind))
           (λ had.
           let (c', h', e) = had in
           let lt = coded-below sh u (h' .0) in
           rw (put-below (S .scope) n σ u lt)
-          (lt-old (S .fin) (S .rank) n (last k) (place k) u (S .scope u) lt (sh .scope-within u lt) (rk .scope-rank u c' h')))
+          (lt-old (S .fin) (S .rank) n (last k) (startOf k) u (S .scope u) lt (sh .scope-within u lt) (rk .scope-rank u c' h')))
           (items u c (h .0) (h .1));
       code-fin =
           λ u c h.
@@ -202,7 +202,7 @@ goes-last L fork-3 e i = true-false i (ap isItem (sym e))
 plans-rank :
     {S : State} {v : ℕ} {c k : Code} {ms : List ℕ} {a : Name} → Shape S → Ranks S → S .control v ≡ busy c ms → Laid c → Splits c ms k a
     → ((x y : ℕ) → In (link x y) (todo (S .scope v) (ms ++ (S .count ∷ [])) c)
-    → put (S .fin) (S .count) (last k) x < put (S .rank) (S .count) (place k) y)
+    → put (S .fin) (S .count) (last k) x < put (S .rank) (S .count) (startOf k) y)
     × ((h : ℕ) → In (hand h) (todo (S .scope v) (ms ++ (S .count ∷ [])) c)
     → put (S .fin) (S .count) (last k) h ≤ put (S .fin) (S .count) (last k) v)
 unfolding Laid last resolved isItem Drafts kids
@@ -229,8 +229,8 @@ plans-rank {S} {v} sh rk q l (fork-3 {o = o} {m = m} {m' = m'} {b = b} {c = c} {
     let e = todo-fork o b c r (S .scope v) m m' (S .count) in
     let left = sh .under-way v _ _ q .0 .0 in
     let right = sh .under-way v _ _ q .0 .1 .0 in
-    let lt : S .fin m < place r = omega (arith, left .fin-is, l .0 .between, l .0 .right, l .0 .ends) in
-    let lt' : S .fin m' < place r = omega (arith, right .fin-is, l .0 .ends) in
+    let lt : S .fin m < startOf r = omega (arith, left .fin-is, l .0 .between, l .0 .right, l .0 .ends) in
+    let lt' : S .fin m' < startOf r = omega (arith, right .fin-is, l .0 .ends) in
     let at : last r ≡ S .fin v = rk .code-fin v _ (under-way-item q refl) in
     let le : last r ≤ S .fin v = omega arith in (
       λ x y i.
@@ -262,7 +262,7 @@ code-at-new g n v u y x {k} {d} q lt e h =
 -- the split of an item
 splits-ranks :
     (L : ℕ) {S : State} {v : ℕ} {c k : Code} {ms : List ℕ} {a : Name} → Shape S → Ranks S → S .control v ≡ busy c ms → Laid c
-    → place k ≤ last k → Splits c ms k a
+    → startOf k ≤ last k → Splits c ms k a
     → Ranks (split S v ms (onward (goes L c) (todo (S .scope v) (ms ++ (S .count ∷ [])) c)) k a)
 unfolding codeOf
 splits-ranks L {S} {v} {c} {k} {ms} {a} sh rk q l le m =
@@ -292,9 +292,9 @@ splits-ranks L {S} {v} {c} {k} {ms} {a} sh rk q l le m =
 -- a make that does not split
 makes-ranks :
     {S : State} {v : ℕ} {c k : Code} {ms : List ℕ} {a : Name} (ms' : List ℕ) → Shape S → Ranks S
-    → S .control v ≡ busy c ms → Laid c → place k ≤ last k → Makes c ms k a
+    → S .control v ≡ busy c ms → Laid c → startOf k ≤ last k → Makes c ms k a
     → Ranks
-    (withControl (grown S v (draft k) (resolved (S .scope v) ms a) (place k) (last k))
+    (withControl (grown S v (draft k) (resolved (S .scope v) ms a) (startOf k) (last k))
     (put (put (S .control) (S .count) (draft k)) v (busy c ms')))
 unfolding tasks codeOf
 makes-ranks {S} {v} {c} {k} {ms} {a} ms' sh rk q l le m =

@@ -10,7 +10,7 @@ use Rattle.program.specs.Trees.{Body, counts}
 use Rattle.program.specs.Encodings.{vertexFormula, edgeRowFormula}
 use Rattle.program.specs.Reader.{reading, program}
 use Rattle.program.proofs.Formulas.{vertices-formula, edgeRows-formula}
-use Rattle.machine.specs.Answers.{Said}
+use Rattle.machine.specs.Answers.{StepSaid}
 use Rattle.machine.specs.Running.{canStep}
 use Rattle.machine.specs.Reached.{Reached}
 use Rattle.machine.proofs.Ghost.{Control, draft, fresh, ready, busy, joining, over, State}
@@ -21,7 +21,7 @@ use Rattle.machine.proofs.Tracked.{tracked}
 use Rattle.machine.proofs.Demand3.{free-steps}
 
 -- At most V vertices are made, and at most the edge rows needed are held.
-pub rows-suffice : (bytes : List ℕ) (t : Body) {s₀ : Lent} {answers : List Said} {s : Lent} → reading bytes ≡ program t → Reached bytes s₀ answers s
+pub rows-suffice : (bytes : List ℕ) (t : Body) {s₀ : Lent} {answers : List StepSaid} {s : Lent} → reading bytes ≡ program t → Reached bytes s₀ answers s
     → (s .made ≤ vertexFormula (counts t)) × (s .held ≤ edgeRowFormula (counts t))
 rows-suffice bytes t r q =
     let T = tracked bytes t r q in (
@@ -40,7 +40,7 @@ status-free (joining c d ds) e h = at-work e
 status-free over e h = absurd (let z : _≡_ {A = ℕ} 4 3 = h in omega arith)
 
 -- No step of an executing vertex is refused.
-pub executing-steps : (bytes : List ℕ) (t : Body) {s₀ : Lent} {answers : List Said} {s : Lent} → reading bytes ≡ program t
+pub executing-steps : (bytes : List ℕ) (t : Body) {s₀ : Lent} {answers : List StepSaid} {s : Lent} → reading bytes ≡ program t
     → (q : Reached bytes s₀ answers s) → (v : ℕ) → v < s .made → status (s .vertices) v ≡ EXECUTING → canStep bytes s v ≡ true
 executing-steps bytes t {s = s} r q v lt h =
     let T = tracked bytes t r q in

@@ -12,10 +12,10 @@ use Rattle.graph.specs.Tables.{Lent, FINISHED, status}
 use Rattle.graph.specs.Commands.{isMade, hasStatus}
 use Rattle.graph.proofs.TestLaws.{true-false, not-so, every-at, every-all, below-suc}
 use Rattle.refusal.specs.Refusals.{unsound-tables}
-use Rattle.machine.specs.Answers.{Said}
+use Rattle.machine.specs.Answers.{StepSaid}
 use Rattle.machine.specs.Stepping.{steppable, due, step}
 use Rattle.machine.specs.Running.{canStep, orThis, lowestBelow, lowest, allFinished, Ending, refused, RunOutcome, ended, look, runOn, run}
-use Rattle.machine.specs.Demand2.{Steps, no-step, one-more, AllFinished, Looks, Ran, run-refused, run-steps}
+use Rattle.machine.specs.Demand2.{Steps, no-step, one-more, AllFinished, Looks, OnlySuchSteps, run-refused, run-steps}
 use Rattle.machine.proofs.StepDemand2.{step-counts}
 use Rattle.machine.proofs.AnswerLaws.{if-passed}
 
@@ -65,14 +65,14 @@ record Made (bytes : List ℕ) (s : Lent) (budget : ℕ) (o : RunOutcome) : Type
 -- on from where it has come to, with so much of the budget left
 module _ (bytes : List ℕ) (s₀ : Lent) (budget : ℕ) where
   -- `again` comes to that from wherever so much of the budget is left
-  abbrev Onward : (Lent → Option Said → ℕ → RunOutcome) → ℕ → Type 0
+  abbrev Onward : (Lent → Option StepSaid → ℕ → RunOutcome) → ℕ → Type 0
   Onward again left =
-      (s : Lent) (last : Option Said) (taken : ℕ) → Steps bytes s₀ taken last s → taken + left ≡ budget
+      (s : Lent) (last : Option StepSaid) (taken : ℕ) → Steps bytes s₀ taken last s → taken + left ≡ budget
       → Made bytes s₀ budget (again s last taken)
 
   -- one look
   look-made :
-      (again : Lent → Option Said → ℕ → RunOutcome) (left : ℕ) (s : Lent) (last : Option Said) (taken : ℕ) (all : Bool) (x : Option ℕ)
+      (again : Lent → Option StepSaid → ℕ → RunOutcome) (left : ℕ) (s : Lent) (last : Option StepSaid) (taken : ℕ) (all : Bool) (x : Option ℕ)
       → ((l : ℕ) → left ≡ suc l → Onward again l) → Steps bytes s₀ taken last s → taken + left ≡ budget → allFinished s ≡ all
       → Finds (canStep bytes s) (s .made) x → Made bytes s₀ budget (look bytes again left s last taken all x)
   unfolding look
@@ -107,7 +107,7 @@ module _ (bytes : List ℕ) (s₀ : Lent) (budget : ℕ) where
 
 -- so many steps raise the count by as many
 steps-counted :
-    {bytes : List ℕ} {s s' : Lent} {n : ℕ} {last : Option Said} → Steps bytes s n last s' → s' .steps ≡ s .steps + n
+    {bytes : List ℕ} {s s' : Lent} {n : ℕ} {last : Option StepSaid} → Steps bytes s n last s' → s' .steps ≡ s .steps + n
 steps-counted no-step = omega arith
 steps-counted {bytes} {s} (one-more {n = n} {s' = s'} v steps lowest) =
     let before : s' .steps ≡ s .steps + n = steps-counted steps in
@@ -116,7 +116,7 @@ steps-counted {bytes} {s} (one-more {n = n} {s' = s'} v steps lowest) =
 
 -- A run is refused by 12 only, and changes nothing then; otherwise it takes only such steps, and their number is what it says and by what
 -- the tally rises.
-pub run-ran : (bytes : List ℕ) (s : Lent) (budget : ℕ) → Ran bytes s budget (run bytes s budget)
+pub run-ran : (bytes : List ℕ) (s : Lent) (budget : ℕ) → OnlySuchSteps bytes s budget (run bytes s budget)
 unfolding run
 run-ran bytes s budget = go (steppable s) refl
   where
@@ -125,7 +125,7 @@ run-ran bytes s budget = go (steppable s) refl
 
     go :
         (b : Bool) → steppable s ≡ b
-        → Ran bytes s budget (cond b (runOn bytes budget s none 0) (ended (refused unsound-tables 0) none 0 s))
+        → OnlySuchSteps bytes s budget (cond b (runOn bytes budget s none 0) (ended (refused unsound-tables 0) none 0 s))
     go true h = run-steps h (made .by-steps) (made .within) (made .looks) (steps-counted (made .by-steps))
     go false h = run-refused h refl
 
@@ -133,7 +133,7 @@ run-ran bytes s budget = go (steppable s) refl
 pub run-place : (bytes : List ℕ) (s : Lent) (budget n p : ℕ) → run bytes s budget .ending ≡ refused n p → (n ≡ unsound-tables) × (p ≡ 0)
 run-place bytes s budget n p h = there (run-ran bytes s budget) h
   where
-    there : {o : RunOutcome} → Ran bytes s budget o → o .ending ≡ refused n p → (n ≡ unsound-tables) × (p ≡ 0)
+    there : {o : RunOutcome} → OnlySuchSteps bytes s budget o → o .ending ≡ refused n p → (n ≡ unsound-tables) × (p ≡ 0)
     there (run-refused b e) h =
         let q : refused n p ≡ refused unsound-tables 0 = sym h ∙ ap (λ (o : RunOutcome). o .ending) e in
         (cc, cc)

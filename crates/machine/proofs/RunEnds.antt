@@ -8,13 +8,13 @@ use lib.ListN.{length}
 use Rattle.graph.specs.Tables.{Lent, FINISHED}
 use Rattle.graph.proofs.TestLaws.{true-false}
 use Rattle.program.specs.Trees.{Body, counts}
-use Rattle.program.specs.Encodings.{steps, stepFormula}
+use Rattle.program.specs.Encodings.{stepsTaken, stepFormula}
 use Rattle.program.proofs.Formulas.{steps-formula}
-use Rattle.machine.specs.Answers.{Said}
+use Rattle.machine.specs.Answers.{StepSaid}
 use Rattle.machine.specs.Stepping.{steppable}
 use Rattle.machine.specs.Running.{canStep, Ending, done, stuck, spent, RunOutcome}
 use Rattle.machine.specs.Running as running
-use Rattle.machine.specs.Demand2.{AllFinished, Looks, Ran, run-refused, run-steps}
+use Rattle.machine.specs.Demand2.{AllFinished, Looks, OnlySuchSteps, run-refused, run-steps}
 use Rattle.machine.proofs.Ghost.{Control, draft, fresh, ready, busy, joining, over}
 use Rattle.machine.proofs.Weights.{total, each}
 use Rattle.machine.proofs.Counts.{all-over, over-all, steps-run}
@@ -31,7 +31,7 @@ status-over (busy c ms) h = absurd (let z : _≡_ {A = ℕ} 3 4 = h in omega ari
 status-over (joining c d ds) h = absurd (let z : _≡_ {A = ℕ} 3 4 = h in omega arith)
 status-over over h = refl
 
-module _ {bytes : List ℕ} {t : Body} {s₀ : Lent} {answers : List Said} {s : Lent} (T : Tracked bytes t s₀ answers s) where
+module _ {bytes : List ℕ} {t : Body} {s₀ : Lent} {answers : List StepSaid} {s : Lent} (T : Tracked bytes t s₀ answers s) where
   -- all vertices made are finished exactly if nothing is left to do
   finished-full : AllFinished s → s .steps ≡ stepFormula (counts t)
   finished-full all =
@@ -57,11 +57,11 @@ pub data Ends (t : Body) (s : Lent) (o : RunOutcome) : Type 0 where
       o .ending ≡ spent → (o .after .steps ≡ stepFormula (counts t) → ⊥) → o .after .steps ≡ s .steps + o .taken → Ends t s o
 
 pub run-ends :
-    {bytes : List ℕ} {t : Body} {s₀ s : Lent} {answers : List Said} {budget : ℕ} (o : RunOutcome) → steppable s ≡ true
-    → Ran bytes s budget o → Tracked bytes t s₀ answers (o .after)
+    {bytes : List ℕ} {t : Body} {s₀ s : Lent} {answers : List StepSaid} {budget : ℕ} (o : RunOutcome) → steppable s ≡ true
+    → OnlySuchSteps bytes s budget o → Tracked bytes t s₀ answers (o .after)
     → (((v : ℕ) → canStep bytes (o .after) v ≡ false) → o .after .steps ≡ stepFormula (counts t)) → Ends t s o
 run-ends o fit (run-refused h e) T live = true-false fit h
-run-ends {bytes} {t} {s = s} {budget = budget} o fit (run-steps h steps le looks counts-up) T live = go (o .ending) refl looks
+run-ends {bytes} {t} {s = s} {budget = budget} o fit (run-steps h stepsTaken le looks counts-up) T live = go (o .ending) refl looks
   where
     go : (e : Ending) → o .ending ≡ e → Looks bytes budget (o .taken) (o .after) e → Ends t s o
     go done p l = ends-done p (finished-full T l) counts-up

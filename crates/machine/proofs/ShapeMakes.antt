@@ -9,7 +9,7 @@ use mathlib.Core.List.{List, [], _∷_, _++_}
 use native.Mathlib.Omega.{arith}
 use Rattle.graph.proofs.TestLaws.{decide, equal?, true-false, not-so}
 use Rattle.program.specs.Encodings.{Name, own-scope, made-1, firstEdition}
-use Rattle.program.specs.Located.{Code, place, last}
+use Rattle.program.specs.Located.{Code, startOf, last}
 use Rattle.machine.proofs.Ghost.{Do, link, hand, free, Control, draft, fresh, busy, State, put, kids, onward, goes, todo, joins}
 use Rattle.machine.proofs.Ghost.{commandsOf, kindOf, resolved, woken, among, grown, withControl, oneMore, split, stirred}
 use Rattle.machine.proofs.Invariant.{In, here, later, Precedes, first, behind, Once, tasks, tasksOf, isNew, Draft, Drafts, FreesOnly}
@@ -330,7 +330,7 @@ module _
         record {
           is-draft = with-kid S v (S .control) (draft k) (busy c (ms ++ (S .count ∷ []))) lt;
           scope-is = put-same (S .scope) (S .count) (resolved (S .scope v) ms a) ∙ ap (resolved (S .scope v) ms) own ∙ own-is all;
-          rank-is = put-same (S .rank) (S .count) (place k);
+          rank-is = put-same (S .rank) (S .count) (startOf k);
           fin-is = put-same (S .fin) (S .count) (last k);
           made-by = put-same (S .maker) (S .count) v;
         }
@@ -344,7 +344,7 @@ module _
               (λ e. absurd (omega (arith, lm)))
               ∙ d .is-draft;
           scope-is = put-below (S .scope) (S .count) (resolved (S .scope v) ms a) m lm ∙ d .scope-is ∙ own-is all;
-          rank-is = put-below (S .rank) (S .count) (place k) m lm ∙ d .rank-is;
+          rank-is = put-below (S .rank) (S .count) (startOf k) m lm ∙ d .rank-is;
           fin-is = put-below (S .fin) (S .count) (last k) m lm ∙ d .fin-is;
           made-by = put-below (S .maker) (S .count) v m lm ∙ d .made-by;
         }
@@ -368,7 +368,7 @@ pub shape-makes :
     → Shape (oneMore S v ms (busy c (ms ++ (S .count ∷ []))) (draft k) k a)
 unfolding tasks
 shape-makes {S} {v} {c} {ms} {k} {a} sh h mk =
-    shape-with S v (S .control) (draft k) (busy c ms') (resolved (S .scope v) ms a) (place k) (last k) sh
+    shape-with S v (S .control) (draft k) (busy c ms') (resolved (S .scope v) ms a) (startOf k) (last k) sh
     (below sh v (λ o. clash cc)) (busy-old h) (busy-old refl) (draft-new refl) (makes-scope sh h mk) (λ u. inl refl)
     (λ c' ns e.
     let (same, same') : (c ≡ c') × (ms' ≡ ns) = (cc, cc) in
@@ -526,7 +526,7 @@ pub shape-splits :
     (L : ℕ) {S : State} {v : ℕ} {c : Code} {ms : List ℕ} {k : Code} {a : Name} → Shape S → S .control v ≡ busy c ms
     → Splits c ms k a → Shape (split S v ms (onward (goes L c) (todo (S .scope v) (ms ++ (S .count ∷ [])) c)) k a)
 shape-splits L {S} {v} {c} {ms} {k} {a} sh h sp =
-    shape-with S v (stirred (S .control) ms) (fresh k) x (resolved (S .scope v) ms a) (place k) (last k) sh
+    shape-with S v (stirred (S .control) ms) (fresh k) x (resolved (S .scope v) ms a) (startOf k) (last k) sh
     (below sh v (λ o. clash cc)) (busy-old h) old (fresh-new refl) (splits-scope sh h sp) (splits-stay sh h)
     (λ c' ns e. none-made (split S v ms x k a) v c' (sym (made-busy e) ∙ onward-made (goes L c) ds))
     (λ m k'.

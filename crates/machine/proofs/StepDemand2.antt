@@ -41,7 +41,7 @@ use Rattle.graph.proofs.Reasons.{refused-place}
 use Rattle.graph.proofs.Demand2.{refused-keeps, effect, acceptance}
 use Rattle.program.specs.Encodings.{Spot, Command, perform, newTd, newEdge, transfer, release, Row}
 use Rattle.program.specs.Located.{itemAt}
-use Rattle.machine.specs.Answers.{Said, Outcome, accepted, refuse, saidAs}
+use Rattle.machine.specs.Answers.{StepSaid, Outcome, accepted, refuse, saidAs}
 use Rattle.machine.specs.Stepping.{stepLimit, steppable, place, phase, Task, item, ends, nothing, task, Own, Due, refusal-due}
 use Rattle.machine.specs.Stepping.{job-due, command-due, dueIf, filledIn, nextOf, nextAt, due, doDue, step}
 use Rattle.machine.specs.Demand2.{IsCommand, Does, Before, Refused, before, by-command}
@@ -49,7 +49,7 @@ use Rattle.machine.proofs.OwnLaws.{own-adds}
 use Rattle.machine.proofs.StepLaws.{step-is, due-released}
 
 -- a step says that it is accepted where its command does
-said-accepted : (a : of-graph.Said) → accepted (saidAs a) ≡ of-graph.accepted a
+said-accepted : (a : of-graph.CommandSaid) → accepted (saidAs a) ≡ of-graph.accepted a
 said-accepted of-graph.start = refl
 said-accepted (of-graph.new v) = refl
 said-accepted (of-graph.edge a b) = refl
@@ -134,7 +134,7 @@ step-counts bytes s v = counts-due s v (step bytes s v) (due bytes s v) (step-do
 -- A step that is a job names it, and leaves the graph.
 pub job-step :
     (bytes : List ℕ) (s : Lent) (v n p : ℕ) (w : Own) → due bytes s v ≡ job-due n p w
-    → (step bytes s v .answer ≡ Said.job n p) × (graph (step bytes s v .after) ≡ graph s)
+    → (step bytes s v .answer ≡ StepSaid.job n p) × (graph (step bytes s v .after) ≡ graph s)
 job-step bytes s v n p w e =
     let d = subst (λ (d : Due). Does s v (step bytes s v) d) e (step-does bytes s v) in
     (d .0, d .1 .same-graph)
@@ -218,7 +218,7 @@ before-due bytes s v =
     (before-cond (hasStatus s v RELEASED) _ _ tt (before-task s v (task (length bytes - 1) (itemAt bytes (place s v))))))))
 
 -- only a refused command is said to be refused
-said-refused : (a : of-graph.Said) {n p : ℕ} → saidAs a ≡ Said.refused n p → a ≡ of-graph.refused n p
+said-refused : (a : of-graph.CommandSaid) {n p : ℕ} → saidAs a ≡ StepSaid.refused n p → a ≡ of-graph.refused n p
 said-refused of-graph.start h = true-false refl (ap accepted h)
 said-refused (of-graph.new v) h = true-false refl (ap accepted h)
 said-refused (of-graph.edge a b) h = true-false refl (ap accepted h)
@@ -228,21 +228,21 @@ said-refused of-graph.stop h = true-false refl (ap accepted h)
 said-refused (of-graph.refused n p) h = cc
 
 -- A step is refused by 12, 20, 22, 23 or 13, before any command, or exactly as its command is.
-pub step-refused : (bytes : List ℕ) (s : Lent) (v n p : ℕ) → (step bytes s v .answer ≡ Said.refused n p) ↔ Refused bytes s v n p
+pub step-refused : (bytes : List ℕ) (s : Lent) (v n p : ℕ) → (step bytes s v .answer ≡ StepSaid.refused n p) ↔ Refused bytes s v n p
 step-refused bytes s v n p = (there (due bytes s v) refl (step-does bytes s v) (before-due bytes s v), back)
   where
     there :
-        (d : Due) → due bytes s v ≡ d → Does s v (step bytes s v) d → OnlyBefore d → step bytes s v .answer ≡ Said.refused n p
+        (d : Due) → due bytes s v ≡ d → Does s v (step bytes s v) d → OnlyBefore d → step bytes s v .answer ≡ StepSaid.refused n p
         → Refused bytes s v n p
     there (refusal-due m) e does only h =
-        let q : Said.refused n p ≡ Said.refused m 0 = sym h ∙ ap (λ (o : Outcome). o .answer) does in
+        let q : StepSaid.refused n p ≡ StepSaid.refused m 0 = sym h ∙ ap (λ (o : Outcome). o .answer) does in
         let qn : m ≡ n = cc in
         let qp : 0 ≡ p = cc in
         subst (λ (y : ℕ). Refused bytes s v n y) qp (subst (λ (x : ℕ). Refused bytes s v x 0) qn (before e only))
     there (job-due m q w) e does only h = true-false (ap accepted (does .0)) (ap accepted h)
     there (command-due c w) e does only h = by-command c w e (said-refused (command c s .answer) (sym (does .says) ∙ h))
 
-    back : {n p : ℕ} → Refused bytes s v n p → step bytes s v .answer ≡ Said.refused n p
+    back : {n p : ℕ} → Refused bytes s v n p → step bytes s v .answer ≡ StepSaid.refused n p
     back (before e b) = ap (λ (o : Outcome). o .answer) (subst (λ (d : Due). Does s v (step bytes s v) d) e (step-does bytes s v))
     back (by-command c w e h) = is-this bytes s v c w e .says ∙ ap saidAs h
 
@@ -263,7 +263,7 @@ module _ (bytes : List ℕ) (s : Lent) (v : ℕ) (p : steppable s ≡ true) (lt 
       ∙ unless-pass _ _ (not-status FINISHED (omega arith))
 
   -- "A released one is started", or refused by 21 where an edge leads in.
-  pub released-step : step bytes s v .answer ≡ cond (leadsInto (s .edges) (s .held) v) (Said.refused edge-leads-in 0) Said.start
+  pub released-step : step bytes s v .answer ≡ cond (leadsInto (s .edges) (s .held) v) (StepSaid.refused edge-leads-in 0) StepSaid.start
   unfolding command g.start decided of-graph.unless
   released-step =
       ap (λ (o : Outcome). o .answer) (step-is bytes s v (due-released bytes s v p lt q))
@@ -272,18 +272,18 @@ module _ (bytes : List ℕ) (s : Lent) (v : ℕ) (p : steppable s ≡ true) (lt 
       go :
           (b : Bool)
           → saidAs (decided s (of-graph.unless (not b) edge-leads-in 0) of-graph.start (g.withStatus s v EXECUTING) .answer)
-          ≡ cond b (Said.refused edge-leads-in 0) Said.start
+          ≡ cond b (StepSaid.refused edge-leads-in 0) StepSaid.start
       go true = refl
       go false = refl
 
   pub blocked-step : leadsInto (s .edges) (s .held) v ≡ true → step bytes s v ≡ refuse s edge-leads-in 0
   blocked-step h = λ i. record { answer = says i; after = step-keeps bytes s v (ap accepted says) i }
     where
-      says : step bytes s v .answer ≡ Said.refused edge-leads-in 0
+      says : step bytes s v .answer ≡ StepSaid.refused edge-leads-in 0
       says = released-step ∙ rw h refl
 
 -- A refused step has no place.
-pub step-place : (bytes : List ℕ) (s : Lent) (v n p : ℕ) → step bytes s v .answer ≡ Said.refused n p → p ≡ 0
+pub step-place : (bytes : List ℕ) (s : Lent) (v n p : ℕ) → step bytes s v .answer ≡ StepSaid.refused n p → p ≡ 0
 step-place bytes s v n p h = there (step-refused bytes s v n p .0 h)
   where
     there : {n p : ℕ} → Refused bytes s v n p → p ≡ 0

@@ -21,8 +21,8 @@ use Rattle.graph.proofs.TakenLaws.{leaves, Taken}
 use Rattle.program.specs.Trees.{Body}
 use Rattle.program.specs.Encodings.{Name, perform, newTd}
 use Rattle.program.specs.Reader.{program, reading}
-use Rattle.program.specs.Located.{Code, end-at, job-at, locate, place, codeAt}
-use Rattle.machine.specs.Answers.{Said, Outcome, oneStep}
+use Rattle.program.specs.Located.{Code, end-at, job-at, locate, startOf, codeAt}
+use Rattle.machine.specs.Answers.{StepSaid, Outcome, oneStep}
 use Rattle.machine.specs.Stepping.{stepLimit, steppable, Own, ownOf, movedOn, filledIn, withOwn, step}
 use Rattle.machine.specs.Stepping as words
 use Rattle.machine.proofs.Ghost.{Do, link, hand, free, Control, draft, fresh, ready, busy, joining, over, State, resolved, a-start}
@@ -170,33 +170,33 @@ module _
       busy-shown : wordsOf s v ≡ busyRow c (S .scope v) ms
       busy-shown = busy-row (shown-as F v (busy c ms) busy-made q)
 
-      busy-stands : codeAt p (place c) ≡ some c
+      busy-stands : codeAt p (startOf c) ≡ some c
       busy-stands = coded v c (busy-code q)
 
       -- it makes a vertex: S' is what the tables follow then
       step-makes :
           (k : Code) (a : Name) (m : Making L c ms k a) (S' : State) → Move L S v a-new S' → s .made < vertexRows (s .vertices)
-          → (Taken (NewTd v (place k) (resolved (S .scope v) ms a)) s
+          → (Taken (NewTd v (startOf k) (resolved (S .scope v) ms a)) s
           → Follows p L
-          (withOwn (leaves (NewTd v (place k) (resolved (S .scope v) ms a)) s) v
+          (withOwn (leaves (NewTd v (startOf k) (resolved (S .scope v) ms a)) s) v
           (movedOn (rowOf (m .item)) (m .item .spot) (newTd (m .spot-of) a) (length ms) (s .made) (ownOf s v)))
           S')
           → Result
       step-makes k a m S' move room follows =
-          by-command (NewTd v (place k) σ) _ a-new S' F
+          by-command (NewTd v (startOf k) σ) _ a-new S' F
           (step-is bytes s v
           (due-command bytes t s v reads ok busy-made c busy-shown busy-stands (m .item) (newTd (m .spot-of) a) (m .next-is)
           ∙ new-due s v (m .item .number) (m .item .spot) _ ms (m .spot-of) a busy-shown (m .spot-is)))
           taken
           move
           (follows taken)
-          (subst (λ (n : ℕ). Answers S v a-new (Said.new n)) (sym (F .made-is)) says-new)
-          (new-held s v (place k) σ _)
+          (subst (λ (n : ℕ). Answers S v a-new (StepSaid.new n)) (sym (F .made-is)) says-new)
+          (new-held s v (startOf k) σ _)
         where
           σ : ℕ
           σ = resolved (S .scope v) ms a
 
-          taken : Taken (NewTd v (place k) σ) s
+          taken : Taken (NewTd v (startOf k) σ) s
           taken = (runs shape F v (busy-is q), room)
 
     -- an end byte
@@ -218,7 +218,7 @@ module _
         subst (λ (o : Outcome). Followed p L s S v o) (sym is-step)
         (moved (a-job o) _ (performs q)
         (count-follows (performs-follows F v o n r shown within))
-        (subst (λ (z : ℕ). Answers S v (a-job o) (Said.job n z)) (sym at-o) (says-job q))
+        (subst (λ (z : ℕ). Answers S v (a-job o) (StepSaid.job n z)) (sym at-o) (says-job q))
         (record { steps-are = refl; held-le = omega arith; vertex-length = length-stored (s .vertices) v after; edge-length = refl }))
       where
         made : v < s .made
@@ -231,12 +231,12 @@ module _
         within = omega (arith, made, sound-fits s (F .sound-is) .vertices-fit)
 
         at-o : words.place s v ≡ o
-        at-o = unfold place in row-place s v shown
+        at-o = unfold startOf in row-place s v shown
 
         after : Own
         after = movedOn (rowOf (job-item L o n r)) (job-item L o n r .spot) perform 0 (s .made) (ownOf s v)
 
-        is-step : step bytes s v ≡ record { answer = Said.job n (words.place s v); after = oneStep (withOwn s v after) }
+        is-step : step bytes s v ≡ record { answer = StepSaid.job n (words.place s v); after = oneStep (withOwn s v after) }
         is-step =
             unfold filledIn job-item in
             step-is bytes s v

@@ -113,7 +113,7 @@ pub record ItemOf (L : ℕ) (c : Code) : Type 0 where
   pub spot : Spot → ℕ
   pub is-kind : kindOf c ≡ some kind
   pub stands : task L (head c) ≡ item (firstEdition kind) number spot
-  pub goes-on : spot (firstEdition kind .next) ≡ code.place (goes L c)
+  pub goes-on : spot (firstEdition kind .next) ≡ code.startOf (goes L c)
 
 -- the table's row for it
 abbrev pub rowOf : {L : ℕ} {c : Code} → ItemOf L c → Row
@@ -126,7 +126,7 @@ job-item L o n r =
     record {
       kind = jobs;
       number = n;
-      spot = spots (code.place r) (code.place r) (code.place r) L;
+      spot = spots (code.startOf r) (code.startOf r) (code.startOf r) L;
       is-kind = refl;
       stands = refl;
       goes-on = refl;
@@ -134,14 +134,14 @@ job-item L o n r =
 
 -- any item
 unfoldable pub item-of : (L : ℕ) (c : Code) → isItem c ≡ true → ItemOf L c
-unfolding isItem kindOf head task spots goes firstEdition code.place
+unfolding isItem kindOf head task spots goes firstEdition code.startOf
 item-of L (end-at o) h = true-false h refl
 item-of L (job-at o n r) h = job-item L o n r
 item-of L (async-at o b r) h =
     record {
       kind = asyncs;
       number = 0;
-      spot = spots (code.place b) (code.place b) (code.place r) L;
+      spot = spots (code.startOf b) (code.startOf b) (code.startOf r) L;
       is-kind = refl;
       stands = refl;
       goes-on = refl;
@@ -150,7 +150,7 @@ item-of L (finish-at o b r) h =
     record {
       kind = finishes;
       number = 0;
-      spot = spots (code.place b) (code.place b) (code.place r) L;
+      spot = spots (code.startOf b) (code.startOf b) (code.startOf r) L;
       is-kind = refl;
       stands = refl;
       goes-on = refl;
@@ -159,7 +159,7 @@ item-of L (fork-at o b c r) h =
     record {
       kind = forks;
       number = 0;
-      spot = spots (code.place b) (code.place c) (code.place r) L;
+      spot = spots (code.startOf b) (code.startOf c) (code.startOf r) L;
       is-kind = refl;
       stands = refl;
       goes-on = refl;
@@ -170,14 +170,14 @@ module _
     (bytes : List ℕ) (t : Body) (s : Lent) (v : ℕ) (reads : reading bytes ≡ program t) (ok : steppable s ≡ true) (made : v < s .made)
   where
     module _
-        (c : Code) {σ φ x y z : ℕ} (h : wordsOf s v ≡ row EXECUTING (code.place c) σ φ x y z)
-        (at : codeAt (locate 0 t) (code.place c) ≡ some c)
+        (c : Code) {σ φ x y z : ℕ} (h : wordsOf s v ≡ row EXECUTING (code.startOf c) σ φ x y z)
+        (at : codeAt (locate 0 t) (code.startOf c) ≡ some c)
       where
         due-task : due bytes s v ≡ nextAt s v (task (length bytes - 1) (head c))
         due-task =
             due-executing bytes s v ok made (row-status s v h)
             ∙ ap (λ (q : ℕ). nextAt s v (task (length bytes - 1) (itemAt bytes q))) (row-place s v h)
-            ∙ ap (λ (q : Stands). nextAt s v (task (length bytes - 1) q)) (item-stands bytes t (code.place c) reads at)
+            ∙ ap (λ (q : Stands). nextAt s v (task (length bytes - 1) q)) (item-stands bytes t (code.startOf c) reads at)
 
         -- an item's next command
         pub due-command :
@@ -193,7 +193,7 @@ module _
 
     -- an end byte
     pub due-end :
-        (o : ℕ) {σ x y z : ℕ} → wordsOf s v ≡ row EXECUTING (code.place (end-at o)) σ 0 x y z
-        → codeAt (locate 0 t) (code.place (end-at o)) ≡ some (end-at o) → due bytes s v ≡ command-due (Stop v) (ownOf s v)
+        (o : ℕ) {σ x y z : ℕ} → wordsOf s v ≡ row EXECUTING (code.startOf (end-at o)) σ 0 x y z
+        → codeAt (locate 0 t) (code.startOf (end-at o)) ≡ some (end-at o) → due bytes s v ≡ command-due (Stop v) (ownOf s v)
     unfolding nextAt task head
     due-end o h at = due-task (end-at o) h at ∙ if-pass _ _ (eq-eqb (phase s v) 0 (row-phase s v h))

@@ -6,29 +6,29 @@ use mathlib.Core.List.{List, [], _∷_, _++_}
 use Rattle.graph.specs.Tables.{Lent}
 use Rattle.program.specs.Trees.{Body}
 use Rattle.program.specs.Reader.{reading, program}
-use Rattle.machine.specs.Answers.{Said, isLoaded}
+use Rattle.machine.specs.Answers.{StepSaid, isLoaded}
 use Rattle.machine.specs.Loading.{load}
 use Rattle.machine.specs.Stepping.{step}
-use Rattle.machine.specs.Reached.{Reached, begun, stepped, Call, runs, callAnswers}
+use Rattle.machine.specs.Reached.{Reached, begun, stepped, Call, a-run, callAnswers}
 use Rattle.machine.specs.Demand3.{Demand3}
 use Rattle.machine.specs.Traces.{Trace, load-first, then-step, then-run}
 use Rattle.machine.proofs.Demand3.{demand3, reached-program}
 use Rattle.machine.proofs.Calls.{run-reached, calls-reached}
 
 -- Whatever an engine answers and leaves in a trace is reached by the plain machine.
-pub trace-reached : {bytes : List ℕ} {s₀ : Lent} {answers : List Said} {s : Lent} → Trace bytes s₀ answers s → Reached bytes s₀ answers s
+pub trace-reached : {bytes : List ℕ} {s₀ : Lent} {answers : List StepSaid} {s : Lent} → Trace bytes s₀ answers s → Reached bytes s₀ answers s
 trace-reached {bytes} {s₀} (load-first l h) =
     subst (λ (s : Lent). Reached bytes s₀ [] s) (sym (l .leaves)) (begun (sym (ap isLoaded (l .says)) ∙ h))
 trace-reached {bytes} {s₀} (then-step {answers} {s} {s'} v answer tr l) =
     subst (λ (x : Lent). Reached bytes s₀ (answers ++ (answer ∷ [])) x) (sym (l .leaves))
-    (subst (λ (a : Said). Reached bytes s₀ (answers ++ (a ∷ [])) (step bytes s v .after)) (sym (l .says)) (stepped (trace-reached tr) v))
+    (subst (λ (a : StepSaid). Reached bytes s₀ (answers ++ (a ∷ [])) (step bytes s v .after)) (sym (l .says)) (stepped (trace-reached tr) v))
 trace-reached {bytes} {s₀} (then-run {answers} {s} {s'} budget ending last taken tr l) =
-    subst (λ (x : Lent). Reached bytes s₀ (answers ++ callAnswers bytes s (runs budget)) x) (sym (l .leaves))
+    subst (λ (x : Lent). Reached bytes s₀ (answers ++ callAnswers bytes s (a-run budget)) x) (sym (l .leaves))
     (run-reached bytes s₀ s budget (trace-reached tr))
 
 -- Demand 3 of every trace.
 pub trace-demand3 :
-    {bytes : List ℕ} {s₀ : Lent} {answers : List Said} {s : Lent} (tr : Trace bytes s₀ answers s)
+    {bytes : List ℕ} {s₀ : Lent} {answers : List StepSaid} {s : Lent} (tr : Trace bytes s₀ answers s)
     → (t : Body) × (reading bytes ≡ program t) × Demand3 bytes t (trace-reached tr)
 trace-demand3 {bytes} tr =
     let (t, r) = reached-program bytes (trace-reached tr) in

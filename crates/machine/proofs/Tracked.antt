@@ -12,15 +12,15 @@ use Rattle.graph.specs.Tables.{Lent, usableLimit, vertexWords, edgeWords, verte
 use Rattle.graph.specs.Tables as tables
 use Rattle.program.specs.Limits.{numberBytes, programBytes, vertexLimit}
 use Rattle.program.specs.Trees.{jobs, Body, end, job, async, finish, fork, total, same, counts}
-use Rattle.program.specs.Encodings.{vertices, edgeRows, steps, firstEdition}
+use Rattle.program.specs.Encodings.{verticesMade, edgeRowsNeeded, stepsTaken, firstEdition}
 use Rattle.program.specs.Reader.{reading, program}
 use Rattle.program.specs.Bytes.{topBit, encodeNumber, groupBytes, encode, size}
-use Rattle.program.specs.Located.{locate, place, job-at}
+use Rattle.program.specs.Located.{locate, startOf, job-at}
 use Rattle.program.specs.Claims.{Loadable}
 use Rattle.program.proofs.LocatedLaws.{laid-locate}
 use Rattle.program.proofs.Formulas.{vertices-formula, steps-formula}
 use Rattle.program.proofs.Exactness.{reading-sound}
-use Rattle.machine.specs.Answers.{Said, Outcome, accepted, isLoaded}
+use Rattle.machine.specs.Answers.{StepSaid, Outcome, accepted, isLoaded}
 use Rattle.machine.specs.Answers as said
 use Rattle.machine.specs.Loading.{load}
 use Rattle.machine.specs.Stepping.{step, stepLimit}
@@ -42,17 +42,17 @@ use Rattle.machine.proofs.StepFollows.{step-follows}
 use Rattle.machine.proofs.LoadFollows.{load-follows, last-byte}
 
 -- one answer more
-accepted-snoc : (answers : List Said) (a : Said) → acceptedIn (answers ++ (a ∷ [])) ≡ acceptedIn answers + cond (accepted a) 1 0
+accepted-snoc : (answers : List StepSaid) (a : StepSaid) → acceptedIn (answers ++ (a ∷ [])) ≡ acceptedIn answers + cond (accepted a) 1 0
 unfolding acceptedIn
 accepted-snoc [] a = omega arith
 accepted-snoc (b ∷ answers) a = let h = accepted-snoc answers a in omega (arith, h)
 
-ran-snoc : (o : ℕ) (answers : List Said) (a : Said) → ranIn o (answers ++ (a ∷ [])) ≡ ranIn o answers + answersJob o a
+ran-snoc : (o : ℕ) (answers : List StepSaid) (a : StepSaid) → ranIn o (answers ++ (a ∷ [])) ≡ ranIn o answers + answersJob o a
 unfolding ranIn
 ran-snoc o [] a = omega arith
 ran-snoc o (b ∷ answers) a = let h = ran-snoc o answers a in omega (arith, h)
 
-answered-snoc : {a b : Said} (answers : List Said) → Answered a (answers ++ (b ∷ [])) → Answered a answers ⊎ (a ≡ b)
+answered-snoc : {a b : StepSaid} (answers : List StepSaid) → Answered a (answers ++ (b ∷ [])) → Answered a answers ⊎ (a ≡ b)
 answered-snoc [] first = inr refl
 answered-snoc (c ∷ answers) first = inl first
 answered-snoc {a} {b} (c ∷ answers) (later i) = more (answered-snoc answers i)
@@ -62,7 +62,7 @@ answered-snoc {a} {b} (c ∷ answers) (later i) = more (answered-snoc answers i)
     more (inr e) = inr e
 
 -- The state and the events of the ghost machine that what was reached follows.
-pub record Tracked (bytes : List ℕ) (t : Body) (s₀ : Lent) (answers : List Said) (s : Lent) : Type 0 where
+pub record Tracked (bytes : List ℕ) (t : Body) (s₀ : Lent) (answers : List StepSaid) (s : Lent) : Type 0 where
   pub state : State
   pub events : List Event
   pub runs : Runs (length bytes - 1) (beginning (locate 0 t) (length bytes - 1)) events state
@@ -100,12 +100,12 @@ tracked-begun bytes t s₀ r h =
       only-written = λ n o i. none i;
     }
   where
-    none : {A : Type 0} {a : Said} → Answered a [] → A
+    none : {A : Type 0} {a : StepSaid} → Answered a [] → A
     none = elim [ ]
 
 -- What an answer tells of its event.
 module _ {S : State} {v : ℕ} where
-  pub answers-accepted : {e : Event} {a : Said} → Answers S v e a → accepted a ≡ true
+  pub answers-accepted : {e : Event} {a : StepSaid} → Answers S v e a → accepted a ≡ true
   answers-accepted says-start = refl
   answers-accepted says-new = refl
   answers-accepted (says-edge a b) = refl
@@ -114,7 +114,7 @@ module _ {S : State} {v : ℕ} where
   answers-accepted (says-job at) = refl
   answers-accepted says-stop = refl
 
-  answers-jobs : {e : Event} {a : Said} → Answers S v e a → (o : ℕ) → answersJob o a ≡ jobAt o e
+  answers-jobs : {e : Event} {a : StepSaid} → Answers S v e a → (o : ℕ) → answersJob o a ≡ jobAt o e
   unfolding answersJob jobAt
   answers-jobs says-start o = refl
   answers-jobs says-new o = refl
@@ -124,8 +124,8 @@ module _ {S : State} {v : ℕ} where
   answers-jobs (says-job at) o = refl
   answers-jobs says-stop o = refl
 
-  answers-written : {t : Body} {e : Event} {a : Said} {n o : ℕ} → Coded (locate 0 t) S → Answers S v e a → said.job n o ≡ a → Written t o n
-  unfolding codeOf place
+  answers-written : {t : Body} {e : Event} {a : StepSaid} {n o : ℕ} → Coded (locate 0 t) S → Answers S v e a → said.job n o ≡ a → Written t o n
+  unfolding codeOf startOf
   answers-written coded says-start h = clash cc
   answers-written coded says-new h = clash cc
   answers-written coded (says-edge a b) h = clash cc
@@ -169,12 +169,12 @@ jobs-short (fork b c r) =
     omega (arith, jobs-short b, jobs-short c, jobs-short r, parts, length-append (encode c) (encode r))
 
 -- a program takes fewer steps than the tally may count
-few-steps : (t : Body) → Loadable t → steps firstEdition t < stepLimit
+few-steps : (t : Body) → Loadable t → stepsTaken firstEdition t < stepLimit
 unfolding counts
 few-steps t h =
     let w = jobs-short t in
     let z : size t ≤ programBytes = h .bytes in
-    let v : vertices firstEdition t ≤ vertexLimit = h .made in
+    let v : verticesMade firstEdition t ≤ vertexLimit = h .made in
     omega (arith, w, z, v, vertices-formula t, steps-formula t)
 
 -- The rows lent at loading are lent still.
@@ -186,12 +186,12 @@ edge-rows-are s s₀ h = ap (λ (n : ℕ). min usableLimit (n / edgeWords)) h
 
 -- One step more.
 module _ (bytes : List ℕ) (t : Body) (s₀ : Lent) (r : reading bytes ≡ program t) (lends : Lends t s₀) where
-  module _ {answers : List Said} {s : Lent} (T : Tracked bytes t s₀ answers s) (v : ℕ) where
+  module _ {answers : List StepSaid} {s : Lent} (T : Tracked bytes t s₀ answers s) (v : ℕ) where
     -- a vertex row is free for a vertex that is due
     room-new : (S' : State) → Move (length bytes - 1) (T .state) v a-new S' → s .made < vertexRows (s .vertices)
     unfolding news
     room-new S' m =
-        let a : S' .count ≤ vertices firstEdition t = vertices-bound 0 t (length bytes - 1) (and-then (T .runs) m) in
+        let a : S' .count ≤ verticesMade firstEdition t = vertices-bound 0 t (length bytes - 1) (and-then (T .runs) m) in
         let b : S' .count ≡ news a-new + T .state .count = move-count m in
         omega (arith, a, b, T .follows .made-is, lends .vertex-rows, vertex-rows-are s s₀ (T .vertex-length))
 
@@ -199,7 +199,7 @@ module _ (bytes : List ℕ) (t : Body) (s₀ : Lent) (r : reading bytes ≡ prog
     room-edge : (S' : State) → Move (length bytes - 1) (T .state) v an-edge S' → s .held < tables.edgeRows (s .edges)
     unfolding spent links
     room-edge S' m =
-        let a : 1 + spent links (an-edge ∷ T .events) ≤ edgeRows firstEdition t =
+        let a : 1 + spent links (an-edge ∷ T .events) ≤ edgeRowsNeeded firstEdition t =
         edges-bound 0 t (length bytes - 1) (and-then (T .runs) m)
         in
         omega (arith, a, T .held-le, lends .edge-rows, edge-rows-are s s₀ (T .edge-length))
@@ -207,7 +207,7 @@ module _ (bytes : List ℕ) (t : Body) (s₀ : Lent) (r : reading bytes ≡ prog
     -- the tally is not used up
     pub room-steps : s .steps < stepLimit
     room-steps =
-        let a : length (T .events) ≤ steps firstEdition t = steps-bound 0 t (length bytes - 1) (T .runs) in
+        let a : length (T .events) ≤ stepsTaken firstEdition t = steps-bound 0 t (length bytes - 1) (T .runs) in
         omega (arith, a, T .steps-are, few-steps t (reading-sound bytes t r .1))
 
     refused-tracked : (n : ℕ) → Refuses (T .state) v n → Tracked bytes t s₀ (answers ++ (said.refused n 0 ∷ [])) s
@@ -238,7 +238,7 @@ module _ (bytes : List ℕ) (t : Body) (s₀ : Lent) (r : reading bytes ≡ prog
         old k o (inr e) = clash cc
 
     moved-tracked :
-        {e : Event} {S' : State} {a : Said} {s' : Lent} → Move (length bytes - 1) (T .state) v e S'
+        {e : Event} {S' : State} {a : StepSaid} {s' : Lent} → Move (length bytes - 1) (T .state) v e S'
         → Follows (locate 0 t) (length bytes - 1) s' S' → Answers (T .state) v e a → Tallied e s s'
         → Tracked bytes t s₀ (answers ++ (a ∷ [])) s'
     unfolding spent
@@ -291,14 +291,14 @@ module _ (bytes : List ℕ) (t : Body) (s₀ : Lent) (r : reading bytes ≡ prog
 
 -- The rows that the program needs were lent.
 pub rows-lent :
-    (bytes : List ℕ) (t : Body) {s₀ : Lent} {answers : List Said} {s : Lent} → reading bytes ≡ program t → Reached bytes s₀ answers s
+    (bytes : List ℕ) (t : Body) {s₀ : Lent} {answers : List StepSaid} {s : Lent} → reading bytes ≡ program t → Reached bytes s₀ answers s
     → Lends t s₀
 rows-lent bytes t {s₀} r (begun h) = load-accepted bytes s₀ t r h .0
 rows-lent bytes t r (stepped q v) = rows-lent bytes t r q
 
 -- Whatever is reached is tracked.
 pub tracked :
-    (bytes : List ℕ) (t : Body) {s₀ : Lent} {answers : List Said} {s : Lent} → reading bytes ≡ program t → Reached bytes s₀ answers s
+    (bytes : List ℕ) (t : Body) {s₀ : Lent} {answers : List StepSaid} {s : Lent} → reading bytes ≡ program t → Reached bytes s₀ answers s
     → Tracked bytes t s₀ answers s
 tracked bytes t {s₀} r (begun h) = tracked-begun bytes t s₀ r h
 tracked bytes t {s₀} r (stepped q v) = tracked-stepped bytes t s₀ r (rows-lent bytes t r q) (tracked bytes t r q) v

@@ -8,7 +8,7 @@ use mathlib.Core.Logic.{inl, ⊎-elim}
 use mathlib.Core.List.{List, []}
 use mathlib.Core.Option.{some, Option·some-injective, Option·none-ne-some}
 use native.Mathlib.Omega.{arith}
-use Rattle.program.specs.Located.{Code, end-at, job-at, async-at, finish-at, fork-at, place}
+use Rattle.program.specs.Located.{Code, end-at, job-at, async-at, finish-at, fork-at, startOf}
 use Rattle.program.proofs.LocatedLaws.{Laid, code-laid}
 use Rattle.machine.proofs.Ghost.{Do, Control, draft, fresh, ready, busy, joining, over, State, onward}
 use Rattle.machine.proofs.Invariant.{codeOf, isItem, waits, isDraft, Settled, Way, Roads, Coded}
@@ -74,7 +74,7 @@ waits-none rs e w = let (x, s) = waits-led rs w in nothing-to rs e x s
 
 -- the code that a vertex holds is laid
 pub held-laid : (m : Code) (S : State) (u : ℕ) {c : Code} → Laid m → Coded m S → holds (S .control u) ≡ some c → Laid c
-held-laid m S u {c} lm cd h = code-laid m (place c) lm (cd u c (holds-code (S .control u) h .0))
+held-laid m S u {c} lm cd h = code-laid m (startOf c) lm (cd u c (holds-code (S .control u) h .0))
 
 -- a job is not written behind itself
 pub job-behind : (o n : ℕ) (r : Code) → Laid (job-at o n r) → Job r o → ⊥
@@ -82,7 +82,7 @@ job-behind o n r l h = absurd (omega (arith, job-before o n r o l h))
 
 -- and nothing is ahead of it from it on
 job-first : (o n p : ℕ) (r : Code) → Laid (job-at o n r) → Pre (job-at o n r) p o → ⊥
-unfolding place
+unfolding startOf
 job-first o n p r l h = pre-not-first (job-at o n r) p l h
 
 -- it is a job of the code from it on

@@ -13,11 +13,11 @@ pub data Behind : Code → Code → Type 0 where
   fork-behind : {o : ℕ} {b c r : Code} → Behind (fork-at o b c r) r
 
 -- b is a body that a body's first item, of this kind, holds
-pub data Holds : Code → Kind → Code → Type 0 where
-  async-holds : {o : ℕ} {b r : Code} → Holds (async-at o b r) asyncs b
-  finish-holds : {o : ℕ} {b r : Code} → Holds (finish-at o b r) finishes b
-  fork-holds-left : {o : ℕ} {b c r : Code} → Holds (fork-at o b c r) forks b
-  fork-holds-right : {o : ℕ} {b c r : Code} → Holds (fork-at o b c r) forks c
+pub data HoldsBody : Code → Kind → Code → Type 0 where
+  async-holds : {o : ℕ} {b r : Code} → HoldsBody (async-at o b r) asyncs b
+  finish-holds : {o : ℕ} {b r : Code} → HoldsBody (finish-at o b r) finishes b
+  fork-holds-left : {o : ℕ} {b c r : Code} → HoldsBody (fork-at o b c r) forks b
+  fork-holds-right : {o : ℕ} {b c r : Code} → HoldsBody (fork-at o b c r) forks c
 
 -- c is a body from one of its items, or its end, on
 pub data From : Code → Code → Type 0 where
@@ -27,13 +27,13 @@ pub data From : Code → Code → Type 0 where
 -- The way from a body's first item down to the job at p: the kinds of the items on it, the first item itself counted.
 pub data Way : Code → ℕ → List Kind → Type 0 where
   job-itself : {o n : ℕ} {r : Code} → Way (job-at o n r) o []
-  down : {c b b' : Code} {k : Kind} {p : ℕ} {ks : List Kind} → Holds c k b → From b b' → Way b' p ks → Way c p (k ∷ ks)
+  down : {c b b' : Code} {k : Kind} {p : ℕ} {ks : List Kind} → HoldsBody c k b → From b b' → Way b' p ks → Way c p (k ∷ ks)
 
 -- anywhere in a program: itself, behind a first item, or in a body that it holds
 pub data Within : Code → Code → Type 0 where
   whole : {m : Code} → Within m m
   behind : {m r c : Code} → Behind m r → Within r c → Within m c
-  inside : {m b c : Code} {k : Kind} → Holds m k b → Within b c → Within m c
+  inside : {m b c : Code} {k : Kind} → HoldsBody m k b → Within b c → Within m c
 
 -- a finish is among these
 pub data AFinish : List Kind → Type 0 where

@@ -6,17 +6,17 @@ use Rattle.graph.specs.Answers as of-graph
 
 -- "An accepted step says one of seven things: start, new v, edge a b, release v, transfer v, job (number, offset), stop." A refusal has its
 -- number and place.
-pub data Said : Type 0 where
-  start : Said
-  new : ℕ → Said
-  edge : ℕ → ℕ → Said
-  release : ℕ → Said
-  transfer : ℕ → Said
-  job : ℕ → ℕ → Said
-  stop : Said
-  refused : ℕ → ℕ → Said
+pub data StepSaid : Type 0 where
+  start : StepSaid
+  new : ℕ → StepSaid
+  edge : ℕ → ℕ → StepSaid
+  release : ℕ → StepSaid
+  transfer : ℕ → StepSaid
+  job : ℕ → ℕ → StepSaid
+  stop : StepSaid
+  refused : ℕ → ℕ → StepSaid
 
-abbrev pub accepted : Said → Bool
+abbrev pub accepted : StepSaid → Bool
 accepted start = true
 accepted (new v) = true
 accepted (edge a b) = true
@@ -27,7 +27,7 @@ accepted stop = true
 accepted (refused n p) = false
 
 pub record Outcome : Type 0 where
-  pub answer : Said
+  pub answer : StepSaid
   pub after : Lent
 
 -- "A refusal gives its number and place, and every lent table and the tally hold what they held."
@@ -56,7 +56,7 @@ oneStep s =
     record { vertices = s .vertices; edges = s .edges; made = s .made; held = s .held; steps = s .steps + 1 }
 
 -- what a single command says, as a step says it
-abbrev pub saidAs : of-graph.Said → Said
+abbrev pub saidAs : of-graph.CommandSaid → StepSaid
 saidAs of-graph.start = start
 saidAs (of-graph.new v) = new v
 saidAs (of-graph.edge a b) = edge a b

@@ -18,25 +18,25 @@ use Rattle.program.specs.Trees.{Body}
 use Rattle.program.specs.Encodings as needs
 use Rattle.program.specs.Encodings.{firstEdition}
 use Rattle.program.specs.Reader.{program, refusal, reading}
-use Rattle.machine.specs.Answers.{Said, Outcome, accepted, refuse, saidAs}
+use Rattle.machine.specs.Answers.{StepSaid, Outcome, accepted, refuse, saidAs}
 use Rattle.machine.specs.Stepping.{steppable, Own, ownOf, Due, refusal-due, job-due, command-due, due, step}
 use Rattle.machine.specs.Running.{canStep, Ending, done, stuck, spent, refused, RunOutcome, ended}
 
 -- LOADING
 -- "where the rows they need are lent"
 pub record Lends (b : Body) (s : Lent) : Type 0 where
-  pub vertex-rows : needs.vertices firstEdition b ≤ vertexRows (s .vertices)
-  pub edge-rows : needs.edgeRows firstEdition b ≤ edgeRows (s .edges)
+  pub vertex-rows : needs.verticesMade firstEdition b ≤ vertexRows (s .vertices)
+  pub edge-rows : needs.edgeRowsNeeded firstEdition b ≤ edgeRows (s .edges)
 
 -- why loading is refused: as reading is, or "10 fewer than V vertex rows", or "11 too few edge rows"
 pub data Unloaded (bytes : List ℕ) (s : Lent) : ℕ → ℕ → Type 0 where
   unread : {n p : ℕ} → reading bytes ≡ refusal n p → Unloaded bytes s n p
   few-vertex-rows :
-      (b : Body) → reading bytes ≡ program b → vertexRows (s .vertices) < needs.vertices firstEdition b
+      (b : Body) → reading bytes ≡ program b → vertexRows (s .vertices) < needs.verticesMade firstEdition b
       → Unloaded bytes s too-few-vertex-rows 0
   few-edge-rows :
-      (b : Body) → reading bytes ≡ program b → needs.vertices firstEdition b ≤ vertexRows (s .vertices)
-      → edgeRows (s .edges) < needs.edgeRows firstEdition b → Unloaded bytes s too-few-edge-rows 0
+      (b : Body) → reading bytes ≡ program b → needs.verticesMade firstEdition b ≤ vertexRows (s .vertices)
+      → edgeRows (s .edges) < needs.edgeRowsNeeded firstEdition b → Unloaded bytes s too-few-edge-rows 0
 
 -- "the first of 2 to 7 by place": these refusals have a place. All others have the place 0, as `load-place`, `step-place` and `run-place` say.
 abbrev pub HasPlace : ℕ → Type 0
@@ -68,7 +68,7 @@ pub record IsCommand (c : single.Command) (w : Own) (s : Lent) (v : ℕ) (o : Ou
 -- a step of v is what is due
 abbrev pub Does : Lent → ℕ → Outcome → Due → Type 0
 Does s v o (refusal-due n) = o ≡ refuse s n 0
-Does s v o (job-due n p w) = (o .answer ≡ Said.job n p) × Adds v w s (o .after)
+Does s v o (job-due n p w) = (o .answer ≡ StepSaid.job n p) × Adds v w s (o .after)
 Does s v o (command-due c w) = IsCommand c w s v o
 
 -- the refusals that come before any command
@@ -89,10 +89,10 @@ pub record Lowest (bytes : List ℕ) (s : Lent) (v : ℕ) : Type 0 where
   pub none-lower : (u : ℕ) → u < v → canStep bytes s u ≡ false
 
 -- so many steps from s, each of the lowest vertex that can step; the last of them said this; they leave s'
-pub data Steps (bytes : List ℕ) (s : Lent) : ℕ → Option Said → Lent → Type 0 where
+pub data Steps (bytes : List ℕ) (s : Lent) : ℕ → Option StepSaid → Lent → Type 0 where
   no-step : Steps bytes s 0 none s
   one-more :
-      {n : ℕ} {last : Option Said} {s' : Lent} (v : ℕ) → Steps bytes s n last s' → Lowest bytes s' v
+      {n : ℕ} {last : Option StepSaid} {s' : Lent} (v : ℕ) → Steps bytes s n last s' → Lowest bytes s' v
       → Steps bytes s (suc n) (some (step bytes s' v .answer)) (step bytes s' v .after)
 
 -- "all vertices made are finished"
@@ -107,8 +107,8 @@ Looks bytes budget taken s spent = (AllFinished s → ⊥) × ((v : ℕ) × Lowe
 Looks bytes budget taken s (refused n p) = ⊥
 
 -- a run's outcome: refused by 12, or such steps
-pub data Ran (bytes : List ℕ) (s : Lent) (budget : ℕ) (o : RunOutcome) : Type 0 where
-  run-refused : steppable s ≡ false → o ≡ ended (refused unsound-tables 0) none 0 s → Ran bytes s budget o
+pub data OnlySuchSteps (bytes : List ℕ) (s : Lent) (budget : ℕ) (o : RunOutcome) : Type 0 where
+  run-refused : steppable s ≡ false → o ≡ ended (refused unsound-tables 0) none 0 s → OnlySuchSteps bytes s budget o
   run-steps :
       steppable s ≡ true → Steps bytes s (o .taken) (o .last) (o .after) → o .taken ≤ budget
-      → Looks bytes budget (o .taken) (o .after) (o .ending) → o .after .steps ≡ s .steps + o .taken → Ran bytes s budget o
+      → Looks bytes budget (o .taken) (o .after) (o .ending) → o .after .steps ≡ s .steps + o .taken → OnlySuchSteps bytes s budget o

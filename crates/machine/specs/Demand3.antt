@@ -12,7 +12,7 @@ use Rattle.graph.specs.Paths.{CycleFree, holds}
 use Rattle.program.specs.Trees.{Body, counts}
 use Rattle.program.specs.Encodings.{stepFormula}
 use Rattle.program.specs.Located.{Code, job-at, locate, codeAt}
-use Rattle.machine.specs.Answers.{Said, accepted, start, new, edge, release, transfer, job, stop, refused}
+use Rattle.machine.specs.Answers.{StepSaid, accepted, start, new, edge, release, transfer, job, stop, refused}
 use Rattle.machine.specs.Loading.{load}
 use Rattle.machine.specs.Stepping.{step}
 use Rattle.machine.specs.Running.{canStep, done, spent, run}
@@ -20,12 +20,12 @@ use Rattle.machine.specs.Reached.{Reached, begun, stepped}
 use Rattle.machine.specs.Ahead.{Ahead}
 
 -- "A step is accepted if it isn't refused": how many of the answers are
-unfoldable pub acceptedIn : List Said → ℕ
+unfoldable pub acceptedIn : List StepSaid → ℕ
 acceptedIn [] = 0
 acceptedIn (a ∷ answers) = cond (accepted a) 1 0 + acceptedIn answers
 
 -- "Jobs are told apart by offset." "A job has run when a step answers with its number and offset": how often the job at an offset was answered
-unfoldable pub answersJob : ℕ → Said → ℕ
+unfoldable pub answersJob : ℕ → StepSaid → ℕ
 answersJob o (job n p) = cond (eqb p o) 1 0
 answersJob o start = 0
 answersJob o (new v) = 0
@@ -35,7 +35,7 @@ answersJob o (transfer v) = 0
 answersJob o stop = 0
 answersJob o (refused n p) = 0
 
-unfoldable pub ranIn : ℕ → List Said → ℕ
+unfoldable pub ranIn : ℕ → List StepSaid → ℕ
 ranIn o [] = 0
 ranIn o (a ∷ answers) = answersJob o a + ranIn o answers
 
@@ -44,21 +44,21 @@ pub data Written (t : Body) (o n : ℕ) : Type 0 where
   written : (r : Code) → codeAt (locate 0 t) o ≡ some (job-at o n r) → Written t o n
 
 -- an answer is in a list
-pub data Answered (a : Said) : List Said → Type 0 where
-  first : {answers : List Said} → Answered a (a ∷ answers)
-  later : {b : Said} {answers : List Said} → Answered a answers → Answered a (b ∷ answers)
+pub data Answered (a : StepSaid) : List StepSaid → Type 0 where
+  first : {answers : List StepSaid} → Answered a (a ∷ answers)
+  later : {b : StepSaid} {answers : List StepSaid} → Answered a answers → Answered a (b ∷ answers)
 
 -- a refusal that the host's choice of a vertex causes
 abbrev pub ByChoice : ℕ → Type 0
 ByChoice n = (n ≡ no-such-vertex) ⊎ ((n ≡ edge-leads-in) ⊎ ((n ≡ vertex-is-new) ⊎ (n ≡ vertex-is-finished)))
 
 -- something holds after loading and after every step
-unfoldable pub Throughout : {bytes : List ℕ} {s₀ : Lent} {answers : List Said} {s : Lent} → (Lent → Type 0) → Reached bytes s₀ answers s → Type 0
+unfoldable pub Throughout : {bytes : List ℕ} {s₀ : Lent} {answers : List StepSaid} {s : Lent} → (Lent → Type 0) → Reached bytes s₀ answers s → Type 0
 Throughout {bytes} {s₀} P (begun h) = P (load bytes s₀ .after)
 Throughout {bytes} P (stepped {s} r v) = Throughout P r × P (step bytes s v .after)
 
 -- Demand 3 of a program with the tree t, and of what was reached from an accepted loading of it by whatever steps.
-pub record Demand3 (bytes : List ℕ) (t : Body) {s₀ : Lent} {answers : List Said} {s : Lent} (q : Reached bytes s₀ answers s) : Type 0 where
+pub record Demand3 (bytes : List ℕ) (t : Body) {s₀ : Lent} {answers : List StepSaid} {s : Lent} (q : Reached bytes s₀ answers s) : Type 0 where
   -- "after the list the accepted steps number at most 4 + w + 5a + 10f + 15k"
   pub at-most : acceptedIn answers ≤ stepFormula (counts t)
   -- "the tally's third number is how many were since loading"
@@ -70,7 +70,7 @@ pub record Demand3 (bytes : List ℕ) (t : Body) {s₀ : Lent} {answers : List S
   pub only-written : (n o : ℕ) → Answered (job n o) answers → Written t o n
   -- "none before a job that the text puts ahead of it": when one is answered, "each job ahead of it was answered before"
   pub in-order :
-      (before after : List Said) (n o p : ℕ) → answers ≡ before ++ (job n o ∷ after) → Ahead (locate 0 t) p o → ranIn p before ≡ 1
+      (before after : List StepSaid) (n o p : ℕ) → answers ≡ before ++ (job n o ∷ after) → Ahead (locate 0 t) p o → ranIn p before ≡ 1
   -- "at the full count each has run once"
   pub all-run : acceptedIn answers ≡ stepFormula (counts t) → (n o : ℕ) → Written t o n → ranIn o answers ≡ 1
   -- "Never cyclic: neither after loading nor after any step does a path of one or more edges lead from a vertex to itself."

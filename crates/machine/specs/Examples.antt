@@ -11,7 +11,7 @@ use Rattle.graph.specs.Answers as of-graph
 use Rattle.graph.specs.Commands.{opening, command}
 use Rattle.graph.specs.declared.Command as single
 use Rattle.graph.specs.declared.Command.the-variants.{NewTd, NewEdge, Transfer, Start}
-use Rattle.machine.specs.Answers.{Said, start, new, edge, release, transfer, job, stop, refused, LoadingSaid, loaded, LoadingOutcome, refuseLoading}
+use Rattle.machine.specs.Answers.{StepSaid, start, new, edge, release, transfer, job, stop, refused, LoadingSaid, loaded, LoadingOutcome, refuseLoading}
 use Rattle.machine.specs.Loading.{load}
 use Rattle.machine.specs.Stepping.{step}
 use Rattle.machine.specs.Running.{Ending, done, spent, allFinished, run}
@@ -23,11 +23,11 @@ pub data Example : Type 0 where
   -- this program loads, and its run is done after so many steps, the last of them a stop
   takes : List ℕ → ℕ → Example
   -- this program loads, and its run with this budget is spent, and its last step says this
-  comes : List ℕ → ℕ → Said → Example
+  comes : List ℕ → ℕ → StepSaid → Example
   -- this program loads, steps that name these vertices say this, one after the other, and then all are finished
-  goes : List ℕ → List (ℕ × Said) → Example
+  goes : List ℕ → List (ℕ × StepSaid) → Example
   -- the bare machine opens, and these commands say this, one after the other
-  bare : List (single.Command × of-graph.Said) → Example
+  bare : List (single.Command × of-graph.CommandSaid) → Example
 
 -- what is lent: five vertex rows and four edge rows, where anything stands
 unfoldable pub anything : Lent
@@ -39,7 +39,7 @@ abbrev pub enough : ℕ
 enough = 100
 
 -- what steps naming these vertices say, and what the last of them leaves
-unfoldable pub saidBy : List ℕ → Lent → List ℕ → List Said
+unfoldable pub saidBy : List ℕ → Lent → List ℕ → List StepSaid
 saidBy bytes s [] = []
 saidBy bytes s (v ∷ vs) = step bytes s v .answer ∷ saidBy bytes (step bytes s v .after) vs
 
@@ -48,7 +48,7 @@ leftBy bytes s [] = s
 leftBy bytes s (v ∷ vs) = leftBy bytes (step bytes s v .after) vs
 
 -- what single commands say
-unfoldable pub saidBare : Lent → List single.Command → List of-graph.Said
+unfoldable pub saidBare : Lent → List single.Command → List of-graph.CommandSaid
 saidBare s [] = []
 saidBare s (c ∷ cs) = command c s .answer ∷ saidBare (command c s .after) cs
 
@@ -62,28 +62,28 @@ seconds l = map (λ x. x .1) l
 -- What the calls of an example come to: loading's answer, then the run's ending, last step and number of steps; or what the steps say,
 -- and whether all are finished then; or the opening's answer and what the commands say.
 pub data Result : Type 0 where
-  ran : LoadingSaid → Ending → Option Said → ℕ → Result
-  stepped : LoadingSaid → List Said → Bool → Result
-  commanded : of-graph.OpeningSaid → List of-graph.Said → Result
+  ran : LoadingSaid → Ending → Option StepSaid → ℕ → Result
+  stepped : LoadingSaid → List StepSaid → Bool → Result
+  commanded : of-graph.OpeningSaid → List of-graph.CommandSaid → Result
 
 -- a run of a program that was loaded; steps of it; commands after the opening
 unfoldable pub runs : List ℕ → ℕ → LoadingOutcome → Result
 runs p budget o =
     ran (o .answer) (run p (o .after) budget .ending) (run p (o .after) budget .last) (run p (o .after) budget .taken)
 
-unfoldable pub steps : List ℕ → List ℕ → LoadingOutcome → Result
-steps p vs o = stepped (o .answer) (saidBy p (o .after) vs) (allFinished (leftBy p (o .after) vs))
+unfoldable pub takesSteps : List ℕ → List ℕ → LoadingOutcome → Result
+takesSteps p vs o = stepped (o .answer) (saidBy p (o .after) vs) (allFinished (leftBy p (o .after) vs))
 
 unfoldable pub commands : List single.Command → of-graph.OpeningOutcome → Result
 commands cs o = commanded (o .answer) (saidBare (o .after) cs)
 
 -- that an example holds is an equation
-abbrev pub Holds : Example → Type 0
-Holds (refuses p n q) = load p anything ≡ refuseLoading anything n q
-Holds (takes p n) = runs p enough (load p anything) ≡ ran loaded done (some stop) n
-Holds (comes p n said) = runs p n (load p anything) ≡ ran loaded spent (some said) n
-Holds (goes p turns) = steps p (firsts turns) (load p anything) ≡ stepped loaded (seconds turns) true
-Holds (bare calls) = commands (firsts calls) (opening anything) ≡ commanded of-graph.opened (seconds calls)
+abbrev pub ComesTrue : Example → Type 0
+ComesTrue (refuses p n q) = load p anything ≡ refuseLoading anything n q
+ComesTrue (takes p n) = runs p enough (load p anything) ≡ ran loaded done (some stop) n
+ComesTrue (comes p n said) = runs p n (load p anything) ≡ ran loaded spent (some said) n
+ComesTrue (goes p turns) = takesSteps p (firsts turns) (load p anything) ≡ stepped loaded (seconds turns) true
+ComesTrue (bare calls) = commands (firsts calls) (opening anything) ≡ commanded of-graph.opened (seconds calls)
 
 -- "Bench examples (hexadecimal; * proved)"
 abbrev pub table : List Example
@@ -182,4 +182,4 @@ table =
 infixr 30 _&_
 pub data Each : List Example → Type 0 where
   none : Each []
-  _&_ : {e : Example} {es : List Example} → Holds e → Each es → Each (e ∷ es)
+  _&_ : {e : Example} {es : List Example} → ComesTrue e → Each es → Each (e ∷ es)

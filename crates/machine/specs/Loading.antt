@@ -31,8 +31,8 @@ loadedTables bytes s =
 unfoldable pub loadRead : List ℕ → Lent → Reading → LoadingOutcome
 loadRead bytes s (refusal n p) = refuseLoading s n p
 loadRead bytes s (program b) =
-    cond (ltb (vertexRows (s .vertices)) (needs.vertices firstEdition b)) (refuseLoading s too-few-vertex-rows 0)
-    (cond (ltb (edgeRows (s .edges)) (needs.edgeRows firstEdition b)) (refuseLoading s too-few-edge-rows 0)
+    cond (ltb (vertexRows (s .vertices)) (needs.verticesMade firstEdition b)) (refuseLoading s too-few-vertex-rows 0)
+    (cond (ltb (edgeRows (s .edges)) (needs.edgeRowsNeeded firstEdition b)) (refuseLoading s too-few-edge-rows 0)
     (record { answer = loaded; after = loadedTables bytes s }))
 
 unfoldable pub load : List ℕ → Lent → LoadingOutcome

@@ -7,62 +7,62 @@ use mathlib.Core.List.{List, [], _∷_, _++_}
 use mathlib.Core.Option.{Option, none, some}
 use lib.ListN.{length}
 use Rattle.graph.specs.Tables.{Lent}
-use Rattle.machine.specs.Answers.{Said, accepted, isLoaded}
+use Rattle.machine.specs.Answers.{StepSaid, accepted, isLoaded}
 use Rattle.machine.specs.Loading.{load}
 use Rattle.machine.specs.Stepping.{steppable, step}
 use Rattle.machine.specs.Running.{lowest, allFinished, refused, RunOutcome, run}
 
 -- From the loading of these bytes onto s₀, by steps with these answers, this is lent.
-pub data Reached (bytes : List ℕ) (s₀ : Lent) : List Said → Lent → Type 0 where
+pub data Reached (bytes : List ℕ) (s₀ : Lent) : List StepSaid → Lent → Type 0 where
   begun : isLoaded (load bytes s₀ .answer) ≡ true → Reached bytes s₀ [] (load bytes s₀ .after)
   stepped :
-      {answers : List Said} {s : Lent} → Reached bytes s₀ answers s → (v : ℕ)
+      {answers : List StepSaid} {s : Lent} → Reached bytes s₀ answers s → (v : ℕ)
       → Reached bytes s₀ (answers ++ (step bytes s v .answer ∷ [])) (step bytes s v .after)
 
 -- A call names a vertex to step, or a budget to run.
 pub data Call : Type 0 where
-  steps : ℕ → Call
-  runs : ℕ → Call
+  a-step : ℕ → Call
+  a-run : ℕ → Call
 
 -- "A run lent the same stands in a list as the steps that it makes": their answers
-unfoldable pub goOn : List ℕ → (Lent → List Said) → Lent → Bool → Option ℕ → List Said
+unfoldable pub goOn : List ℕ → (Lent → List StepSaid) → Lent → Bool → Option ℕ → List StepSaid
 goOn bytes again s true v = []
 goOn bytes again s false none = []
 goOn bytes again s false (some v) = step bytes s v .answer ∷ again (step bytes s v .after)
 
-unfoldable pub runAnswers : List ℕ → ℕ → Lent → List Said
+unfoldable pub runAnswers : List ℕ → ℕ → Lent → List StepSaid
 runAnswers bytes zero s = []
 runAnswers bytes (suc budget) s = goOn bytes (runAnswers bytes budget) s (allFinished s) (lowest bytes s)
 
 -- the last of a list of answers, or what was answered before, where there is none
-unfoldable pub lastOr : Option Said → List Said → Option Said
+unfoldable pub lastOr : Option StepSaid → List StepSaid → Option StepSaid
 lastOr before [] = before
 lastOr before (a ∷ answers) = lastOr (some a) answers
 
 -- each of them is accepted
-unfoldable pub AllAccepted : List Said → Type 0
+unfoldable pub AllAccepted : List StepSaid → Type 0
 AllAccepted [] = Unit {0}
 AllAccepted (a ∷ answers) = (accepted a ≡ true) × AllAccepted answers
 
 -- These are the answers of the steps that a run makes: the run ends "with the last accepted step and the steps taken, or "none" and 0". A
 -- refused run makes none.
-pub record StandsAs (answers : List Said) (o : RunOutcome) : Type 0 where
+pub record StandsAs (answers : List StepSaid) (o : RunOutcome) : Type 0 where
   pub all-accepted : AllAccepted answers
   pub last-of-them : o .last ≡ lastOr none answers
   pub their-number : o .taken ≡ length answers
   pub refused-none : (n p : ℕ) → o .ending ≡ refused n p → answers ≡ []
 
 -- what a call answers, step by step, and what it leaves; `run-stands` in proofs/Calls.antt says what a run answers in a list
-unfoldable pub callAnswers : List ℕ → Lent → Call → List Said
-callAnswers bytes s (steps v) = step bytes s v .answer ∷ []
-callAnswers bytes s (runs budget) = cond (steppable s) (runAnswers bytes budget s) []
+unfoldable pub callAnswers : List ℕ → Lent → Call → List StepSaid
+callAnswers bytes s (a-step v) = step bytes s v .answer ∷ []
+callAnswers bytes s (a-run budget) = cond (steppable s) (runAnswers bytes budget s) []
 
 unfoldable pub callLeaves : List ℕ → Lent → Call → Lent
-callLeaves bytes s (steps v) = step bytes s v .after
-callLeaves bytes s (runs budget) = run bytes s budget .after
+callLeaves bytes s (a-step v) = step bytes s v .after
+callLeaves bytes s (a-run budget) = run bytes s budget .after
 
 -- a list of calls, one after the other
-unfoldable pub answersOf : List ℕ → Lent → List Call → List Said
+unfoldable pub answersOf : List ℕ → Lent → List Call → List StepSaid
 answersOf bytes s [] = []
 answersOf bytes s (c ∷ cs) = callAnswers bytes s c ++ answersOf bytes (callLeaves bytes s c) cs
 

@@ -7,7 +7,7 @@ use Rattle.graph.specs.Tests.{every}
 use Rattle.graph.specs.Tables.{Lent, FINISHED}
 use Rattle.graph.specs.Commands.{hasStatus}
 use Rattle.refusal.specs.Refusals.{unsound-tables}
-use Rattle.machine.specs.Answers.{Said, accepted}
+use Rattle.machine.specs.Answers.{StepSaid, accepted}
 use Rattle.machine.specs.Stepping.{steppable, step}
 
 -- "A vertex can step if a step naming it there would be accepted."
@@ -54,22 +54,22 @@ pub data Ending : Type 0 where
 -- ".. with the last accepted step and the steps taken, or "none" and 0"
 pub record RunOutcome : Type 0 where
   pub ending : Ending
-  pub last : Option Said
+  pub last : Option StepSaid
   pub taken : ℕ
   pub after : Lent
 
-abbrev pub ended : Ending → Option Said → ℕ → Lent → RunOutcome
+abbrev pub ended : Ending → Option StepSaid → ℕ → Lent → RunOutcome
 ended e last taken s = record { ending = e; last = last; taken = taken; after = s }
 
 -- "Before each step it looks: done if all vertices made are finished; stuck if no step would be accepted; spent if the budget is used."
-unfoldable pub look : List ℕ → (Lent → Option Said → ℕ → RunOutcome) → ℕ → Lent → Option Said → ℕ → Bool → Option ℕ → RunOutcome
+unfoldable pub look : List ℕ → (Lent → Option StepSaid → ℕ → RunOutcome) → ℕ → Lent → Option StepSaid → ℕ → Bool → Option ℕ → RunOutcome
 look bytes again budget s last taken true v = ended done last taken s
 look bytes again budget s last taken false none = ended stuck last taken s
 look bytes again zero s last taken false (some v) = ended spent last taken s
 look bytes again (suc left) s last taken false (some v) =
     again (step bytes s v .after) (some (step bytes s v .answer)) (suc taken)
 
-unfoldable pub runOn : List ℕ → ℕ → Lent → Option Said → ℕ → RunOutcome
+unfoldable pub runOn : List ℕ → ℕ → Lent → Option StepSaid → ℕ → RunOutcome
 runOn bytes zero s last taken = look bytes (λ s' l t. ended spent l t s') 0 s last taken (allFinished s) (lowest bytes s)
 runOn bytes (suc left) s last taken = look bytes (runOn bytes left) (suc left) s last taken (allFinished s) (lowest bytes s)
 

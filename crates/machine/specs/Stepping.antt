@@ -20,7 +20,7 @@ use Rattle.program.specs.Encodings.{Command, perform, newTd, newEdge, transfer,
 use Rattle.program.specs.Answers as of-program
 use Rattle.program.specs.Answers.{Stands}
 use Rattle.program.specs.Located.{itemAt}
-use Rattle.machine.specs.Answers.{Said, Outcome, refuse, oneStep, saidAs}
+use Rattle.machine.specs.Answers.{StepSaid, Outcome, refuse, oneStep, saidAs}
 
 -- "steps 8,192 or more (at a step or run only)"
 abbrev pub stepLimit : ℕ
@@ -169,7 +169,7 @@ withOwn s v w =
 -- own words besides, and the step is counted.
 abbrev pub doDue : Lent → ℕ → Due → Outcome
 doDue s v (refusal-due n) = refuse s n 0
-doDue s v (job-due n p w) = record { answer = Said.job n p; after = oneStep (withOwn s v w) }
+doDue s v (job-due n p w) = record { answer = StepSaid.job n p; after = oneStep (withOwn s v w) }
 doDue s v (command-due c w) =
     record {
       answer = saidAs (command c s .answer);

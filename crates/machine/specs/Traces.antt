@@ -7,11 +7,11 @@ use mathlib.Core.Bool.{true}
 use mathlib.Core.List.{List, [], _∷_, _++_}
 use mathlib.Core.Option.{Option}
 use Rattle.graph.specs.Tables.{Lent}
-use Rattle.machine.specs.Answers.{Said, LoadingSaid, isLoaded}
+use Rattle.machine.specs.Answers.{StepSaid, LoadingSaid, isLoaded}
 use Rattle.machine.specs.Loading.{load}
 use Rattle.machine.specs.Stepping.{step}
 use Rattle.machine.specs.Running.{Ending, run}
-use Rattle.machine.specs.Reached.{runs, callAnswers}
+use Rattle.machine.specs.Reached.{a-run, callAnswers}
 
 -- loading these bytes onto what was lent before
 pub record Loaded (bytes : List ℕ) (before : Lent) (answer : LoadingSaid) (after : Lent) : Type 0 where
@@ -19,23 +19,23 @@ pub record Loaded (bytes : List ℕ) (before : Lent) (answer : LoadingSaid) (aft
   pub leaves : after ≡ load bytes before .after
 
 -- a step of the vertex v
-pub record Stepped (bytes : List ℕ) (before : Lent) (v : ℕ) (answer : Said) (after : Lent) : Type 0 where
+pub record Stepped (bytes : List ℕ) (before : Lent) (v : ℕ) (answer : StepSaid) (after : Lent) : Type 0 where
   pub says : answer ≡ step bytes before v .answer
   pub leaves : after ≡ step bytes before v .after
 
 -- a run with a budget
-pub record Ran (bytes : List ℕ) (before : Lent) (budget : ℕ) (ending : Ending) (last : Option Said) (taken : ℕ) (after : Lent) : Type 0 where
+pub record Ran (bytes : List ℕ) (before : Lent) (budget : ℕ) (ending : Ending) (last : Option StepSaid) (taken : ℕ) (after : Lent) : Type 0 where
   pub ends : ending ≡ run bytes before budget .ending
   pub last-is : last ≡ run bytes before budget .last
   pub takes : taken ≡ run bytes before budget .taken
   pub leaves : after ≡ run bytes before budget .after
 
 -- A trace from a loading onto s₀: the steps' answers, a run's steps among them, and what is lent at its end.
-pub data Trace (bytes : List ℕ) (s₀ : Lent) : List Said → Lent → Type 0 where
+pub data Trace (bytes : List ℕ) (s₀ : Lent) : List StepSaid → Lent → Type 0 where
   load-first : {answer : LoadingSaid} {s : Lent} → Loaded bytes s₀ answer s → isLoaded answer ≡ true → Trace bytes s₀ [] s
   then-step :
-      {answers : List Said} {s s' : Lent} (v : ℕ) (answer : Said) → Trace bytes s₀ answers s → Stepped bytes s v answer s'
+      {answers : List StepSaid} {s s' : Lent} (v : ℕ) (answer : StepSaid) → Trace bytes s₀ answers s → Stepped bytes s v answer s'
       → Trace bytes s₀ (answers ++ (answer ∷ [])) s'
   then-run :
-      {answers : List Said} {s s' : Lent} (budget : ℕ) (ending : Ending) (last : Option Said) (taken : ℕ) → Trace bytes s₀ answers s
-      → Ran bytes s budget ending last taken s' → Trace bytes s₀ (answers ++ callAnswers bytes s (runs budget)) s'
+      {answers : List StepSaid} {s s' : Lent} (budget : ℕ) (ending : Ending) (last : Option StepSaid) (taken : ℕ) → Trace bytes s₀ answers s
+      → Ran bytes s budget ending last taken s' → Trace bytes s₀ (answers ++ callAnswers bytes s (a-run budget)) s'

@@ -10,7 +10,7 @@ use Rattle.program.specs.declared.Reader.{Reader}
 use Rattle.refusal.specs.declared.Refusal.{Refusal}
 use Rattle.program.specs.declared.Advanced.{Advanced}
 use Rattle.program.specs.declared.Advanced.the-variants as of-reader
-use Rattle.program.specs.Trees.{Body, Item, a-job, an-async, a-finish, a-fork, ahead, Counts, counts}
+use Rattle.program.specs.Trees.{Body, Item, a-job, an-async, a-finish, a-fork, withFirst, Counts, counts}
 use Rattle.program.specs.Bytes.{endByte}
 use Rattle.refusal.specs.Refusals.{bytes-run-out}
 use Rattle.program.specs.Reader.{Read, took, refused, andThen, item, body}
@@ -76,7 +76,7 @@ along-out bytes level start seen r from h ge =
 
 -- a body from its first item
 progress-ahead : (len : ℕ) (s : Counts) (i : Item) (o : Read Body)
-    → progress counts len s (andThen o (λ others rest. took (ahead i others) rest)) ≡ progress counts len (plus s (countsOf i)) o
+    → progress counts len s (andThen o (λ others rest. took (withFirst i others) rest)) ≡ progress counts len (plus s (countsOf i)) o
 unfolding progress andThen
 progress-ahead len s i (took b rest) = ap (past (len - length rest))
     (ap (plus s) (counts-ahead i b) ∙ sym (plus-assoc s (countsOf i) (counts b)))
@@ -90,7 +90,7 @@ unfolding andThen
 body-taken level len s x left i rest ne p =
     ap (progress counts len s)
     (body-item level x left ne
-    ∙ ap (λ (o : Read Item). andThen o (λ first rest'. andThen (body level rest') (λ others rest''. took (ahead first others) rest''))) p)
+    ∙ ap (λ (o : Read Item). andThen o (λ first rest'. andThen (body level rest') (λ others rest''. took (withFirst first others) rest''))) p)
     ∙ progress-ahead len s i (body level rest)
 
 -- its first item is refused

@@ -4,7 +4,7 @@ use mathlib.Core.Path.{_≡_, refl, ap, _∙_}
 use mathlib.Core.List.{List, _∷_, _++_, append-assoc}
 use native.Mathlib.Omega.{arith}
 use Rattle.program.specs.Limits.{jobLimit, levelLimit}
-use Rattle.program.specs.Trees.{Body, end, job, async, finish, fork, Item, a-job, an-async, a-finish, a-fork, ahead, depth, largest}
+use Rattle.program.specs.Trees.{Body, end, job, async, finish, fork, Item, a-job, an-async, a-finish, a-fork, withFirst, depth, largest}
 use Rattle.program.specs.Bytes.{jobByte, asyncByte, finishByte, forkByte, encodeNumber, encode}
 use Rattle.program.specs.Reader.{took, andThen, item, body}
 use Rattle.program.proofs.NumberLaws.{number-complete}
@@ -14,7 +14,7 @@ use Rattle.program.proofs.ReaderLaws.{body-end, body-item, item-job, it
 -- an item's first byte is no end byte
 pub item-begins : (level : ℕ) (i : Item) (ys : List ℕ)
     → body level (itemBytes i ++ ys) ≡ andThen (item body level (itemBytes i ++ ys))
-    (λ first rest. andThen (body level rest) (λ others rest'. took (ahead first others) rest'))
+    (λ first rest. andThen (body level rest) (λ others rest'. took (withFirst first others) rest'))
 unfolding itemBytes
 item-begins level (a-job n) ys = body-item level jobByte _ (λ e. omega arith)
 item-begins level (an-async b) ys = body-item level asyncByte _ (λ e. omega arith)
@@ -24,7 +24,7 @@ item-begins level (a-fork b c) ys = body-item level forkByte _ (λ e. omega arit
 -- an item and the rest of a body
 items-back : (level : ℕ) (i : Item) (r : Body) (rest : List ℕ)
     → item body level (itemBytes i ++ (encode r ++ rest)) ≡ took i (encode r ++ rest) → body level (encode r ++ rest) ≡ took r rest
-    → body level (encode (ahead i r) ++ rest) ≡ took (ahead i r) rest
+    → body level (encode (withFirst i r) ++ rest) ≡ took (withFirst i r) rest
 unfolding andThen
 items-back level i r rest p q =
     ap (λ (xs : List ℕ). body level (xs ++ rest)) (encode-ahead i r)
@@ -57,7 +57,7 @@ fork-back level b c rest lt p q =
 
 -- A body that may stand at a level is read back there.
 pub body-back : (level : ℕ) (b : Body) (rest : List ℕ) → FitsAt level b → body level (encode b ++ rest) ≡ took b rest
-unfolding encode FitsAt ahead
+unfolding encode FitsAt withFirst
 body-back level end rest h = body-end level rest
 body-back level (job n r) rest h =
     items-back level (a-job n) r rest (job-back level n (encode r ++ rest) (h .0)) (body-back level r rest (h .1))

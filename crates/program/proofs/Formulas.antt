@@ -7,7 +7,7 @@ use native.Mathlib.Omega.{arith}
 use lib.ListN.{length-append}
 use Rattle.program.specs.Trees.{Kind, jobs, asyncs, finishes, forks, Body, end, job, async, finish, fork, total, same, Counts, counts}
 use Rattle.program.specs.Bytes.{encodeNumber, encode, size}
-use Rattle.program.specs.Encodings.{firstEdition, weight, makes, links, does, itemsWeight, vertices, edgeRows, steps}
+use Rattle.program.specs.Encodings.{firstEdition, weight, makes, links, does, itemsWeight, verticesMade, edgeRowsNeeded, stepsTaken}
 use Rattle.program.specs.Encodings.{vertexFormula, edgeRowFormula, stepFormula}
 use Rattle.program.specs.Progress.{plus}
 
@@ -51,18 +51,18 @@ total-counts g (fork b c r) =
     (weigh-plus g (counts c) (counts r) (total-counts g c) (total-counts g r)))
 
 -- "V = 2 + a + 2f + 3k"
-pub vertices-formula : (b : Body) → vertices firstEdition b ≡ vertexFormula (counts b)
-unfolding vertices itemsWeight weight makes firstEdition weigh
+pub vertices-formula : (b : Body) → verticesMade firstEdition b ≡ vertexFormula (counts b)
+unfolding verticesMade itemsWeight weight makes firstEdition weigh
 vertices-formula b = omega (arith, total-counts (λ k. weight makes (firstEdition k .commands)) b)
 
 -- "Edge rows needed: 1 + a + f + 2k."
-pub edgeRows-formula : (b : Body) → edgeRows firstEdition b ≡ edgeRowFormula (counts b)
-unfolding edgeRows itemsWeight weight links firstEdition weigh
+pub edgeRows-formula : (b : Body) → edgeRowsNeeded firstEdition b ≡ edgeRowFormula (counts b)
+unfolding edgeRowsNeeded itemsWeight weight links firstEdition weigh
 edgeRows-formula b = omega (arith, total-counts (λ k. weight links (firstEdition k .commands)) b)
 
 -- demand 3's count, 4 + w + 5a + 10f + 15k
-pub steps-formula : (b : Body) → steps firstEdition b ≡ stepFormula (counts b)
-unfolding steps itemsWeight weight does firstEdition weigh
+pub steps-formula : (b : Body) → stepsTaken firstEdition b ≡ stepFormula (counts b)
+unfolding stepsTaken itemsWeight weight does firstEdition weigh
 steps-formula b = omega (arith, vertices-formula b, total-counts (λ k. weight does (firstEdition k .commands)) b)
 
 -- a kind is itself once at most

@@ -15,7 +15,7 @@ use Rattle.program.specs.declared.Advanced.the-variants as of-reader
 use Rattle.program.specs.declared.NumberRead.{NumberRead}
 use Rattle.program.specs.declared.NumberRead.the-variants as of-number
 use Rattle.program.specs.Limits.{levelLimit}
-use Rattle.program.specs.Trees.{Body, Item, a-job, an-async, a-finish, a-fork, ahead, Counts, counts, total, same}
+use Rattle.program.specs.Trees.{Body, Item, a-job, an-async, a-finish, a-fork, withFirst, Counts, counts, total, same}
 use Rattle.program.specs.Bytes.{endByte, jobByte, asyncByte, finishByte, forkByte, encode}
 use Rattle.refusal.specs.Refusals.{byte-unknown, level-too-deep, bytes-run-out}
 use Rattle.program.specs.Reader.{Read, took, refused, andThen, number, kindOf, jobOf, itemOf, item, body}
@@ -41,7 +41,7 @@ counted-job (NumberProgress.stopped n p) = Progress.stopped n p
 -- as the definition has it
 job-is : (len : ℕ) (s : Counts) (o : Read ℕ)
     → counted-job (numberProgress len s o) ≡ progress countsOf len s (andThen o (λ n rest. took (a-job n) rest))
-unfolding counted-job numberProgress progress andThen countsOf counts total same ahead oneOf
+unfolding counted-job numberProgress progress andThen countsOf counts total same withFirst oneOf
 job-is len s (took n rest) = refl
 job-is len s (refused n left) = refl
 
@@ -122,17 +122,17 @@ equal-counts c d p q r s = λ i. record { w = p i; a = q i; f = r i; k = s i }
 
 -- what an async counts,
 async-counts : (b : Body) → plus (counts b) (oneOf asyncByte) ≡ countsOf (an-async b)
-unfolding plus counts countsOf oneOf total same ahead
+unfolding plus counts countsOf oneOf total same withFirst
 async-counts b = equal-counts _ _ (omega arith) (omega arith) (omega arith) (omega arith)
 
 -- a finish
 finish-counts : (b : Body) → plus (counts b) (oneOf finishByte) ≡ countsOf (a-finish b)
-unfolding plus counts countsOf oneOf total same ahead
+unfolding plus counts countsOf oneOf total same withFirst
 finish-counts b = equal-counts _ _ (omega arith) (omega arith) (omega arith) (omega arith)
 
 -- and a fork
 fork-counts : (b c : Body) → plus (counts b) (plus (counts c) (oneOf forkByte)) ≡ countsOf (a-fork b c)
-unfolding plus counts countsOf oneOf total same ahead
+unfolding plus counts countsOf oneOf total same withFirst
 fork-counts b c = equal-counts _ _ (omega arith) (omega arith) (omega arith) (omega arith)
 
 -- an item that holds one body

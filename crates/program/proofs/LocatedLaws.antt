@@ -36,7 +36,7 @@ use borrow.Author.Tests.{eqb-true, eq-eqb, ne-eqb}
 use Rattle.program.specs.Trees.{Body, end, job, async, finish, fork}
 use Rattle.program.specs.Bytes.{encodeNumber, encode, numberSize, size}
 use Rattle.program.specs.Reader.{program, reading}
-use Rattle.program.specs.Located.{Code, end-at, job-at, async-at, finish-at, fork-at, locate, place, last, here, orElse, codeAt}
+use Rattle.program.specs.Located.{Code, end-at, job-at, async-at, finish-at, fork-at, locate, startOf, last, here, orElse, codeAt}
 use Rattle.program.specs.Located.{head, found, standsIn, itemAt}
 
 -- a search that finds code has it here, or among the others
@@ -94,18 +94,18 @@ join (inside i p) q = inside i (join p q)
 
 -- what a search finds
 abbrev Hit : Code → ℕ → Code → Type 0
-Hit m p c = Part m c × (place c ≡ p)
+Hit m p c = Part m c × (startOf c ≡ p)
 
 -- the code itself, and a part
-hit-here : (m : Code) (o p : ℕ) {c : Code} → place m ≡ o → eqb p o ≡ true → m ≡ c → Hit m p c
-hit-here m o p q t e = (subst (λ (x : Code). Part m x) e itself, ap place (sym e) ∙ q ∙ sym (eqb-true p o t))
+hit-here : (m : Code) (o p : ℕ) {c : Code} → startOf m ≡ o → eqb p o ≡ true → m ≡ c → Hit m p c
+hit-here m o p q t e = (subst (λ (x : Code). Part m x) e itself, ap startOf (sym e) ∙ q ∙ sym (eqb-true p o t))
 
 hit-inside : {m d c : Code} {p : ℕ} → Inner m d → Hit d p c → Hit m p c
 hit-inside i h = (inside i (h .0), h .1)
 
 -- a search finds parts, each at its place
 code-hit : (m : Code) (p : ℕ) {c : Code} → codeAt m p ≡ some c → Hit m p c
-unfolding codeAt place
+unfolding codeAt startOf
 code-hit (end-at o) p h = here-cases (eqb p o) _ _ h (hit-here _ o p refl) (λ q. absurd (Option·none-ne-some _ q))
 code-hit (job-at o n r) p h = here-cases (eqb p o) _ _ h (hit-here _ o p refl) (λ q. hit-inside job-rest (code-hit r p q))
 code-hit (async-at o b r) p h =
@@ -122,29 +122,29 @@ code-hit (fork-at o b c r) p h =
 pub code-part : (m : Code) (p : ℕ) {c : Code} → codeAt m p ≡ some c → Part m c
 code-part m p h = code-hit m p h .0
 
-pub code-place : (m : Code) (p : ℕ) {c : Code} → codeAt m p ≡ some c → place c ≡ p
+pub code-place : (m : Code) (p : ℕ) {c : Code} → codeAt m p ≡ some c → startOf c ≡ p
 code-place m p h = code-hit m p h .1
 
 -- the rest r of a body, behind a job at o
 pub record Behind (o : ℕ) (r : Code) : Type 0 where
-  pub starts : o < place r
-  pub rest : place r ≤ last r
+  pub starts : o < startOf r
+  pub rest : startOf r ≤ last r
 
 -- the body b that an item at o holds, and the rest r
 pub record OneBody (o : ℕ) (b r : Code) : Type 0 where
-  pub starts : place b ≡ suc o
-  pub body : place b ≤ last b
-  pub ends : suc (last b) ≡ place r
-  pub rest : place r ≤ last r
+  pub starts : startOf b ≡ suc o
+  pub body : startOf b ≤ last b
+  pub ends : suc (last b) ≡ startOf r
+  pub rest : startOf r ≤ last r
 
 -- the bodies b and c that an item at o holds, and the rest r
 pub record TwoBodies (o : ℕ) (b c r : Code) : Type 0 where
-  pub starts : place b ≡ suc o
-  pub left : place b ≤ last b
-  pub between : suc (last b) ≡ place c
-  pub right : place c ≤ last c
-  pub ends : suc (last c) ≡ place r
-  pub rest : place r ≤ last r
+  pub starts : startOf b ≡ suc o
+  pub left : startOf b ≤ last b
+  pub between : suc (last b) ≡ startOf c
+  pub right : startOf c ≤ last c
+  pub ends : suc (last c) ≡ startOf r
+  pub rest : startOf r ≤ last r
 
 -- code whose parts stand one behind the other
 unfoldable pub Laid : Code → Type 0
@@ -155,8 +155,8 @@ Laid (finish-at o b r) = OneBody o b r × Laid b × Laid r
 Laid (fork-at o b c r) = TwoBodies o b c r × Laid b × Laid c × Laid r
 
 -- where a body that is laid out starts and ends
-pub place-locate : (o : ℕ) (b : Body) → place (locate o b) ≡ o
-unfolding locate place
+pub place-locate : (o : ℕ) (b : Body) → startOf (locate o b) ≡ o
+unfolding locate startOf
 place-locate o end = refl
 place-locate o (job n r) = refl
 place-locate o (async b r) = refl
@@ -183,11 +183,11 @@ size-some (finish b r) = omega arith
 size-some (fork b c r) = omega arith
 
 -- so it ends where it starts, or behind
-le-locate : (o : ℕ) (b : Body) → place (locate o b) ≤ last (locate o b)
+le-locate : (o : ℕ) (b : Body) → startOf (locate o b) ≤ last (locate o b)
 le-locate o b = omega (arith, place-locate o b, last-locate o b, size-some b)
 
 -- and what is laid out behind it starts there
-next-locate : (o o' : ℕ) (b r : Body) → o' ≡ o + size b → suc (last (locate o b)) ≡ place (locate o' r)
+next-locate : (o o' : ℕ) (b r : Body) → o' ≡ o + size b → suc (last (locate o b)) ≡ startOf (locate o' r)
 next-locate o o' b r e = last-locate o b ∙ sym e ∙ sym (place-locate o' r)
 
 -- the parts of an item
@@ -224,8 +224,8 @@ laid-locate o (finish b r) = (one-locate o _ b r (omega arith), laid-locate _ b,
 laid-locate o (fork b c r) = (two-locate o _ _ b c r (omega arith) (omega arith), laid-locate _ b, laid-locate _ c, laid-locate _ r)
 
 -- laid code ends where it starts, or behind
-pub laid-le : (m : Code) → Laid m → place m ≤ last m
-unfolding Laid place last
+pub laid-le : (m : Code) → Laid m → startOf m ≤ last m
+unfolding Laid startOf last
 laid-le (end-at o) l = omega arith
 laid-le (job-at o n r) l = omega (arith, l .0 .starts, l .0 .rest)
 laid-le (async-at o b r) l = omega (arith, l .0 .starts, l .0 .body, l .0 .ends, l .0 .rest)
@@ -233,8 +233,8 @@ laid-le (finish-at o b r) l = omega (arith, l .0 .starts, l .0 .body, l .0 .ends
 laid-le (fork-at o b c r) l = omega (arith, l .0 .starts, l .0 .left, l .0 .between, l .0 .right, l .0 .ends, l .0 .rest)
 
 -- what is inside laid code is laid, and stands behind its start and before its end
-laid-inner : {m d : Code} → Inner m d → Laid m → Laid d × (place m < place d) × (last d ≤ last m)
-unfolding Laid place last
+laid-inner : {m d : Code} → Inner m d → Laid m → Laid d × (startOf m < startOf d) × (last d ≤ last m)
+unfolding Laid startOf last
 laid-inner job-rest l = (l .1, l .0 .starts, omega arith)
 laid-inner async-body l = (l .1, omega (arith, l .0 .starts), omega (arith, l .0 .ends, l .0 .rest))
 laid-inner async-rest l = (l .2, omega (arith, l .0 .starts, l .0 .body, l .0 .ends), omega arith)
@@ -245,7 +245,7 @@ laid-inner fork-right l = (l .2, omega (arith, l .0 .starts, l .0 .left, l .0 .b
 laid-inner fork-rest l = (l .3, omega (arith, l .0 .starts, l .0 .left, l .0 .between, l .0 .right, l .0 .ends), omega arith)
 
 -- the same of any part
-laid-part : {m c : Code} → Part m c → Laid m → Laid c × (place m ≤ place c) × (last c ≤ last m)
+laid-part : {m c : Code} → Part m c → Laid m → Laid c × (startOf m ≤ startOf c) × (last c ≤ last m)
 laid-part itself l = (l, omega arith, omega arith)
 laid-part (inside i p) l =
     let (k, s, e) = laid-inner i l in
@@ -253,8 +253,8 @@ laid-part (inside i p) l =
     (k', omega (arith, s, s'), omega (arith, e, e'))
 
 -- code starts at its own place
-pub code-here : (m : Code) → codeAt m (place m) ≡ some m
-unfolding codeAt place
+pub code-here : (m : Code) → codeAt m (startOf m) ≡ some m
+unfolding codeAt startOf
 code-here (end-at o) = here-now o _ _
 code-here (job-at o n r) = here-now o _ _
 code-here (async-at o b r) = here-now o _ _
@@ -266,14 +266,14 @@ pub code-laid : (m : Code) (p : ℕ) {c : Code} → Laid m → codeAt m p ≡ so
 code-laid m p l h = laid-part (code-part m p h) l .0
 
 pub code-range :
-    (m : Code) (p : ℕ) {c : Code} → Laid m → codeAt m p ≡ some c → (place m ≤ p) × (p ≤ last c) × (last c ≤ last m)
+    (m : Code) (p : ℕ) {c : Code} → Laid m → codeAt m p ≡ some c → (startOf m ≤ p) × (p ≤ last c) × (last c ≤ last m)
 code-range m p {c} l h =
-    let at : place c ≡ p = code-place m p h in
+    let at : startOf c ≡ p = code-place m p h in
     let (k, s, e) = laid-part (code-part m p h) l in
     (omega (arith, s), omega (arith, laid-le c k), e)
 
 -- nothing starts outside
-pub code-missing : (m : Code) (p : ℕ) → Laid m → (place m ≤ p → p ≤ last m → ⊥) → codeAt m p ≡ none
+pub code-missing : (m : Code) (p : ℕ) → Laid m → (startOf m ≤ p → p ≤ last m → ⊥) → codeAt m p ≡ none
 code-missing m p l out = go (codeAt m p) refl
   where
     go : (x : Option Code) → codeAt m p ≡ x → x ≡ none
@@ -286,8 +286,8 @@ code-behind m p l h = code-missing m p l (λ u v. absurd (omega arith))
 
 -- what starts inside starts there in the whole
 code-within :
-    {m d c : Code} (p : ℕ) → Inner m d → Laid m → place m < p → place d ≤ p → codeAt d p ≡ some c → codeAt m p ≡ some c
-unfolding Laid codeAt place
+    {m d c : Code} (p : ℕ) → Inner m d → Laid m → startOf m < p → startOf d ≤ p → codeAt d p ≡ some c → codeAt m p ≡ some c
+unfolding Laid codeAt startOf
 code-within p job-rest l lt le h = here-later _ p _ _ lt ∙ h
 code-within p async-body l lt le h = here-later _ p _ _ lt ∙ orElse-some _ h
 code-within p (async-rest {b = b}) l lt le h =
@@ -305,15 +305,15 @@ code-within p (fork-rest {b = b} {c = c}) l lt le h =
     ∙ h
 
 -- each part starts at its place
-pub part-code : {m c : Code} → Part m c → Laid m → codeAt m (place c) ≡ some c
+pub part-code : {m c : Code} → Part m c → Laid m → codeAt m (startOf c) ≡ some c
 part-code {m} itself l = code-here m
 part-code {c = c} (inside i q) l =
     let (k, s, e) = laid-inner i l in
     let (k', s', e') = laid-part q k in
-    code-within (place c) i l (omega (arith, s, s')) s' (part-code q k)
+    code-within (startOf c) i l (omega (arith, s, s')) s' (part-code q k)
 
 -- what is right inside code that starts at a place starts at its own place
-pub code-inner : (m : Code) (p : ℕ) {c d : Code} → Laid m → codeAt m p ≡ some c → Inner c d → codeAt m (place d) ≡ some d
+pub code-inner : (m : Code) (p : ℕ) {c d : Code} → Laid m → codeAt m p ≡ some c → Inner c d → codeAt m (startOf d) ≡ some d
 code-inner m p l h i = part-code (join (code-part m p h) (inside i itself)) l
 
 -- code ends with an end byte
@@ -327,11 +327,11 @@ last-part (fork-at o b c r) = inside fork-rest (last-part r)
 
 -- so an end byte stands at its last place
 pub code-end : (m : Code) → Laid m → codeAt m (last m) ≡ some (end-at (last m))
-unfolding place
+unfolding startOf
 code-end m l = part-code (last-part m) l
 
 pub code-last : (m : Code) (p : ℕ) {c : Code} → Laid m → codeAt m p ≡ some c → codeAt m (last c) ≡ some (end-at (last c))
-unfolding place
+unfolding startOf
 code-last m p {c} l h = part-code (join (code-part m p h) (last-part c)) l
 
 -- where the parts of an item stand

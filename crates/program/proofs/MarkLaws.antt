@@ -11,8 +11,8 @@ use lib.Seq.{getD-set-same, getD-set-other}
 use borrow.Author.Tests.{eqb-true, eqb-false, lt-ltb, le-ltb, ltb-true, ltb-false}
 use Rattle.program.specs.Trees.{Counts}
 use Rattle.program.specs.Reader.{reading}
-use Rattle.program.specs.Answers.{Said, loads, told}
-use Rattle.program.specs.Located.{startsAt, Marked}
+use Rattle.program.specs.Answers.{ProgramSaid, loads, told}
+use Rattle.program.specs.Located.{startsAt, MarksStarts}
 use Rattle.program.specs.Progress.{inNumber, Outside}
 use Rattle.program.proofs.PlaceLaws.{starts-refused, starts-outside, starts-inside}
 
@@ -84,12 +84,12 @@ marking-outside {before} {marks} {i} xs m over = (m .long, λ p lt. go p lt (ltb
 
 -- the program is refused: nothing starts, and all marks are 0
 pub marked-refused :
-    (bytes marks : List ℕ) (n q : ℕ) → Said.refused n q ≡ told (reading bytes) → marks ≡ replicate (length marks) 0 → Marked bytes marks
+    (bytes marks : List ℕ) (n q : ℕ) → ProgramSaid.refused n q ≡ told (reading bytes) → marks ≡ replicate (length marks) 0 → MarksStarts bytes marks
 marked-refused bytes marks n q is zeros p lt =
     zero-at marks zeros p lt ∙ ap (λ (t : Bool). cond t 1 0) (starts-refused bytes p n q is)
 
 -- it is read: an item or an end byte starts at each byte outside its numbers
-pub marked-read : (bytes marks : List ℕ) (c : Counts) → loads c ≡ told (reading bytes) → Outside bytes marks → Marked bytes marks
+pub marked-read : (bytes marks : List ℕ) (c : Counts) → loads c ≡ told (reading bytes) → Outside bytes marks → MarksStarts bytes marks
 unfolding byteMark
 marked-read bytes marks c is outside p lt = outside p lt ∙ go (ltb p (length bytes)) refl
   where

@@ -12,7 +12,7 @@ use borrow.Author.Tests.{ltb-true, ltb-false, lt-ltb, le-ltb, leb-true, le-leb, 
 use Rattle.program.specs.Limits.{numberBytes, jobLimit}
 use Rattle.program.specs.Bytes.{topBit, groupBytes, encodeNumber}
 use Rattle.refusal.specs.Refusals.{number-malformed, byte-unknown, bytes-run-out, job-too-large}
-use Rattle.program.specs.Reader.{Read, took, refused, andThen, unless, groups, number}
+use Rattle.program.specs.Reader.{Read, took, refused, andThen, takeIf, groups, number}
 use Rattle.program.specs.Claims.{TopBits, BadNumber, too-long, not-shortest, too-large}
 use Rattle.program.proofs.ReadLaws.{Outcome, was-took, was-refused, took-bytes, took-fits, behind-shorter, guarded}
 
@@ -44,7 +44,7 @@ apart b high le lt = (omega arith, omega arith)
 
 -- reading one byte of a number: its last
 pub groups-last : (start : List ℕ) (only : Bool) (room b : ℕ) (left : List ℕ) → b < topBit
-    → groups start only (suc room) (b ∷ left) ≡ unless (cond only true (ltb 0 b)) number-malformed start (took b left)
+    → groups start only (suc room) (b ∷ left) ≡ takeIf (cond only true (ltb 0 b)) number-malformed start (took b left)
 unfolding groups
 groups-last start only room b left lt = rw (lt-ltb b topBit lt) refl
 
@@ -52,13 +52,13 @@ groups-last start only room b left lt = rw (lt-ltb b topBit lt) refl
 pub groups-more : (start : List ℕ) (only : Bool) (room b : ℕ) (left : List ℕ) → topBit ≤ b → b < 2 * topBit
     → groups start only (suc room) (b ∷ left)
     ≡ andThen (groups start false room left) (λ high rest. took ((b - topBit) + topBit * high) rest)
-unfolding groups unless
+unfolding groups takeIf
 groups-more start only room b left le lt = rw (le-ltb b topBit le, lt-ltb b (2 * topBit) lt) refl
 
 -- none at all
 groups-none : (start : List ℕ) (only : Bool) (room b : ℕ) (left : List ℕ) → 2 * topBit ≤ b
     → groups start only (suc room) (b ∷ left) ≡ refused byte-unknown (b ∷ left)
-unfolding groups unless
+unfolding groups takeIf
 groups-none start only room b left le =
     let h : topBit ≤ b = omega arith in
     rw (le-ltb b topBit h, le-ltb b (2 * topBit) le) refl
@@ -135,7 +135,7 @@ groups-long start only (suc room) (b ∷ high) zs e t =
 -- and so are such bytes before a last group 0
 groups-padded : (start : List ℕ) (only : Bool) (room : ℕ) (high zs : List ℕ) → (only ≡ true → 0 < length high) → TopBits high
     → groups start only room (high ++ (0 ∷ zs)) ≡ refused number-malformed start
-unfolding groups unless
+unfolding groups takeIf
 groups-padded start only zero high zs o t = refl
 groups-padded start true (suc room) [] zs o t = absurd (let h = o refl in omega arith)
 groups-padded start false (suc room) [] zs o t = refl
@@ -185,13 +185,13 @@ completed (suc room) (b ∷ high) l t =
 
 -- a last byte
 ends : (start : List ℕ) (only : Bool) (room b : ℕ) (left : List ℕ) → b < topBit
-    → Grouped start only (suc room) (b ∷ left) (unless (cond only true (ltb 0 b)) number-malformed start (took b left))
-unfolding unless
+    → Grouped start only (suc room) (b ∷ left) (takeIf (cond only true (ltb 0 b)) number-malformed start (took b left))
+unfolding takeIf
 ends start true room b left lt =
     grouped (in-room room b lt) (λ e. absurd (true≢false e)) (ap (λ (r : List ℕ). r ++ left) (sym (one-byte room b lt)))
 ends start false room b left lt = go (ltb 0 b) refl
   where
-    go : (t : Bool) → ltb 0 b ≡ t → Grouped start false (suc room) (b ∷ left) (unless t number-malformed start (took b left))
+    go : (t : Bool) → ltb 0 b ≡ t → Grouped start false (suc room) (b ∷ left) (takeIf t number-malformed start (took b left))
     go true h =
         grouped (in-room room b lt) (λ _. ltb-true 0 b h) (ap (λ (r : List ℕ). r ++ left) (sym (one-byte room b lt)))
     go false h =
@@ -226,7 +226,7 @@ groups-are start only (suc room) (b ∷ left) = byte start only room b left (gro
 -- a last group that may stand is taken
 last-back : (start : List ℕ) (only : Bool) (room b : ℕ) (left : List ℕ) → b < topBit → cond only true (ltb 0 b) ≡ true
     → groups start only (suc room) (b ∷ left) ≡ took b left
-unfolding unless
+unfolding takeIf
 last-back start only room b left lt e = groups-last start only room b left lt ∙ rw e refl
 
 -- a group and those above it are put together
@@ -286,7 +286,7 @@ halt-left only room xs (padded high rest o t f) = omega arith
 
 -- what the groups come to, held against the limit
 within-limit : (xs : List ℕ) (o : Read ℕ) → Grouped xs true numberBytes xs o
-    → Outcome encodeNumber Small xs (andThen o (λ n rest. unless (leb n jobLimit) job-too-large xs (took n rest)))
+    → Outcome encodeNumber Small xs (andThen o (λ n rest. takeIf (leb n jobLimit) job-too-large xs (took n rest)))
 unfolding andThen encodeNumber
 within-limit xs (took n rest) (grouped h p e) =
     guarded (leb n jobLimit) job-too-large xs (took n rest) (λ q. was-took e (leb-true n jobLimit q))
@@ -305,7 +305,7 @@ number-sound xs n rest e =
 
 -- A number within the limit is read back from its bytes.
 pub number-complete : (n : ℕ) (rest : List ℕ) → n ≤ jobLimit → number (encodeNumber n ++ rest) ≡ took n rest
-unfolding number andThen unless
+unfolding number andThen takeIf
 number-complete n rest h =
     let room : n < topBit ^ numberBytes = (let l = limit-in-room in omega arith) in
     rw (encoded-back (encodeNumber n ++ rest) n rest room, le-leb n jobLimit h) refl
@@ -328,7 +328,7 @@ number-no-byte high x zs l t ge = number-refused (high ++ (x ∷ zs)) _ _ (group
 
 -- A number that offends is refused, whatever stands behind it.
 pub number-bad : (n : ℕ) (bad zs : List ℕ) → BadNumber n bad → number (bad ++ zs) ≡ refused n (bad ++ zs)
-unfolding number andThen unless
+unfolding number andThen takeIf
 number-bad n bad zs (too-long number e t) = number-refused (number ++ zs) _ _ (groups-long _ true numberBytes number zs e t)
 number-bad n bad zs (not-shortest b high t) =
     number-refused (b ∷ ((high ++ (0 ∷ [])) ++ zs)) _ _

@@ -16,7 +16,7 @@ use Rattle.program.specs.Limits.{numberBytes, jobLimit}
 use Rattle.program.specs.Trees.{Counts}
 use Rattle.program.specs.Bytes.{topBit}
 use Rattle.refusal.specs.Refusals.{number-malformed, bytes-run-out, job-too-large}
-use Rattle.program.specs.Reader.{Read, took, refused, andThen, unless, groups, number}
+use Rattle.program.specs.Reader.{Read, took, refused, andThen, takeIf, groups, number}
 use Rattle.program.specs.Progress.{NumberProgress, value, numberProgress, ended}
 use Rattle.program.proofs.NumberLaws.{groups-last, groups-more}
 
@@ -134,7 +134,7 @@ weight-fits start i v w h = let small = weight-small start i v w h in record { f
 
 -- a number from its groups
 abbrev limited : List ℕ → Read ℕ → Read ℕ
-limited start r = andThen r (λ n rest. unless (leb n jobLimit) job-too-large start (took n rest))
+limited start r = andThen r (λ n rest. takeIf (leb n jobLimit) job-too-large start (took n rest))
 
 -- the number, where this is what the groups left come to
 number-by : (start : List ℕ) (i v w : ℕ) (r : Read ℕ) → After start i v w → groups start (eqb i 0) (numberBytes - i) (drop i start) ≡ r
@@ -172,8 +172,8 @@ over place seen start i v w h full =
 -- the test against the limit
 limit-test : (l : Bool) (seen : Counts) (len place past n : ℕ) (start left : List ℕ) → place ≡ len - length start → past ≡ len - length left
     → cond l (value n past seen) (NumberProgress.stopped job-too-large place)
-    ≡ numberProgress len seen (unless l job-too-large start (took n left))
-unfolding numberProgress unless
+    ≡ numberProgress len seen (takeIf l job-too-large start (took n left))
+unfolding numberProgress takeIf
 limit-test true seen len place past n start left p q = ap (λ (m : ℕ). value n m seen) q
 limit-test false seen len place past n start left p q = ap (NumberProgress.stopped job-too-large) p
 
@@ -182,8 +182,8 @@ form-test : (t : Bool) (seen : Counts) (len place past v w x : ℕ) (start left 
     → place ≡ len - length start → past ≡ len - length left
     → cond t (cond (leb (v + w * x) jobLimit) (value (v + w * x) past seen) (NumberProgress.stopped job-too-large place))
     (NumberProgress.stopped number-malformed place)
-    ≡ numberProgress len seen (limited start (shifted v w (unless t number-malformed start (took x left))))
-unfolding numberProgress andThen shifted unless
+    ≡ numberProgress len seen (limited start (shifted v w (takeIf t number-malformed start (took x left))))
+unfolding numberProgress andThen shifted takeIf
 form-test true seen len place past v w x start left p q = limit-test (leb (v + w * x) jobLimit) seen len place past
     (v + w * x) start left p q
 form-test false seen len place past v w x start left p q = ap (NumberProgress.stopped number-malformed) p

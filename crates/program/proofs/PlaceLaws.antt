@@ -14,10 +14,10 @@ use Rattle.program.specs.Trees.{Body, Counts}
 use Rattle.program.specs.Bytes.{encode, size}
 use Rattle.program.specs.Reader.{Reading, program, refusal, reading}
 use Rattle.refusal.specs.Refusals.{nothing-starts}
-use Rattle.program.specs.Answers.{Said, loads, refused, told, Stands}
+use Rattle.program.specs.Answers.{ProgramSaid, loads, refused, told, Stands}
 use Rattle.program.specs.Located.{Code, locate, codeAt, head, found, standsIn, itemAt, isSome, startsIn, startsAt}
 use Rattle.program.specs.Claims.{Fits, Loadable, Encoding, encoding}
-use Rattle.program.specs.Progress.{Holds, holds, Shows, inNumber}
+use Rattle.program.specs.Progress.{BeginsWithBody, begins, Shows, inNumber}
 use Rattle.program.proofs.Exactness.{reading-sound}
 use Rattle.program.proofs.LocatedLaws.{item-stands}
 use Rattle.program.proofs.StartLaws.{Placed, placed, code-bytes, starts, starts-within}
@@ -31,7 +31,7 @@ loads-told : (bytes : List ℕ) (c : Counts) → loads c ≡ told (reading bytes
 unfolding told size
 loads-told bytes c is = go (reading bytes) refl is
   where
-    Loading : Said → Type 0
+    Loading : ProgramSaid → Type 0
     Loading (loads c) = Unit {0}
     Loading (refused n p) = ⊥
 
@@ -52,15 +52,15 @@ unfolding startsAt startsIn
 starts-read bytes b p e = ap (λ r. startsIn r p) e
 
 -- the program is refused
-pub starts-refused : (bytes : List ℕ) (p n q : ℕ) → Said.refused n q ≡ told (reading bytes) → false ≡ startsAt bytes p
+pub starts-refused : (bytes : List ℕ) (p n q : ℕ) → ProgramSaid.refused n q ≡ told (reading bytes) → false ≡ startsAt bytes p
 unfolding told startsAt startsIn
 starts-refused bytes p n q is = go (reading bytes) is
   where
-    Refusing : Said → Type 0
+    Refusing : ProgramSaid → Type 0
     Refusing (loads c) = ⊥
     Refusing (refused n p) = Unit {0}
 
-    go : (r : Reading) → Said.refused n q ≡ told r → false ≡ startsIn r p
+    go : (r : Reading) → ProgramSaid.refused n q ≡ told r → false ≡ startsIn r p
     go (program b) is = absurd (subst Refusing is tt)
     go (refusal n p) is = refl
 
@@ -148,11 +148,11 @@ starts-beyond bytes p le = go (startsAt bytes p) refl
 
 -- what `item_here` asks
 pub starting-holds :
-    (bytes : List ℕ) (p : ℕ) → startsAt bytes p ≡ true → Holds (part p bytes) × (p + length (part p bytes) ≤ programBytes)
+    (bytes : List ℕ) (p : ℕ) → startsAt bytes p ≡ true → BeginsWithBody (part p bytes) × (p + length (part p bytes) ≤ programBytes)
 starting-holds bytes p is = go (starts-there bytes p is)
   where
-    go : Starts bytes p → Holds (part p bytes) × (p + length (part p bytes) ≤ programBytes)
-    go (starting b rest fits tail stands few lt) = (holds b fits rest (part-is p bytes ∙ tail), omega (arith, part-length p bytes))
+    go : Starts bytes p → BeginsWithBody (part p bytes) × (p + length (part p bytes) ≤ programBytes)
+    go (starting b rest fits tail stands few lt) = (begins b fits rest (part-is p bytes ∙ tail), omega (arith, part-length p bytes))
 
 -- what it tells stands there
 pub starting-shown :

@@ -8,7 +8,7 @@ use lib.ListN.{length, take, drop, length-drop, length-append}
 use lib.Seq.{drop-append-seam}
 use borrow.Rule.Slice.PartAt.{part-to-end}
 use Rattle.program.specs.declared.Reader.{Reader}
-use Rattle.program.specs.Trees.{Kind, jobs, asyncs, finishes, forks, Body, end, Item, a-job, an-async, a-finish, a-fork, ahead, total}
+use Rattle.program.specs.Trees.{Kind, jobs, asyncs, finishes, forks, Body, end, Item, a-job, an-async, a-finish, a-fork, withFirst, total}
 use Rattle.program.specs.Trees.{same, Counts, counts}
 use Rattle.program.specs.Bytes.{encode, size}
 use Rattle.program.specs.Reader.{Read, took, refused, andThen}
@@ -47,15 +47,15 @@ unfolding plus counts total
 plus-end c = λ i. record { w = add-zero (c .w) i; a = add-zero (c .a) i; f = add-zero (c .f) i; k = add-zero (c .k) i }
 
 -- what a body weighs, by its first item
-total-ahead : (g : Kind → ℕ) (i : Item) (b : Body) → total g (ahead i b) ≡ total g (ahead i end) + total g b
-unfolding total ahead
+total-ahead : (g : Kind → ℕ) (i : Item) (b : Body) → total g (withFirst i b) ≡ total g (withFirst i end) + total g b
+unfolding total withFirst
 total-ahead g (a-job n) b = omega arith
 total-ahead g (an-async c) b = omega arith
 total-ahead g (a-finish c) b = omega arith
 total-ahead g (a-fork c d) b = omega arith
 
 -- what it counts
-pub counts-ahead : (i : Item) (b : Body) → counts (ahead i b) ≡ plus (countsOf i) (counts b)
+pub counts-ahead : (i : Item) (b : Body) → counts (withFirst i b) ≡ plus (countsOf i) (counts b)
 unfolding counts countsOf plus
 counts-ahead i b =
     λ j.
@@ -79,11 +79,11 @@ unfolding counts size
 body-most b = record { w-most = count-le jobs b; a-most = count-le asyncs b; f-most = count-le finishes b; k-most = count-le forks b }
 
 -- nor has an item
-item-few : (k : Kind) (i : Item) → total (same k) (ahead i end) ≤ length (itemBytes i)
+item-few : (k : Kind) (i : Item) → total (same k) (withFirst i end) ≤ length (itemBytes i)
 unfolding size encode
 item-few k i =
-    let h : length (encode (ahead i end)) ≡ length (itemBytes i ++ encode end) = ap length (encode-ahead i end) in
-    omega (arith, count-lt k (ahead i end), length-append (itemBytes i) (encode end))
+    let h : length (encode (withFirst i end)) ≡ length (itemBytes i ++ encode end) = ap length (encode-ahead i end) in
+    omega (arith, count-lt k (withFirst i end), length-append (itemBytes i) (encode end))
 
 -- of no kind
 pub item-most : (i : Item) → AtMost (length (itemBytes i)) (countsOf i)

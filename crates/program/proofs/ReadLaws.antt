@@ -6,7 +6,7 @@ use mathlib.Core.List.{List, [], _++_}
 use native.Mathlib.Nat.{le-refl}
 use native.Mathlib.Omega.{arith}
 use lib.ListN.{length, length-append}
-use Rattle.program.specs.Reader.{Read, took, refused, andThen, unless}
+use Rattle.program.specs.Reader.{Read, took, refused, andThen, takeIf}
 
 -- What reading these bytes came to. A value that was taken fits, its own bytes stood first, and the rest of the bytes is left. Where
 -- a refusal stands, no more bytes are left than there were.
@@ -52,8 +52,8 @@ go-on {xs} {rest} front e (refused n left) next (was-refused l) g =
 
 -- a test, with a refusal where reading started
 pub guarded : {A : Type 0} {bytesOf : A → List ℕ} {Fit : A → Type 0} (t : Bool) (n : ℕ) (xs : List ℕ) (next : Read A)
-    → (t ≡ true → Outcome bytesOf Fit xs next) → Outcome bytesOf Fit xs (unless t n xs next)
-unfolding unless
+    → (t ≡ true → Outcome bytesOf Fit xs next) → Outcome bytesOf Fit xs (takeIf t n xs next)
+unfolding takeIf
 guarded true n xs next g = g refl
 guarded false n xs next g = refused-here n xs
 

@@ -10,9 +10,9 @@ use lib.Dec.{eqb}
 use lib.ListN.{length}
 use borrow.Author.Tests.{ne-eqb, lt-ltb, le-ltb}
 use Rattle.program.specs.Limits.{levelLimit}
-use Rattle.program.specs.Trees.{Kind, jobs, asyncs, finishes, forks, Body, end, Item, a-job, an-async, a-finish, a-fork, ahead}
+use Rattle.program.specs.Trees.{Kind, jobs, asyncs, finishes, forks, Body, end, Item, a-job, an-async, a-finish, a-fork, withFirst}
 use Rattle.program.specs.Bytes.{endByte, jobByte, asyncByte, finishByte, forkByte}
-use Rattle.program.specs.Reader.{Read, took, refused, andThen, unless, number, kindOf, deeper, jobOf, itemOf, item, bodyOf, body}
+use Rattle.program.specs.Reader.{Read, took, refused, andThen, takeIf, number, kindOf, deeper, jobOf, itemOf, item, bodyOf, body}
 use Rattle.refusal.specs.Refusals.{byte-unknown, level-too-deep, bytes-run-out}
 use Rattle.program.proofs.ReadLaws.{took-shorter, and-then-same}
 use Rattle.program.proofs.Soundness.{Sound, bodyOf-outcome, behind-item-of}
@@ -47,15 +47,15 @@ item-alike f g sound level x left h = held-alike f g sound level (x ∷ left) (k
 
 -- an item and the rest of a body are read alike
 items-alike : (f g : ℕ → List ℕ → Read Body) → Sound f → (level x : ℕ) (left : List ℕ) → Alike (length left) f g
-    → andThen (item f level (x ∷ left)) (λ first rest. andThen (f level rest) (λ others rest'. took (ahead first others) rest'))
-    ≡ andThen (item g level (x ∷ left)) (λ first rest. andThen (g level rest) (λ others rest'. took (ahead first others) rest'))
+    → andThen (item f level (x ∷ left)) (λ first rest. andThen (f level rest) (λ others rest'. took (withFirst first others) rest'))
+    ≡ andThen (item g level (x ∷ left)) (λ first rest. andThen (g level rest) (λ others rest'. took (withFirst first others) rest'))
 items-alike f g sound level x left h =
     and-then-same (item f level (x ∷ left)) _ _ (λ i rest e. others i rest (behind-item-of level x left f sound i rest e))
     ∙ rw (item-alike f g sound level x left h) refl
   where
     others : (i : Item) (rest : List ℕ) → length rest ≤ length left
-        → andThen (f level rest) (λ others rest'. took (ahead i others) rest')
-        ≡ andThen (g level rest) (λ others rest'. took (ahead i others) rest')
+        → andThen (f level rest) (λ others rest'. took (withFirst i others) rest')
+        ≡ andThen (g level rest) (λ others rest'. took (withFirst i others) rest')
     others i rest l = rw (h level rest l) refl
 
 -- Any bound that is large enough gives the same.
@@ -85,7 +85,7 @@ body-end level left = refl
 -- at an item, which the rest of the body follows
 pub body-item : (level x : ℕ) (left : List ℕ) → (x ≡ endByte → ⊥)
     → body level (x ∷ left)
-    ≡ andThen (item body level (x ∷ left)) (λ first rest. andThen (body level rest) (λ others rest'. took (ahead first others) rest'))
+    ≡ andThen (item body level (x ∷ left)) (λ first rest. andThen (body level rest) (λ others rest'. took (withFirst first others) rest'))
 unfolding body bodyOf
 body-item level x left ne =
     rw (ne-eqb x endByte ne)
@@ -99,7 +99,7 @@ item-job level left = refl
 
 -- what an item holds is read where it is not too deep
 deeper-open : (level : ℕ) (place : List ℕ) (held : Read Item) → level < levelLimit → deeper level place held ≡ held
-unfolding deeper unless
+unfolding deeper takeIf
 deeper-open level place held lt = rw (lt-ltb level levelLimit lt) refl
 
 -- an async,
@@ -124,7 +124,7 @@ item-fork level left lt = deeper-open level (forkByte ∷ left) _ lt
 -- an item that holds bodies where they are too deep,
 pub item-deep : (level x : ℕ) (left : List ℕ) → asyncByte ≤ x → x ≤ forkByte → levelLimit ≤ level
     → item body level (x ∷ left) ≡ refused level-too-deep (x ∷ left)
-unfolding item itemOf kindOf deeper unless
+unfolding item itemOf kindOf deeper takeIf
 item-deep level zero left p q le = absurd (omega arith)
 item-deep level (suc zero) left p q le = absurd (omega arith)
 item-deep level (suc (suc zero)) left p q le = rw (le-ltb level levelLimit le) refl

@@ -11,7 +11,7 @@ use borrow.Author.Tests.{eqb-true, eqb-false, ne-eqb, eq-eqb, leb-true, leb-fals
 use Rattle.program.specs.Limits.{programBytes, vertexLimit}
 use Rattle.program.specs.Trees.{Body, end, job, async, finish, fork}
 use Rattle.program.specs.Bytes.{encode, size}
-use Rattle.program.specs.Encodings.{firstEdition, vertices}
+use Rattle.program.specs.Encodings.{firstEdition, verticesMade}
 use Rattle.refusal.specs.Refusals.{length-outside, bytes-after-end, too-many-vertices}
 use Rattle.program.specs.Reader.{Read, took, refused, body, Reading, program, refusal, counted, whole, reading}
 use Rattle.program.specs.Claims.{Fits, Loadable}
@@ -33,9 +33,9 @@ pub data Comes (bytes : List ℕ) : Reading → Type 0 where
       (b : Body) (x : ℕ) (left : List ℕ) → Within bytes → body 1 bytes ≡ took b (x ∷ left)
       → Comes bytes (refusal bytes-after-end (length bytes - length (x ∷ left)))
   crowds :
-      (b : Body) → Within bytes → body 1 bytes ≡ took b [] → vertexLimit < vertices firstEdition b
+      (b : Body) → Within bytes → body 1 bytes ≡ took b [] → vertexLimit < verticesMade firstEdition b
       → Comes bytes (refusal too-many-vertices 0)
-  loaded : (b : Body) → Within bytes → body 1 bytes ≡ took b [] → vertices firstEdition b ≤ vertexLimit → Comes bytes (program b)
+  loaded : (b : Body) → Within bytes → body 1 bytes ≡ took b [] → verticesMade firstEdition b ≤ vertexLimit → Comes bytes (program b)
 
 -- a length outside is refused
 pub reading-outside : (bytes : List ℕ) → Outside bytes → reading bytes ≡ refusal length-outside 0
@@ -54,11 +54,11 @@ reading-within bytes (p, q) =
 
 counted-comes : (bytes : List ℕ) → Within bytes → (b : Body) → body 1 bytes ≡ took b [] → Comes bytes (counted b)
 unfolding counted
-counted-comes bytes w b e = go (leb (vertices firstEdition b) vertexLimit) refl
+counted-comes bytes w b e = go (leb (verticesMade firstEdition b) vertexLimit) refl
   where
-    go : (t : Bool) → leb (vertices firstEdition b) vertexLimit ≡ t → Comes bytes (cond t (program b) (refusal too-many-vertices 0))
-    go true h = loaded b w e (leb-true (vertices firstEdition b) vertexLimit h)
-    go false h = crowds b w e (leb-false (vertices firstEdition b) vertexLimit h)
+    go : (t : Bool) → leb (verticesMade firstEdition b) vertexLimit ≡ t → Comes bytes (cond t (program b) (refusal too-many-vertices 0))
+    go true h = loaded b w e (leb-true (verticesMade firstEdition b) vertexLimit h)
+    go false h = crowds b w e (leb-false (verticesMade firstEdition b) vertexLimit h)
 
 main-comes : (bytes : List ℕ) → Within bytes → (o : Read Body) → body 1 bytes ≡ o → Comes bytes (whole (length bytes) o)
 unfolding whole
@@ -86,13 +86,13 @@ reading-comes bytes = first (eqb (length bytes) 0) refl
         second (omega arith) (leb (length bytes) programBytes) refl
 
 -- the end of a main body that takes all bytes
-pub counted-loads : (b : Body) → vertices firstEdition b ≤ vertexLimit → counted b ≡ program b
+pub counted-loads : (b : Body) → verticesMade firstEdition b ≤ vertexLimit → counted b ≡ program b
 unfolding counted
-counted-loads b h = rw (le-leb (vertices firstEdition b) vertexLimit h) refl
+counted-loads b h = rw (le-leb (verticesMade firstEdition b) vertexLimit h) refl
 
-pub counted-crowded : (b : Body) → vertexLimit < vertices firstEdition b → counted b ≡ refusal too-many-vertices 0
+pub counted-crowded : (b : Body) → vertexLimit < verticesMade firstEdition b → counted b ≡ refusal too-many-vertices 0
 unfolding counted
-counted-crowded b h = rw (lt-leb (vertices firstEdition b) vertexLimit h) refl
+counted-crowded b h = rw (lt-leb (verticesMade firstEdition b) vertexLimit h) refl
 
 -- a tree that fits is read back from its bytes, whatever stands behind them
 pub main-complete : (b : Body) (rest : List ℕ) → Fits b → body 1 (encode b ++ rest) ≡ took b rest

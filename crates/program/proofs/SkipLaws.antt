@@ -13,7 +13,7 @@ use Rattle.program.specs.Limits.{jobLimit}
 use Rattle.program.specs.Trees.{Body, end, job, async, finish, fork, largest, depth}
 use Rattle.program.specs.Bytes.{endByte, jobByte, asyncByte, finishByte, forkByte, encodeNumber, encode, numberSize, size}
 use Rattle.program.specs.Claims.{Fits}
-use Rattle.program.specs.Progress.{Holds, holds, Sized, numberEnd}
+use Rattle.program.specs.Progress.{BeginsWithBody, begins, Sized, numberEnd}
 use Rattle.program.proofs.ReadingLaws.{encode-positive}
 use Rattle.program.proofs.NumberEnds.{number-end}
 
@@ -186,22 +186,22 @@ Skips xs k = (b : Body) (rest : List ℕ) → Fits b → xs ≡ encode b ++ rest
 
 -- The search has come to k: it has skipped items, and stands at one of the five bytes that an item or an end can begin with.
 abbrev pub Searched : List ℕ → ℕ → Type 0
-Searched xs k = (k < length xs) × (getD xs k 0 ≤ forkByte) × Holds xs × Skips xs k
+Searched xs k = (k < length xs) × (getD xs k 0 ≤ forkByte) × BeginsWithBody xs × Skips xs k
 
 -- behind items that are skipped it stands at such a byte
-searched : (xs : List ℕ) (k : ℕ) → Holds xs → Skips xs k → Searched xs k
-searched xs k (holds b f rest e) skips = go (skips b rest f e)
+searched : (xs : List ℕ) (k : ℕ) → BeginsWithBody xs → Skips xs k → Searched xs k
+searched xs k (begins b f rest e) skips = go (skips b rest f e)
   where
     go : Remains xs rest b k → Searched xs k
     go (remains r fr tail total) = (
       omega (arith, size-within (drop k xs) r rest tail, length-drop k xs),
       omega (arith, first-of (drop k xs) r rest tail, first-behind k xs, first-most r),
-      holds b f rest e,
+      begins b f rest e,
       skips,
     )
 
 -- no item
-pub skip-none : (xs : List ℕ) → Holds xs → Searched xs 0
+pub skip-none : (xs : List ℕ) → BeginsWithBody xs → Searched xs 0
 skip-none xs held = searched xs 0 held (λ b rest f e. remains b f e (omega arith))
 
 -- a job
@@ -266,20 +266,20 @@ skip-end xs k (lt, most, held, skips) is b rest f e = go (skips b rest f e)
         (λ total. omega (arith, size-end)) total
 
 -- the first body that an item holds
-pub first-holds : (xs : List ℕ) (k : ℕ) → Searched xs k → asyncByte ≤ getD xs k 0 → Holds (part (k + 1) xs)
-first-holds xs k (lt, most, holds b f rest e, skips) ge = go (skips b rest f e) (ltb (getD xs k 0) forkByte) refl
+pub first-holds : (xs : List ℕ) (k : ℕ) → Searched xs k → asyncByte ≤ getD xs k 0 → BeginsWithBody (part (k + 1) xs)
+first-holds xs k (lt, most, begins b f rest e, skips) ge = go (skips b rest f e) (ltb (getD xs k 0) forkByte) refl
   where
-    here : (c : Body) (tail : List ℕ) → Fits c → drop 1 (drop k xs) ≡ encode c ++ tail → Holds (part (k + 1) xs)
-    here c tail fc e = holds c fc tail (part-is (k + 1) xs ∙ sym (drop-drop 1 k xs) ∙ e)
+    here : (c : Body) (tail : List ℕ) → Fits c → drop 1 (drop k xs) ≡ encode c ++ tail → BeginsWithBody (part (k + 1) xs)
+    here c tail fc e = begins c fc tail (part-is (k + 1) xs ∙ sym (drop-drop 1 k xs) ∙ e)
 
-    go : Remains xs rest b k → (one : Bool) → ltb (getD xs k 0) forkByte ≡ one → Holds (part (k + 1) xs)
+    go : Remains xs rest b k → (one : Bool) → ltb (getD xs k 0) forkByte ≡ one → BeginsWithBody (part (k + 1) xs)
     go (remains r fr tail total) true is =
-        on-one (λ r. Holds (part (k + 1) xs)) (drop k xs) r rest fr tail
+        on-one (λ r. BeginsWithBody (part (k + 1) xs)) (drop k xs) r rest fr tail
         (omega (arith, first-behind k xs)) (omega (arith, first-behind k xs, ltb-true (getD xs k 0) forkByte is))
         (λ c q is fc fq tail. here c (encode q ++ rest) fc tail)
         (λ c q is fc fq tail. here c (encode q ++ rest) fc tail)
     go (remains r fr tail total) false is =
-        on-fork (λ r. Holds (part (k + 1) xs)) (drop k xs) r rest fr tail
+        on-fork (λ r. BeginsWithBody (part (k + 1) xs)) (drop k xs) r rest fr tail
         (omega (arith, first-behind k xs, ltb-false (getD xs k 0) forkByte is))
         (λ c d q fc fd fq tail. here c (encode d ++ (encode q ++ rest)) fc tail)
 
@@ -287,21 +287,21 @@ first-holds xs k (lt, most, holds b f rest e, skips) ge = go (skips b rest f e) 
 pub first-within : (xs : List ℕ) (k s : ℕ) → Searched xs k → asyncByte ≤ getD xs k 0 → Sized (part (k + 1) xs) s → k + 1 + s ≤ length xs
 first-within xs k s at ge sized = go (first-holds xs k at ge)
   where
-    go : Holds (part (k + 1) xs) → k + 1 + s ≤ length xs
-    go (holds c fc rest e) = omega (arith, at .0, sized c rest fc e, size-within (part (k + 1) xs) c rest e, part-length (k + 1) xs)
+    go : BeginsWithBody (part (k + 1) xs) → k + 1 + s ≤ length xs
+    go (begins c fc rest e) = omega (arith, at .0, sized c rest fc e, size-within (part (k + 1) xs) c rest e, part-length (k + 1) xs)
 
 -- the second body of a fork
 pub second-holds :
-    (xs : List ℕ) (k s : ℕ) → Searched xs k → getD xs k 0 ≡ forkByte → Sized (part (k + 1) xs) s → Holds (part (k + 1 + s) xs)
-second-holds xs k s (lt, most, holds b f rest e, skips) is sized = go (skips b rest f e)
+    (xs : List ℕ) (k s : ℕ) → Searched xs k → getD xs k 0 ≡ forkByte → Sized (part (k + 1) xs) s → BeginsWithBody (part (k + 1 + s) xs)
+second-holds xs k s (lt, most, begins b f rest e, skips) is sized = go (skips b rest f e)
   where
-    go : Remains xs rest b k → Holds (part (k + 1 + s) xs)
+    go : Remains xs rest b k → BeginsWithBody (part (k + 1 + s) xs)
     go (remains r fr tail total) =
-        on-fork (λ r. Holds (part (k + 1 + s) xs)) (drop k xs) r rest fr tail (first-behind k xs ∙ is)
+        on-fork (λ r. BeginsWithBody (part (k + 1 + s) xs)) (drop k xs) r rest fr tail (first-behind k xs ∙ is)
         (λ c d q fc fd fq tail.
         let next : drop (k + 1) xs ≡ encode c ++ (encode d ++ (encode q ++ rest)) = sym (drop-drop 1 k xs) ∙ tail in
         let long : s ≡ size c = sized c (encode d ++ (encode q ++ rest)) fc (part-is (k + 1) xs ∙ next) in
-        holds d fd (encode q ++ rest) (part-is (k + 1 + s) xs ∙ past-body xs (k + 1) s c (encode d ++ (encode q ++ rest)) next long))
+        begins d fd (encode q ++ rest) (part-is (k + 1 + s) xs ∙ past-body xs (k + 1) s c (encode d ++ (encode q ++ rest)) next long))
 
 -- the measure falls from a body to a body that an item of it holds
 pub part-falls : (xs : List ℕ) (k j t : ℕ) → Searched xs k → 1 ≤ j → length xs ≡ t → length (part j xs) < t

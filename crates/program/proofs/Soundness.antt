@@ -9,7 +9,7 @@ use lib.Dec.{eqb, ltb}
 use lib.ListN.{length, length-append}
 use borrow.Author.Tests.{eqb-true, ltb-true}
 use Rattle.program.specs.Limits.{jobLimit, levelLimit}
-use Rattle.program.specs.Trees.{jobs, forks, Body, end, job, async, finish, fork, Item, a-job, an-async, a-finish, a-fork, ahead, depth, largest}
+use Rattle.program.specs.Trees.{jobs, forks, Body, end, job, async, finish, fork, Item, a-job, an-async, a-finish, a-fork, withFirst, depth, largest}
 use Rattle.program.specs.Bytes.{endByte, jobByte, asyncByte, finishByte, forkByte, encodeNumber, encode}
 use Rattle.refusal.specs.Refusals.{byte-unknown, level-too-deep, bytes-run-out}
 use Rattle.program.specs.Reader.{Read, took, andThen, kindOf, deeper, number, jobOf, itemOf, item, bodyOf, body}
@@ -32,8 +32,8 @@ item-bytes (a-finish b) = omega arith
 item-bytes (a-fork b c) = omega arith
 
 -- a body's bytes are its first item's and those of the rest
-pub encode-ahead : (i : Item) (r : Body) → encode (ahead i r) ≡ itemBytes i ++ encode r
-unfolding encode ahead itemBytes
+pub encode-ahead : (i : Item) (r : Body) → encode (withFirst i r) ≡ itemBytes i ++ encode r
+unfolding encode withFirst itemBytes
 encode-ahead (a-job n) r = refl
 encode-ahead (an-async b) r = refl
 encode-ahead (a-finish b) r = refl
@@ -55,8 +55,8 @@ ItemFits level (a-finish b) = (level < levelLimit) × FitsAt (suc level) b
 ItemFits level (a-fork b c) = (level < levelLimit) × FitsAt (suc level) b × FitsAt (suc level) c
 
 -- an item that fits, before the rest of a body that fits
-pub fits-ahead : (level : ℕ) (i : Item) (r : Body) → ItemFits level i → FitsAt level r → FitsAt level (ahead i r)
-unfolding FitsAt ItemFits ahead
+pub fits-ahead : (level : ℕ) (i : Item) (r : Body) → ItemFits level i → FitsAt level r → FitsAt level (withFirst i r)
+unfolding FitsAt ItemFits withFirst
 fits-ahead level (a-job n) r h k = (h, k)
 fits-ahead level (an-async b) r h k = (h .0, h .1, k)
 fits-ahead level (a-finish b) r h k = (h .0, h .1, k)
@@ -180,7 +180,7 @@ item-outcome readBody sound level (suc (suc (suc (suc (suc n)))) ∷ left) =
 
 -- the bytes of an item, and those of the rest of a body behind it
 ahead-bytes : (i : Item) (r : Body) (xs rest rest' : List ℕ) → xs ≡ itemBytes i ++ rest → rest ≡ encode r ++ rest'
-    → xs ≡ encode (ahead i r) ++ rest'
+    → xs ≡ encode (withFirst i r) ++ rest'
 ahead-bytes i r xs rest rest' p q =
     p ∙ ap (λ (ys : List ℕ). itemBytes i ++ ys) q ∙ sym (append-assoc (itemBytes i) (encode r) rest')
     ∙ ap (λ (ys : List ℕ). ys ++ rest') (sym (encode-ahead i r))
@@ -197,7 +197,7 @@ behind-item-of level x left readBody sound i rest e =
 items-outcome : (readItem : Read Item) (readBody : ℕ → List ℕ → Read Body) → Sound readBody → (level : ℕ) (xs : List ℕ)
     → Outcome itemBytes (ItemFits level) xs readItem
     → Outcome encode (FitsAt level) xs
-    (andThen readItem (λ first rest. andThen (readBody level rest) (λ others rest'. took (ahead first others) rest')))
+    (andThen readItem (λ first rest. andThen (readBody level rest) (λ others rest'. took (withFirst first others) rest')))
 items-outcome readItem readBody sound level xs h =
     go-on [] refl readItem _ h
     (λ i rest e f. go-on (itemBytes i) e (readBody level rest) _ (sound level rest)

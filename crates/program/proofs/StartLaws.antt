@@ -18,7 +18,7 @@ use borrow.Author.Tests.{eqb-true, eq-eqb, lt-ltb, ltb-true, ltb-false, le-leb, 
 use Rattle.program.specs.Limits.{numberBytes, jobLimit}
 use Rattle.program.specs.Trees.{Body, end, job, async, finish, fork, depth, largest}
 use Rattle.program.specs.Bytes.{jobByte, asyncByte, finishByte, forkByte, topBit, groupBytes, encodeNumber, encode, numberSize, size}
-use Rattle.program.specs.Located.{Code, locate, place, last, here, orElse, codeAt, isSome}
+use Rattle.program.specs.Located.{Code, locate, startOf, last, here, orElse, codeAt, isSome}
 use Rattle.program.specs.Progress.{inNumber}
 use Rattle.program.proofs.LocatedLaws.{here-cases, orElse-cases, here-later, orElse-none}
 use Rattle.program.proofs.LocatedLaws.{place-locate, last-locate, laid-locate, code-missing}
@@ -99,7 +99,7 @@ starts-past b o p h =
 
 starts-before : (b : Body) (o p : ℕ) → p < o → codeAt (locate o b) p ≡ none
 starts-before b o p h =
-    let starts : place (locate o b) ≡ o = place-locate o b in
+    let starts : startOf (locate o b) ≡ o = place-locate o b in
     code-missing (locate o b) p (laid-locate o b) (λ u v. absurd (omega arith))
 
 -- nor in a program behind its last byte

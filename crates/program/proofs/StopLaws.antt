@@ -9,9 +9,9 @@ use lib.Dec.{leb, ltb}
 use lib.ListN.{length}
 use borrow.Author.Tests.{leb-false, ltb-true, ltb-false}
 use Rattle.program.specs.Limits.{numberBytes, jobLimit, levelLimit}
-use Rattle.program.specs.Trees.{Body, end, job, async, finish, fork, Item, a-job, an-async, a-finish, a-fork, ahead}
+use Rattle.program.specs.Trees.{Body, end, job, async, finish, fork, Item, a-job, an-async, a-finish, a-fork, withFirst}
 use Rattle.program.specs.Bytes.{endByte, jobByte, asyncByte, finishByte, forkByte, encodeNumber, encode}
-use Rattle.program.specs.Reader.{Read, took, refused, andThen, unless, groups, number, deeper, jobOf, itemOf, kindOf, item, body}
+use Rattle.program.specs.Reader.{Read, took, refused, andThen, takeIf, groups, number, deeper, jobOf, itemOf, kindOf, item, body}
 use Rattle.refusal.specs.Refusals.{level-too-deep, bytes-run-out, job-too-large}
 use Rattle.program.specs.Claims.{FitsFrom, LeadsTo, here, past, into, second, TopBits, too-long, not-shortest, too-large, Offends}
 use Rattle.program.specs.Claims.{unknown, opener, misnumbered, no-byte}
@@ -55,20 +55,20 @@ opener-completes level (suc (suc (suc (suc zero)))) b p q lt f = (fork b end end
 opener-completes level (suc (suc (suc (suc (suc x))))) b p q lt f = absurd (omega arith)
 
 -- the first item of a body that fits
-fits-first : (level : ℕ) (i : Item) (r : Body) → FitsAt level (ahead i r) → ItemFits level i
-unfolding FitsAt ItemFits ahead
+fits-first : (level : ℕ) (i : Item) (r : Body) → FitsAt level (withFirst i r) → ItemFits level i
+unfolding FitsAt ItemFits withFirst
 fits-first level (a-job n) r h = h .0
 fits-first level (an-async b) r h = (h .0, h .1)
 fits-first level (a-finish b) r h = (h .0, h .1)
 fits-first level (a-fork b c) r h = (h .0, h .1, h .2)
 
 -- A whole item's bytes are its own, and it fits.
-past-item : (level : ℕ) (i : Item) (bytes : List ℕ) → FitsFrom level (ahead i end) → encode (ahead i end) ≡ bytes ++ (endByte ∷ [])
+past-item : (level : ℕ) (i : Item) (bytes : List ℕ) → FitsFrom level (withFirst i end) → encode (withFirst i end) ≡ bytes ++ (endByte ∷ [])
     → (bytes ≡ itemBytes i) × ItemFits level i
 unfolding encode
 past-item level i bytes (p, q) e = (
   append-cancel-right bytes (itemBytes i) (endByte ∷ []) (sym e ∙ encode-ahead i end),
-  fits-first level i end (limits-fit level (ahead i end) p q),
+  fits-first level i end (limits-fit level (withFirst i end) p q),
 )
 
 -- A refusal stands behind an item,
@@ -107,7 +107,7 @@ leads-complete to level before b here f = (b, [], f, sym (append-nil (encode b))
 leads-complete to level before b (past {more = more} i bytes g q l) f =
     let (k, h) = past-item level i bytes g q in
     let (c, tail, fc, e) = leads-complete to level more b l f in
-    (ahead i c, tail, fits-ahead level i c h fc, encode-ahead i c ∙ rw (sym k, e) (simp append-assoc))
+    (withFirst i c, tail, fits-ahead level i c h fc, encode-ahead i c ∙ rw (sym k, e) (simp append-assoc))
 leads-complete to level before b (into {more = more} x p q lt l) f =
     let (c, tail, fc, e) = leads-complete to (suc level) more b l f in
     let (d, tail', fd, e') = opener-completes level x c p q lt fc in
@@ -182,8 +182,8 @@ stops-then (refused n left) next (stops s) h = stops s
 
 -- a test
 stops-unless : {B : Type 0} {level : ℕ} {xs : List ℕ} (t : Bool) (n : ℕ) (place : List ℕ) (next : Read B)
-    → (t ≡ true → Stops level xs next) → (t ≡ false → Stop level xs n place) → Stops level xs (unless t n place next)
-unfolding unless
+    → (t ≡ true → Stops level xs next) → (t ≡ false → Stop level xs n place) → Stops level xs (takeIf t n place next)
+unfolding takeIf
 stops-unless true n place next g h = g refl
 stops-unless false n place next g h = stops (h refl)
 
@@ -220,7 +220,7 @@ halt-stop level left (padded (b ∷ high) rest o t f) =
 
 -- or is held against the limit
 limit-stops : (level : ℕ) (left : List ℕ) (o : Read ℕ) → Grouped left true numberBytes left o
-    → Stops {B = ℕ} level (jobByte ∷ left) (andThen o (λ n rest. unless (leb n jobLimit) job-too-large left (took n rest)))
+    → Stops {B = ℕ} level (jobByte ∷ left) (andThen o (λ n rest. takeIf (leb n jobLimit) job-too-large left (took n rest)))
 unfolding andThen encodeNumber
 limit-stops level left (refused k place) (halted h) = stops (stops-here (halt-stop level left h))
 limit-stops level left (took n rest) (grouped r p e) =
@@ -305,12 +305,12 @@ item-stops level (suc (suc (suc (suc n)))) left l short =
 past-onward : (level : ℕ) (i : Item) → level ≤ levelLimit → ItemFits level i → Onward level (itemBytes i) level
 unfolding encode FitsAt
 past-onward level i l f to more h =
-    past i (itemBytes i) (fits-limits level (ahead i end) (fits-ahead level i end f tt) l) (encode-ahead i end) h
+    past i (itemBytes i) (fits-limits level (withFirst i end) (fits-ahead level i end f tt) l) (encode-ahead i end) h
 
 -- the rest of a body behind an item
 others-stop : (level x : ℕ) (left : List ℕ) → level ≤ levelLimit → Shorter (length left) → (i : Item) (rest : List ℕ)
     → item body level (x ∷ left) ≡ took i rest
-    → Stops {B = Body} level (x ∷ left) (andThen (body level rest) (λ others rest'. took (ahead i others) rest'))
+    → Stops {B = Body} level (x ∷ left) (andThen (body level rest) (λ others rest'. took (withFirst i others) rest'))
 others-stop level x left l short i rest e =
     stops-then (body level rest) _
     (stops-behind (itemBytes i) (x ∷ left) rest (past-onward level i l (item-fits level (x ∷ left) i rest e))

@@ -14,19 +14,19 @@ use Rattle.program.specs.Trees.{Body, Counts, counts}
 use Rattle.program.specs.Encodings.{vertexFormula}
 use Rattle.refusal.specs.Refusals.{bytes-after-end, length-outside, too-many-vertices}
 use Rattle.program.specs.Reader.{Read, took, refused, body, program, refusal, counted, whole, reading}
-use Rattle.program.specs.Answers.{Said, loads, told, itemCounts, readerAt}
+use Rattle.program.specs.Answers.{ProgramSaid, loads, told, itemCounts, readerAt}
 use Rattle.program.specs.Progress.{plus, Progress, past, stopped, progress, finished, Ready}
 use Rattle.program.proofs.Formulas.{vertices-formula}
 use Rattle.program.proofs.ReadingLaws.{Within, Outside, reading-outside, reading-within}
 
 -- bytes are left behind the main body's end
-pub bytes-left : (len place : ℕ) (c : Counts) → place < len → Said.refused bytes-after-end place ≡ finished len place c
+pub bytes-left : (len place : ℕ) (c : Counts) → place < len → ProgramSaid.refused bytes-after-end place ≡ finished len place c
 unfolding finished
 bytes-left len place c lt = rw (lt-ltb place len lt) refl
 
 -- none are, and there are too many vertices
 pub vertices-over :
-    (len place : ℕ) (c : Counts) → len ≤ place → vertexLimit < vertexFormula c → Said.refused too-many-vertices 0 ≡ finished len place c
+    (len place : ℕ) (c : Counts) → len ≤ place → vertexLimit < vertexFormula c → ProgramSaid.refused too-many-vertices 0 ≡ finished len place c
 unfolding finished
 vertices-over len place c le over = rw (le-ltb place len le, lt-leb (vertexFormula c) vertexLimit over) refl
 
@@ -36,7 +36,7 @@ unfolding finished
 all-read len place c le few = rw (le-ltb place len le, le-leb (vertexFormula c) vertexLimit few) refl
 
 -- there are no bytes, or too many
-pub read-outside : (xs : List ℕ) → Outside xs → Said.refused length-outside 0 ≡ told (reading xs)
+pub read-outside : (xs : List ℕ) → Outside xs → ProgramSaid.refused length-outside 0 ≡ told (reading xs)
 unfolding told
 read-outside xs out = sym (ap told (reading-outside xs out))
 
@@ -53,14 +53,14 @@ counted-said : (len : ℕ) (b : Body) → finished len len (counts b) ≡ told (
 unfolding finished counted told
 counted-said len b = rw (le-ltb len len (omega arith), vertices-formula b) (go (leb (vertexFormula (counts b)) vertexLimit))
   where
-    go : (t : Bool) → cond t (loads (counts b)) (Said.refused too-many-vertices 0) ≡ told (cond t (program b) (refusal too-many-vertices 0))
+    go : (t : Bool) → cond t (loads (counts b)) (ProgramSaid.refused too-many-vertices 0) ≡ told (cond t (program b) (refusal too-many-vertices 0))
     go true = refl
     go false = refl
 
 -- a reader behind the main body, or its refusal
-abbrev pub concluded : ℕ → Progress → Said
+abbrev pub concluded : ℕ → Progress → ProgramSaid
 concluded len (past p c) = finished len p c
-concluded len (stopped n p) = Said.refused n p
+concluded len (stopped n p) = ProgramSaid.refused n p
 
 body-said : (len : ℕ) (r : Read Body) → 0 < len → concluded len (progress counts len none-seen r) ≡ told (whole len r)
 unfolding progress whole told

@@ -12,20 +12,20 @@ use Rattle.program.specs.Trees.{Counts, counts}
 use Rattle.program.specs.Reader.{Reading, program, refusal}
 
 -- reading a program: the counts of its items, or a refusal's number and place
-pub data Said : Type 0 where
-  loads : Counts → Said
-  refused : ℕ → ℕ → Said
+pub data ProgramSaid : Type 0 where
+  loads : Counts → ProgramSaid
+  refused : ℕ → ℕ → ProgramSaid
 
-unfoldable pub told : Reading → Said
+unfoldable pub told : Reading → ProgramSaid
 told (program b) = loads (counts b)
 told (refusal n p) = refused n p
 
 abbrev pub itemCounts : ItemCounts → Counts
 itemCounts c = record { w = c .jobs; a = c .asyncs; f = c .finishes; k = c .forks }
 
-abbrev pub said : ProgramRead → Said
+abbrev pub said : ProgramRead → ProgramSaid
 said (of-program.Program c) = loads (itemCounts c)
-said (of-program.Refused r) = Said.refused (r .number) (r .place)
+said (of-program.Refused r) = ProgramSaid.refused (r .number) (r .place)
 
 -- What stands at a place: a job with its number, an async or a finish with where its body starts, a fork with where its two bodies
 -- start, each with where it ends, the end byte of a body, or a refusal.

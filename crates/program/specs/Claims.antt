@@ -5,9 +5,9 @@ use mathlib.Core.List.{List, [], _∷_, _++_}
 use mathlib.Core.Logic.{_⊎_}
 use lib.ListN.{length, getD}
 use Rattle.program.specs.Limits.{numberBytes, jobLimit, levelLimit, programBytes, vertexLimit}
-use Rattle.program.specs.Trees.{Body, end, Item, ahead, depth, largest}
+use Rattle.program.specs.Trees.{Body, end, Item, withFirst, depth, largest}
 use Rattle.program.specs.Bytes.{endByte, jobByte, asyncByte, forkByte, topBit, encodeNumber, encode, size}
-use Rattle.program.specs.Encodings.{firstEdition, vertices}
+use Rattle.program.specs.Encodings.{firstEdition, verticesMade}
 use Rattle.refusal.specs.Refusals.{number-malformed, byte-unknown, level-too-deep, job-too-large}
 
 -- a tree within the limits on numbers and levels
@@ -19,7 +19,7 @@ pub record Fits (b : Body) : Type 0 where
 pub record Loadable (b : Body) : Type 0 where
   pub fits : Fits b
   pub bytes : size b ≤ programBytes
-  pub made : vertices firstEdition b ≤ vertexLimit
+  pub made : verticesMade firstEdition b ≤ vertexLimit
 
 -- the bytes of a tree within the limits on numbers and levels
 pub data Encoding (xs : List ℕ) : Type 0 where
@@ -39,7 +39,7 @@ pub data Overlong (xs : List ℕ) (p : ℕ) : Type 0 where
 
 -- the encoding of a tree that makes too many vertices
 pub data Crowded (xs : List ℕ) : Type 0 where
-  crowded : (b : Body) → Fits b → xs ≡ encode b → vertexLimit < vertices firstEdition b → Crowded xs
+  crowded : (b : Body) → Fits b → xs ≡ encode b → vertexLimit < verticesMade firstEdition b → Crowded xs
 
 -- "2, 3, 4 and 7"
 abbrev pub ByPlace : ℕ → Type 0
@@ -55,7 +55,7 @@ pub data LeadsTo (to : ℕ) : ℕ → List ℕ → Type 0 where
   here : LeadsTo to to []
   -- a whole item, and on from behind it: its bytes are those of the body that has no other item, without the end byte
   past :
-      {level : ℕ} {more : List ℕ} (i : Item) (bytes : List ℕ) → FitsFrom level (ahead i end) → encode (ahead i end) ≡ bytes ++ (endByte ∷ [])
+      {level : ℕ} {more : List ℕ} (i : Item) (bytes : List ℕ) → FitsFrom level (withFirst i end) → encode (withFirst i end) ≡ bytes ++ (endByte ∷ [])
       → LeadsTo to level more → LeadsTo to level (bytes ++ more)
   -- an item's first byte, and on in its first body
   into :

@@ -107,16 +107,16 @@ unfoldable pub itemsWeight : Edition → (Command → ℕ) → Body → ℕ
 itemsWeight e ω b = total (λ k. weight ω (e k .commands)) b
 
 -- "Vertices made in all": the two that loading sets, and those of the items
-unfoldable pub vertices : Edition → Body → ℕ
-vertices e b = 2 + itemsWeight e makes b
+unfoldable pub verticesMade : Edition → Body → ℕ
+verticesMade e b = 2 + itemsWeight e makes b
 
 -- "Edge rows needed": the one that loading sets, and those of the items
-unfoldable pub edgeRows : Edition → Body → ℕ
-edgeRows e b = 1 + itemsWeight e links b
+unfoldable pub edgeRowsNeeded : Edition → Body → ℕ
+edgeRowsNeeded e b = 1 + itemsWeight e links b
 
 -- the number of steps: each vertex starts and stops once, and each command of an item is a step
-unfoldable pub steps : Edition → Body → ℕ
-steps e b = 2 * vertices e b + itemsWeight e does b
+unfoldable pub stepsTaken : Edition → Body → ℕ
+stepsTaken e b = 2 * verticesMade e b + itemsWeight e does b
 
 -- Document 01's formulas; proofs/Formulas.antt shows that they are what the first edition's table comes to.
 -- "V = 2 + a + 2f + 3k"

@@ -30,12 +30,12 @@ locate o (fork b c r) =
     fork-at o (locate (suc o) b) (locate (suc (o + size b)) c) (locate (suc (o + size b + size c)) r)
 
 -- where code starts
-unfoldable pub place : Code → ℕ
-place (end-at o) = o
-place (job-at o n r) = o
-place (async-at o b r) = o
-place (finish-at o b r) = o
-place (fork-at o b c r) = o
+unfoldable pub startOf : Code → ℕ
+startOf (end-at o) = o
+startOf (job-at o n r) = o
+startOf (async-at o b r) = o
+startOf (finish-at o b r) = o
+startOf (fork-at o b c r) = o
 
 -- the offset of its end byte
 unfoldable pub last : Code → ℕ
@@ -64,10 +64,10 @@ codeAt (fork-at o b c r) p = here (eqb p o) (fork-at o b c r) (orElse (codeAt b 
 -- what stands where code starts
 unfoldable pub head : Code → Stands
 head (end-at o) = Stands.end
-head (job-at o n r) = Stands.job n (place r)
-head (async-at o b r) = Stands.async (place b) (place r)
-head (finish-at o b r) = Stands.finish (place b) (place r)
-head (fork-at o b c r) = Stands.fork (place b) (place c) (place r)
+head (job-at o n r) = Stands.job n (startOf r)
+head (async-at o b r) = Stands.async (startOf b) (startOf r)
+head (finish-at o b r) = Stands.finish (startOf b) (startOf r)
+head (fork-at o b c r) = Stands.fork (startOf b) (startOf c) (startOf r)
 
 unfoldable pub found : Option Code → Stands
 found none = Stands.refused nothing-starts 0
@@ -95,5 +95,5 @@ unfoldable pub startsAt : List ℕ → ℕ → Bool
 startsAt bytes p = startsIn (reading bytes) p
 
 -- marks that tell of each of their places whether something starts there
-abbrev pub Marked : List ℕ → List ℕ → Type 0
-Marked bytes marks = (p : ℕ) → p < length marks → getD marks p 0 ≡ cond (startsAt bytes p) 1 0
+abbrev pub MarksStarts : List ℕ → List ℕ → Type 0
+MarksStarts bytes marks = (p : ℕ) → p < length marks → getD marks p 0 ≡ cond (startsAt bytes p) 1 0

@@ -12,11 +12,11 @@ use Rattle.program.specs.declared.Advanced.the-variants as of-reader
 use Rattle.program.specs.declared.NumberRead.{NumberRead}
 use Rattle.program.specs.declared.NumberRead.the-variants as of-number
 use Rattle.program.specs.Limits.{jobLimit, programBytes, vertexLimit}
-use Rattle.program.specs.Trees.{Counts, counts, Body, end, Item, ahead}
+use Rattle.program.specs.Trees.{Counts, counts, Body, end, Item, withFirst}
 use Rattle.program.specs.Bytes.{jobByte, asyncByte, finishByte, forkByte, topBit, encodeNumber, numberSize, encode, size}
 use Rattle.refusal.specs.Refusals.{number-malformed, bytes-after-end, job-too-large, too-many-vertices}
 use Rattle.program.specs.Reader.{Read, took, refused}
-use Rattle.program.specs.Answers.{Said, loads, itemCounts, Stands}
+use Rattle.program.specs.Answers.{ProgramSaid, loads, itemCounts, Stands}
 use Rattle.program.specs.Located.{locate, head}
 use Rattle.program.specs.Encodings.{vertexFormula}
 use Rattle.program.specs.Claims.{Fits}
@@ -40,7 +40,7 @@ progress count len seen (refused n left) = stopped n (len - length left)
 
 -- the items of an item, itself and those that it holds
 unfoldable pub countsOf : Item → Counts
-countsOf i = counts (ahead i end)
+countsOf i = counts (withFirst i end)
 
 -- a number, the place behind it and what was counted, or a refusal's number and place
 pub data NumberProgress : Type 0 where
@@ -80,10 +80,10 @@ pub record Few (c : Counts) : Type 0 where
   pub k-few : c .k ≤ programBytes
 
 -- what a program of this length comes to whose main body ends at this place and has these items
-unfoldable pub finished : ℕ → ℕ → Counts → Said
+unfoldable pub finished : ℕ → ℕ → Counts → ProgramSaid
 finished len place c =
-    cond (ltb place len) (Said.refused bytes-after-end place)
-    (cond (leb (vertexFormula c) vertexLimit) (loads c) (Said.refused too-many-vertices 0))
+    cond (ltb place len) (ProgramSaid.refused bytes-after-end place)
+    (cond (leb (vertexFormula c) vertexLimit) (loads c) (ProgramSaid.refused too-many-vertices 0))
 
 -- A reader at the start of these bytes: they end within a program's limit, and no more items were counted than bytes were read.
 pub record Ready (r : Reader) (left : List ℕ) : Type 0 where
@@ -94,8 +94,8 @@ pub record Ready (r : Reader) (left : List ℕ) : Type 0 where
   pub forks : r .seen .forks ≤ r .place
 
 -- these bytes begin with a body's
-pub data Holds (xs : List ℕ) : Type 0 where
-  holds : (b : Body) → Fits b → (rest : List ℕ) → xs ≡ encode b ++ rest → Holds xs
+pub data BeginsWithBody (xs : List ℕ) : Type 0 where
+  begins : (b : Body) → Fits b → (rest : List ℕ) → xs ≡ encode b ++ rest → BeginsWithBody xs
 
 -- r is the number of bytes of the body that these bytes begin with
 abbrev pub Sized : List ℕ → ℕ → Type 0

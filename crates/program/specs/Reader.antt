@@ -6,9 +6,9 @@ use mathlib.Core.Option.{Option, none, some}
 use lib.Dec.{eqb, ltb, leb}
 use lib.ListN.{length}
 use Rattle.program.specs.Limits.{numberBytes, jobLimit, levelLimit, programBytes, vertexLimit}
-use Rattle.program.specs.Trees.{Kind, jobs, asyncs, finishes, forks, Body, end, Item, a-job, an-async, a-finish, a-fork, ahead}
+use Rattle.program.specs.Trees.{Kind, jobs, asyncs, finishes, forks, Body, end, Item, a-job, an-async, a-finish, a-fork, withFirst}
 use Rattle.program.specs.Bytes.{endByte, topBit}
-use Rattle.program.specs.Encodings.{firstEdition, vertices}
+use Rattle.program.specs.Encodings.{firstEdition, verticesMade}
 use Rattle.refusal.specs.Refusals.{byte-unknown, level-too-deep, length-outside, bytes-run-out}
 use Rattle.refusal.specs.Refusals.{number-malformed, too-many-vertices, bytes-after-end, job-too-large}
 
@@ -23,9 +23,9 @@ andThen (took x rest) next = next x rest
 andThen (refused n place) next = refused n place
 
 -- refuse at a place unless a test holds
-unfoldable pub unless : {A : Type 0} → Bool → ℕ → List ℕ → Read A → Read A
-unless true n place next = next
-unless false n place next = refused n place
+unfoldable pub takeIf : {A : Type 0} → Bool → ℕ → List ℕ → Read A → Read A
+takeIf true n place next = next
+takeIf false n place next = refused n place
 
 -- A number's groups, from the bytes that are left of it; so many bytes it may still have, and `only` tells whether these are all
 -- its bytes. "5 bytes run out, in a number before the last byte that it may have"; "2 number longer than three bytes or not
@@ -35,15 +35,15 @@ groups start only zero left = refused number-malformed start
 groups start only (suc room) [] = refused bytes-run-out []
 groups start only (suc room) (b ∷ left) =
     cond (ltb b topBit)
-    (unless (cond only true (ltb 0 b)) number-malformed start (took b left))
-    (unless (ltb b (2 * topBit)) byte-unknown (b ∷ left)
+    (takeIf (cond only true (ltb 0 b)) number-malformed start (took b left))
+    (takeIf (ltb b (2 * topBit)) byte-unknown (b ∷ left)
     (andThen (groups start false room left) (λ high rest. took ((b - topBit) + topBit * high) rest)))
 
 -- "in a number 5, 2, 7"
 unfoldable pub number : List ℕ → Read ℕ
 number start =
     andThen (groups start true numberBytes start)
-    (λ n rest. unless (leb n jobLimit) job-too-large start (took n rest))
+    (λ n rest. takeIf (leb n jobLimit) job-too-large start (took n rest))
 
 -- "Items, by first byte: 1 job, .. 2 async, .. 3 finish, .. 4 fork"
 unfoldable pub kindOf : ℕ → Option Kind
@@ -56,7 +56,7 @@ kindOf (suc (suc (suc (suc (suc n))))) = none
 
 -- "4 a body at level 33 (place: its opener)": what an item holds is read only where its bodies are not too deep
 unfoldable pub deeper : ℕ → List ℕ → Read Item → Read Item
-deeper level opener held = unless (ltb level levelLimit) level-too-deep opener held
+deeper level opener held = takeIf (ltb level levelLimit) level-too-deep opener held
 
 -- "1 job, then its number"
 unfoldable pub jobOf : List ℕ → Read Item
@@ -87,7 +87,7 @@ bodyOf (suc n) level [] = refused bytes-run-out []
 bodyOf (suc n) level (x ∷ left) =
     cond (eqb x endByte) (took end left)
     (andThen (item (bodyOf n) level (x ∷ left))
-    (λ first rest. andThen (bodyOf n level rest) (λ others rest'. took (ahead first others) rest')))
+    (λ first rest. andThen (bodyOf n level rest) (λ others rest'. took (withFirst first others) rest')))
 
 unfoldable pub body : ℕ → List ℕ → Read Body
 body level left = bodyOf (length left) level left
@@ -99,7 +99,7 @@ pub data Reading : Type 0 where
 
 -- "8 V above 1,024"
 unfoldable pub counted : Body → Reading
-counted b = cond (leb (vertices firstEdition b) vertexLimit) (program b) (refusal too-many-vertices 0)
+counted b = cond (leb (verticesMade firstEdition b) vertexLimit) (program b) (refusal too-many-vertices 0)
 
 -- "6 bytes after the end". The place of what is left is the length less what is left.
 unfoldable pub whole : ℕ → Read Body → Reading

@@ -24,11 +24,11 @@ pub data Item : Type 0 where
   a-fork : Body → Body → Item
 
 -- the body that begins with this item
-unfoldable pub ahead : Item → Body → Body
-ahead (a-job n) r = job n r
-ahead (an-async b) r = async b r
-ahead (a-finish b) r = finish b r
-ahead (a-fork b c) r = fork b c r
+unfoldable pub withFirst : Item → Body → Body
+withFirst (a-job n) r = job n r
+withFirst (an-async b) r = async b r
+withFirst (a-finish b) r = finish b r
+withFirst (a-fork b c) r = fork b c r
 
 -- "The main body is level 1. A body inside a body counts one level deeper": how many levels a body has, its own counted
 unfoldable pub depth : Body → ℕ

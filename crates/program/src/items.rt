@@ -18,7 +18,7 @@ ghost use lib.ListN.{length};
 ghost use Rattle.program.specs.Limits.{programBytes};
 ghost use Rattle.program.specs.Located.{itemAt};
 ghost use Rattle.program.specs.Answers.{stands, readerAt, handedBack, movedPast};
-ghost use Rattle.program.specs.Progress.{Holds, Shows, ShowsJob, Sized};
+ghost use Rattle.program.specs.Progress.{BeginsWithBody, Shows, ShowsJob, Sized};
 
 // What stands at a place of a program, with a reader moved past it that has seen nothing; refused where the program is, and where no item
 // or end byte starts.
@@ -55,7 +55,7 @@ impl Reader {
     // What stands at this reader's place, where `bytes` start: the bytes of a body, or of what is left of one. The reader is handed back
     // moved past it. What it has seen stays: the bodies' ends are searched for, and nothing is counted.
     pub fn item_here(self, bytes: &[u8]) -> ItemRead
-        requires { ⌜ Holds (now bytes) × (self .place + length (now bytes) ≤ programBytes) ⌝ }
+        requires { ⌜ BeginsWithBody (now bytes) × (self .place + length (now bytes) ≤ programBytes) ⌝ }
         ensures { λ r. ⌜ Shows (now (bytes .entry)) (self .place) (stands r) × (handedBack r ≡ movedPast self (stands r)) ⌝ }
     {
         let first = bytes[0];
@@ -98,7 +98,7 @@ impl Reader {
 
 // The number of bytes of the body that `bytes` start with: the search for its end.
 fn body_size(bytes: &[u8]) -> usize
-    requires { ⌜ Holds (now bytes) ⌝ }
+    requires { ⌜ BeginsWithBody (now bytes) ⌝ }
     ensures { λ r. ⌜ Sized (now (bytes .entry)) r ⌝ }
 {
     let mut from = 0;

@@ -13,7 +13,7 @@ use refusal::TOO_MANY_VERTICES;
 ghost use mathlib.Core.Path.{_≡_};
 ghost use Rattle.program.specs.Encodings.{vertexFormula, edgeRowFormula, stepFormula};
 ghost use Rattle.program.specs.Reader.{reading};
-ghost use Rattle.program.specs.Answers.{Said, itemCounts, said, told};
+ghost use Rattle.program.specs.Answers.{ProgramSaid, itemCounts, said, told};
 ghost use Rattle.program.specs.Progress.{finished};
 
 // Vertices made in all by a program with these items.
@@ -75,7 +75,7 @@ fn at_end(end: Reader, length: usize) -> ProgramRead
 }
 
 fn refused(number: u32, place: u32) -> ProgramRead
-    ensures { λ r. ⌜ said r ≡ Said.refused number place ⌝ }
+    ensures { λ r. ⌜ said r ≡ ProgramSaid.refused number place ⌝ }
 {
     ProgramRead::Refused(Refusal {
         number: number,

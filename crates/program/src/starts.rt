@@ -9,7 +9,7 @@ ghost use Prim.Native.Nat.{_≤_};
 ghost use lib.Dec.{eqb, leb};
 ghost use lib.ListN.{length, replicate};
 ghost use Rattle.program.specs.Bytes.{jobByte, topBit};
-ghost use Rattle.program.specs.Located.{startsAt, Marked};
+ghost use Rattle.program.specs.Located.{startsAt, MarksStarts};
 ghost use Rattle.program.specs.Claims.{Encoding};
 ghost use Rattle.program.specs.Progress.{inNumber, Outside};
 
@@ -33,7 +33,7 @@ pub fn starts_at(program: &[u8], place: u32) -> bool
 // The same of every place at once: marks with 1 the places where an item or an end byte starts. The marks handed in are 0.
 pub fn mark_starts(program: &[u8], marks: &mut [u8])
     requires { ⌜ now marks ≡ replicate (length (now marks)) 0 ⌝ }
-    ensures { λ _. ⌜ (length (now (marks .exit)) ≡ length (now (marks .entry))) × Marked (now (program .entry)) (now (marks .exit)) ⌝ }
+    ensures { λ _. ⌜ (length (now (marks .exit)) ≡ length (now (marks .entry))) × MarksStarts (now (program .entry)) (now (marks .exit)) ⌝ }
 {
     let reading = read(program);
     match reading {
