@@ -18,10 +18,10 @@ use Rattle.graph.proofs.SoundChecks.{sound-rows}
 use Rattle.machine.specs.Answers.{Outcome, accepted}
 use Rattle.machine.specs.Stepping.{stepLimit, Due, refusal-due, job-due, command-due, due}
 use Rattle.machine.specs.Running.{canStep}
-use Rattle.machine.proofs.StepLaws.{step-is}
+use Rattle.machine.proofs.TablesFollow.StepLaws.{step-is}
 use Rattle.machine.proofs.StepDemand2.{command-step}
 use Rattle.machine.proofs.LookLaws.{idle-cannot}
-use Rattle.engine.specs.Private.{DueThere, Blocked, takes}
+use Rattle.engine.specs.Internal.Underway.{DueThere, Blocked, takes}
 use Rattle.engine.proofs.DueLaws.{due-there}
 
 -- what `may_step` answers

@@ -23,7 +23,7 @@ use Rattle.machine.specs.Stepping as machine
 use Rattle.machine.specs.Stepping.{stepLimit, steppable, place, task, ownOf, Due, refusal-due, command-due, dueIf, nextAt, due}
 use Rattle.engine.specs.declared.Own.{Own}
 use Rattle.engine.specs.Answers.{ownWords}
-use Rattle.engine.specs.Private.{OwnIn, DueThere, Next, NextAt}
+use Rattle.engine.specs.Internal.Underway.{OwnIn, DueThere, Next, NextAt}
 use Rattle.program.proofs.PlaceLaws.{starts-beyond, not-starting}
 
 own-place : (s : Lent) (v : ℕ) (w : Own) → ownOf s v ≡ ownWords w → place s v ≡ w .place

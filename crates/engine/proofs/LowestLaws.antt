@@ -17,7 +17,7 @@ use Rattle.graph.specs.Tests.{both, either, any}
 use Rattle.graph.specs.Tables.{Lent, lent, usableLimit, target, status}
 use Rattle.graph.specs.Answers.{CommandSaid, accepted, decided}
 use Rattle.graph.specs.Sound.{sound}
-use Rattle.graph.specs.Search.{blank}
+use Rattle.graph.specs.Internal.Search.{blank}
 use Rattle.graph.specs.Paths.{leadsInto}
 use Rattle.graph.specs.Commands.{command}
 use Rattle.graph.proofs.TestLaws.{equal?, below-suc, either-left, either-skip, both-true, both-false-left, both-false-right, any-empty}
@@ -28,7 +28,7 @@ use Rattle.machine.specs.Running.{canStep, lowest, chosen, choice, Choice, choo
 use Rattle.machine.proofs.LookLaws.{lowest-none, lowest-is, late-none}
 use Rattle.engine.specs.declared.Due as of-code
 use Rattle.engine.specs.Answers.{dueOf}
-use Rattle.engine.specs.Private.{DueThere, Blocked, CannotBelow, takes}
+use Rattle.engine.specs.Internal.Underway.{DueThere, Blocked, CannotBelow, takes}
 use Rattle.engine.proofs.CandidateLaws.{mayStep, candidate-due, can-takes}
 
 -- TESTS

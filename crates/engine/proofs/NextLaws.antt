@@ -17,7 +17,7 @@ use Rattle.program.specs.Answers.{Stands}
 use Rattle.refusal.specs.Refusals.{nothing-starts}
 use Rattle.machine.specs.Stepping.{scope, named, Task, item, ends, nothing, spots, task, nth, Own, own, ownOf, withMade, withKept}
 use Rattle.machine.specs.Stepping.{withPhase, movedOn, Due, refusal-due, job-due, command-due, dueIf, filledIn, nextOf, nextAt}
-use Rattle.engine.specs.Private.{NextAt, EndNext, JobNext, AsyncNext, ForkNext, ForkLast}
+use Rattle.engine.specs.Internal.Underway.{NextAt, EndNext, JobNext, AsyncNext, ForkNext, ForkLast}
 
 -- what a name stands for, by the vertex's scope and own words
 unfoldable namedFrom : ℕ → Own → Name → ℕ

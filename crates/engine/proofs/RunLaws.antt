@@ -35,7 +35,7 @@ use Rattle.machine.specs.Stepping.{stepLimit, steppable, Due, due, step}
 use Rattle.machine.specs.Running.{canStep, lowest, chosen, choose, no-choice, choice-refused, Ending, spent, refused, allFinished, RunOutcome, ended, runOn, run}
 use Rattle.machine.specs.Traces.{Stepped, Ran}
 use Rattle.machine.proofs.LookLaws.{step-sound, idle-cannot, lowest-none, lowest-is, run-turned, run-goes, rests, used-up, goes-on}
-use Rattle.machine.proofs.GhostLaws.{clash}
+use Rattle.machine.proofs.GhostMachine.GhostLaws.{clash}
 use Rattle.machine.proofs.StepDemand2.{step-keeps}
 use Rattle.engine.specs.declared.Done.{Done}
 use Rattle.engine.specs.declared.Attempt.{Attempt}
@@ -43,7 +43,7 @@ use Rattle.engine.specs.declared.Attempt.the-variants as of-attempt
 use Rattle.engine.specs.declared.Lowest.{Lowest}
 use Rattle.engine.specs.declared.Lowest.the-variants as of-lowest
 use Rattle.engine.specs.Answers.{said, choiceOf}
-use Rattle.engine.specs.Private.{DueThere, Blocked, CannotBelow, FirstLive, Attempted, atRest, endsWith, whenUsed}
+use Rattle.engine.specs.Internal.Underway.{DueThere, Blocked, CannotBelow, FirstLive, Attempted, atRest, endsWith, whenUsed}
 use Rattle.engine.proofs.DueLaws.{due-there}
 use Rattle.engine.proofs.CandidateLaws.{mayStep, barred, candidate-due}
 use Rattle.engine.proofs.LowestLaws.{none-more}

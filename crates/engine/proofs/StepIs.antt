@@ -23,13 +23,13 @@ use Rattle.machine.specs.Answers.{StepSaid, Outcome, oneStep, saidAs}
 use Rattle.machine.specs.Stepping as machine
 use Rattle.machine.specs.Stepping.{stepLimit, Due, due, stored, withOwn, doDue}
 use Rattle.machine.specs.Traces.{Stepped}
-use Rattle.machine.proofs.StepLaws.{step-is}
+use Rattle.machine.proofs.TablesFollow.StepLaws.{step-is}
 use Rattle.machine.proofs.StepDemand2.{Ready, ReadyFor, ready-due}
 use Rattle.engine.specs.declared.Own.{Own}
 use Rattle.engine.specs.declared.Due as code
 use Rattle.engine.specs.declared.Due.the-variants as of-due
 use Rattle.engine.specs.Answers.{ownWords, dueOf}
-use Rattle.engine.specs.Private.{IsDue, is-due, DoesDue}
+use Rattle.engine.specs.Internal.Underway.{IsDue, is-due, DoesDue}
 
 -- a step is what is due, done
 stepped :

@@ -1,8 +1,8 @@
 -- What a reader must believe of the crate `engine`:
 --     Answers    which of the plain machine's answers each case of the code's enums is
 --     Promise    demand 3 of a loading and a list of steps
--- Nobody has to believe this one, which the contracts of private functions cite:
---     Private    what is due at a step, from a vertex's own words
+-- Nobody has to believe this, which the contracts of private functions cite:
+--     Internal
 pub mod Answers
 pub mod Promise
-pub mod Private
+pub mod Internal

@@ -31,7 +31,7 @@ ghost use lib.ListN.{length, replicate};
 ghost use Rattle.graph.specs.Tests.{both, either};
 ghost use Rattle.graph.specs.Tables.{lent, RELEASED, EXECUTING, usableLimit};
 ghost use Rattle.graph.specs.Sound.{sound};
-ghost use Rattle.graph.specs.Search.{Rows};
+ghost use Rattle.graph.specs.Internal.Search.{Rows};
 ghost use Rattle.graph.specs.Commands.{command};
 ghost use Rattle.graph.specs.Answers as of-graph;
 ghost use Rattle.program.specs.Limits.{programBytes};
@@ -39,7 +39,7 @@ ghost use Rattle.program.specs.Located.{MarksStarts};
 ghost use Rattle.refusal.specs.Refusals.{unsound-tables};
 ghost use Rattle.machine.specs.Running.{lowest, chosen, choice, choice-refused};
 ghost use Rattle.engine.specs.Answers.{dueOf, choiceOf};
-ghost use Rattle.engine.specs.Private.{Blocked, takes};
+ghost use Rattle.engine.specs.Internal.Underway.{Blocked, takes};
 
 // The lowest vertex whose step would be accepted.
 pub fn lowest_vertex(program: &[u8], vertices: &[u32], edges: &[u32], tally: Tally) -> Lowest

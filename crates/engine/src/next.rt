@@ -34,7 +34,7 @@ ghost use Rattle.program.specs.Located.{startsAt, MarksStarts};
 ghost use Rattle.machine.specs.Stepping as machine;
 ghost use Rattle.machine.specs.Stepping.{due};
 ghost use Rattle.engine.specs.Answers.{ownWords, dueOf};
-ghost use Rattle.engine.specs.Private.{DueThere, OwnIn, Next, NextAt, EndNext, JobNext, AsyncNext, ForkNext, ForkLast};
+ghost use Rattle.engine.specs.Internal.Underway.{DueThere, OwnIn, Next, NextAt, EndNext, JobNext, AsyncNext, ForkNext, ForkLast};
 
 // The words of the vertices that the item at hand made.
 pub const FIRST: usize = MADE;

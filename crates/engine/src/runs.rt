@@ -41,7 +41,7 @@ ghost use Rattle.machine.specs.Running as of-run;
 ghost use Rattle.machine.specs.Stepping.{stepLimit};
 ghost use Rattle.machine.specs.Traces.{Ran};
 ghost use Rattle.engine.specs.Answers.{said, endingOf, lastOf};
-ghost use Rattle.engine.specs.Private.{Attempted, FirstLive, CannotBelow, atRest, whenUsed};
+ghost use Rattle.engine.specs.Internal.Underway.{Attempted, FirstLive, CannotBelow, atRest, whenUsed};
 
 // A run, with the tally by value.
 pub fn run_by_value(

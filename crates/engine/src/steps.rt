@@ -22,7 +22,7 @@ ghost use Rattle.machine.specs.Answers.{saidAs};
 ghost use Rattle.machine.specs.Stepping.{stepLimit, stored};
 ghost use Rattle.machine.specs.Traces.{Stepped};
 ghost use Rattle.engine.specs.Answers.{said, ownWords, dueOf};
-ghost use Rattle.engine.specs.Private.{IsDue, DoesDue};
+ghost use Rattle.engine.specs.Internal.Underway.{IsDue, DoesDue};
 
 // One step of `vertex`, with the tally by value.
 pub fn step_by_value(

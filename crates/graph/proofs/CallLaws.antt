@@ -17,7 +17,7 @@ use Rattle.graph.specs.Tables.{status, setStatus, clear}
 use Rattle.refusal.specs.Refusals.{too-few-vertex-rows, unsound-tables}
 use Rattle.graph.specs.Answers.{CommandSaid, said, Outcome, outcome, opened, opening-refused, unless, decided}
 use Rattle.graph.specs.Sound.{sound}
-use Rattle.graph.specs.Search.{Searchable}
+use Rattle.graph.specs.Internal.Search.{Searchable}
 use Rattle.graph.specs.Commands.{openedTables, opening, callerRefusal, newTdRefusal, newEdgeRefusal, releaseRefusal}
 use Rattle.graph.specs.Commands.{transferRefusal, startRefusal, stopRefusal, command}
 use Rattle.graph.proofs.SoundChecks.{sound-rows, searchable}

@@ -12,7 +12,7 @@ use lib.Seq.{getD-set-same, getD-set-other}
 use borrow.Author.Tests.{eq-eqb, ne-eqb, ltb-true}
 use Rattle.graph.specs.Tables.{usableLimit, source, target}
 use Rattle.graph.specs.Sound.{endsMade, edgesMade}
-use Rattle.graph.specs.Search.{Rows, last, Chained, Chain, blank}
+use Rattle.graph.specs.Internal.Search.{Rows, last, Chained, Chain, blank}
 use Rattle.graph.proofs.TestLaws.{equal?, below-suc, both-left, both-right, every-at, every-all}
 
 module _ (e : List ℕ) (v : ℕ) where

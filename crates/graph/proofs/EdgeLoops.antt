@@ -11,7 +11,7 @@ use borrow.Author.Tests.{eq-eqb, ne-eqb}
 use Rattle.graph.specs.Tables.{usableLimit, edgeWords, sourceWord, targetWord, source, target, setEdgeWord, clear}
 use Rattle.graph.specs.Paths.{holds}
 use Rattle.graph.specs.Commands.{movedRow, moved, kept, keptRows, withoutEdgesOf}
-use Rattle.graph.specs.Gather.{Gathered}
+use Rattle.graph.specs.Internal.Gather.{Gathered}
 use Rattle.graph.proofs.TableLaws.{keptRows-drop, keptRows-keep, keptRows-le, kept-drop, kept-keep}
 use Rattle.graph.proofs.ClearLaws.{clear-is}
 use Rattle.graph.proofs.TestLaws.{any-empty, any-more, any-at, at-end, both-true, both-false-left, both-false-right}

@@ -14,7 +14,7 @@ use lib.ListN.{length, getD, set, replicate, length-set}
 use lib.Seq.{getD-set-same, getD-set-other}
 use Rattle.graph.specs.Tables.{usableLimit, source, target}
 use Rattle.graph.specs.Paths.{Leads, one, more, holds, reaches}
-use Rattle.graph.specs.Search.{last, blank, zeros, Room, IsMarked, Sought, Covered, Frontier}
+use Rattle.graph.specs.Internal.Search.{last, blank, zeros, Room, IsMarked, Sought, Covered, Frontier}
 use Rattle.graph.proofs.TestLaws.{true-false, equal?, below-suc}
 use Rattle.graph.proofs.PathLaws.{go-on, holds-at, held-row, reaches-is}
 use Rattle.graph.proofs.Chains.{last-row, below-last, blank-long}

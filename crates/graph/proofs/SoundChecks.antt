@@ -9,7 +9,7 @@ use borrow.Author.Tests.{lt-ltb, le-ltb, le-leb, lt-leb, leb-true}
 use Rattle.graph.specs.Tests.{both, every}
 use Rattle.graph.specs.Tables.{Lent, NEW, FINISHED, usableLimit, vertexWords, edgeWords, vertexRows, edgeRows, status, source, target}
 use Rattle.graph.specs.Sound.{tallyFits, statusKnown, statusesKnown, endsMade, edgesMade, sound}
-use Rattle.graph.specs.Search.{Rows, Searchable}
+use Rattle.graph.specs.Internal.Search.{Rows, Searchable}
 use Rattle.graph.proofs.PathLaws.{holds-at}
 use Rattle.graph.proofs.SoundLaws.{sound-fits}
 use Rattle.graph.proofs.TestLaws.{both-true, both-left, both-right, both-false-left, both-false-right, every-all, every-more, every-stop, at-end}

@@ -7,9 +7,8 @@
 --     Commands   the opening and the six commands
 --     Rules      the rules of document 002, as its slides print them
 --     Demand2    the words in which demand 2 is stated of a single command, and the reasons of its refusals
--- Nobody has to believe these two, which the contracts of private functions cite:
---     Gather     the edges that a stop keeps, brought together
---     Search     the path search under way
+-- Nobody has to believe this, which the contracts of private functions cite:
+--     Internal
 pub mod Tests
 pub mod Tables
 pub mod Answers
@@ -18,5 +17,4 @@ pub mod Paths
 pub mod Commands
 pub mod Rules
 pub mod Demand2
-pub mod Gather
-pub mod Search
+pub mod Internal

@@ -11,7 +11,7 @@ ghost use Rattle.graph.specs.Tests.{any};
 ghost use Rattle.graph.specs.Tables.{edgeWords, edgeWord};
 ghost use Rattle.graph.specs.Paths.{holds};
 ghost use Rattle.graph.specs.Commands.{moved, keptRows, withoutEdgesOf};
-ghost use Rattle.graph.specs.Gather.{Gathered};
+ghost use Rattle.graph.specs.Internal.Gather.{Gathered};
 
 pub(crate) fn is_held(edges: &[u32], held: usize, source: u32, target: u32) -> bool
     requires { ⌜ edgeWords * held ≤ length (now edges) ⌝ }

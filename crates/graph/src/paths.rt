@@ -12,7 +12,7 @@ ghost use Prim.Native.Nat.{_*_, _≤_, _<_};
 ghost use lib.ListN.{length};
 ghost use Rattle.graph.specs.Tables.{edgeWords, usableLimit};
 ghost use Rattle.graph.specs.Paths.{reaches};
-ghost use Rattle.graph.specs.Search.{Rows, Searchable, Chained, blank, Chain, Room, Scanned};
+ghost use Rattle.graph.specs.Internal.Search.{Rows, Searchable, Chained, blank, Chain, Room, Scanned};
 
 // Chains the held rows by their targets: `next` has a word for each of them. A row is counted from 1, so that 0 ends a chain.
 fn chain_rows(edges: &[u32], first: &mut [u32], next: &mut [u32])

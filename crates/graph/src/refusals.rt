@@ -36,7 +36,7 @@ ghost use Rattle.graph.specs.Tests.{either};
 ghost use Rattle.graph.specs.Tables.{lent, NEW, RELEASED};
 ghost use Rattle.graph.specs.Sound.{sound};
 ghost use Rattle.graph.specs.Paths.{reaches};
-ghost use Rattle.graph.specs.Search.{Searchable};
+ghost use Rattle.graph.specs.Internal.Search.{Searchable};
 ghost use Rattle.graph.specs.Commands.{callerRefusal, newTdRefusal, newEdgeRefusal, releaseRefusal, transferRefusal, startRefusal, stopRefusal};
 
 // No refusal is due.

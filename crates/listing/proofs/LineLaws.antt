@@ -18,7 +18,7 @@ use Rattle.machine.specs.Stepping.{steppable, dueIf, due, step}
 use Rattle.machine.specs.Running.{lowest, chosen, choice, choose, no-choice, choice-refused}
 use Rattle.machine.specs.Demand2.{unread}
 use Rattle.machine.specs.Traces.{Loaded, Stepped}
-use Rattle.machine.proofs.GhostLaws.{clash}
+use Rattle.machine.proofs.GhostMachine.GhostLaws.{clash}
 use Rattle.machine.proofs.LoadLaws.{load-refused, load-keeps}
 use Rattle.machine.proofs.LookLaws.{lowest-none}
 use Rattle.engine.specs.declared.Lowest.{Lowest}

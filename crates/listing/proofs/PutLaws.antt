@@ -7,7 +7,7 @@ use native.Mathlib.Omega.{arith}
 use lib.ListN.{length, take, getD, set, length-append, length-take}
 use lib.Seq.{paste, paste-suc, take-paste, take-length}
 use Rattle.io.specs.Counts.{Counts}
-use Rattle.listing.specs.Private.{Put}
+use Rattle.listing.specs.Internal.Puts.{Put}
 
 -- one byte more of a text is copied
 pub copied-more : (b : List ℕ) (at : ℕ) (t a : List ℕ) (i : ℕ) → at + length t ≤ length b → i < length t → a ≡ paste b at t i

@@ -16,7 +16,7 @@ ghost use Rattle.program.specs.Encodings.{vertexFormula, stepFormula};
 ghost use Rattle.program.specs.Answers.{itemCounts};
 ghost use Rattle.engine.specs.Answers.{said};
 ghost use Rattle.listing.specs.Text.{numeral, answerText, headingText, stepText, refusalText};
-ghost use Rattle.listing.specs.Private.{Put, pairText, pairRoom, answerRoom};
+ghost use Rattle.listing.specs.Internal.Puts.{Put, pairText, pairRoom, answerRoom};
 
 // The heading of a program with these items.
 pub(crate) fn heading(items: ItemCounts, line: &mut [u8; LINE_BYTES]) -> usize

@@ -10,7 +10,7 @@ use Rattle.program.specs.Bytes.{encode, encodeNumber, groupBytes, numberSize, s
 use Rattle.program.specs.Located.{end-at, job-at, locate}
 use Rattle.machine.specs.Ahead.{Ahead}
 use Rattle.machine.proofs.AheadIsPre.{ahead-is-pre}
-use Rattle.machine.proofs.Order.{Job, InS, Pre}
+use Rattle.machine.proofs.JobOrder.Order.{Job, InS, Pre}
 
 -- a fork of two jobs, and a job behind it
 abbrev pub forked : Body

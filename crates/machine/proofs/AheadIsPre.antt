@@ -16,7 +16,7 @@ use Rattle.program.specs.Located.{Code, job-at, async-at, finish-at, fork-at}
 use Rattle.machine.specs.Ahead.{Behind, job-behind, async-behind, finish-behind, fork-behind, HoldsBody, async-holds, finish-holds}
 use Rattle.machine.specs.Ahead.{fork-holds-left, fork-holds-right, From, start, on, Way, job-itself, down, Within, whole, behind}
 use Rattle.machine.specs.Ahead.{inside, AFinish, this, further, Closed, apart, Ahead, ahead}
-use Rattle.machine.proofs.Order.{Job, InS, Pre}
+use Rattle.machine.proofs.JobOrder.Order.{Job, InS, Pre}
 
 -- no async is on the way to a job itself
 closed-nil : Closed []

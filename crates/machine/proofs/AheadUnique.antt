@@ -21,8 +21,8 @@ use Rattle.machine.specs.Ahead.{fork-holds-left, fork-holds-right, From,
 use Rattle.machine.specs.Ahead.{inside, Apart, apart, Branches, branches, Stand, one-job, earlier, later, left-right, right-left}
 use Rattle.machine.specs.Ahead.{Ahead, ahead}
 use Rattle.machine.specs.Demand3.{Written}
-use Rattle.machine.proofs.Order.{Job}
-use Rattle.machine.proofs.OrderLaws.{job-before, async-before, finish-before, fork-before, left-before, right-before, written-job}
+use Rattle.machine.proofs.JobOrder.Order.{Job}
+use Rattle.machine.proofs.JobOrder.OrderLaws.{job-before, async-before, finish-before, fork-before, left-before, right-before, written-job}
 use Rattle.machine.proofs.AheadIsPre.{Ways, behind-job, held-job, from-job, way-job, job-way}
 
 -- what is behind a first item is laid, and so is a body that it holds

@@ -31,22 +31,22 @@ use Rattle.machine.proofs.Calls.{run-reached}
 use Rattle.machine.proofs.LoadLaws.{load-exact}
 use Rattle.machine.proofs.RunDemand2.{run-ran}
 use Rattle.machine.proofs.AheadIsPre.{ahead-is-pre}
-use Rattle.machine.proofs.Ghost.{Control, draft, fresh, ready, busy, joining, over, State, Event}
-use Rattle.machine.proofs.Invariant.{Shape, isNew}
-use Rattle.machine.proofs.GhostLaws.{clash, ready-old, busy-old, joining-old}
-use Rattle.machine.proofs.Acyclic.{cycle-free}
-use Rattle.machine.proofs.Progress.{seek, Free, at-code, at-work, unblocked, can-go-on}
-use Rattle.machine.proofs.Weights.{total, each, jobAt}
-use Rattle.machine.proofs.Conservation.{and-then}
-use Rattle.machine.proofs.Counts.{job-past, over-all, steps-run, steps-bound, job-once, job-done}
-use Rattle.machine.proofs.Unanswered.{nothing-or-held}
-use Rattle.machine.proofs.Order.{Pre, Held}
-use Rattle.machine.proofs.OrderLaws.{pre-job, written-job}
-use Rattle.machine.proofs.WaitLaws.{in-order}
-use Rattle.machine.proofs.Follows.{Refuses, absent, blocked, is-new, is-over, Answers, says-start, says-new, says-edge, says-release}
-use Rattle.machine.proofs.Follows.{says-transfer, says-job, says-stop, Followed, refused, moved}
-use Rattle.machine.proofs.Tracked.{Tracked, answers-accepted, stepped-as, room-steps, rows-lent, tracked}
-use Rattle.machine.proofs.RunEnds.{Ends, ends-done, ends-spent, run-ends}
+use Rattle.machine.proofs.GhostMachine.Ghost.{Control, draft, fresh, ready, busy, joining, over, State, Event}
+use Rattle.machine.proofs.GhostMachine.Invariant.{Shape, isNew}
+use Rattle.machine.proofs.GhostMachine.GhostLaws.{clash, ready-old, busy-old, joining-old}
+use Rattle.machine.proofs.GhostMachine.Acyclic.{cycle-free}
+use Rattle.machine.proofs.GhostMachine.Progress.{seek, Free, at-code, at-work, unblocked, can-go-on}
+use Rattle.machine.proofs.Counting.Weights.{total, each, jobAt}
+use Rattle.machine.proofs.Counting.Conservation.{and-then}
+use Rattle.machine.proofs.Counting.CountLaws.{job-past, over-all, steps-run, steps-bound, job-once, job-done}
+use Rattle.machine.proofs.Counting.Unanswered.{nothing-or-held}
+use Rattle.machine.proofs.JobOrder.Order.{Pre, Held}
+use Rattle.machine.proofs.JobOrder.OrderLaws.{pre-job, written-job}
+use Rattle.machine.proofs.JobOrder.WaitLaws.{in-order}
+use Rattle.machine.proofs.TablesFollow.Follows.{Refuses, absent, blocked, is-new, is-over, Answers, says-start, says-new, says-edge, says-release}
+use Rattle.machine.proofs.TablesFollow.Follows.{says-transfer, says-job, says-stop, Followed, refused, moved}
+use Rattle.machine.proofs.TablesFollow.Tracked.{Tracked, answers-accepted, stepped-as, room-steps, rows-lent, tracked}
+use Rattle.machine.proofs.TablesFollow.RunEnds.{Ends, ends-done, ends-spent, run-ends}
 
 -- no path of held edges closes
 acyclic :

@@ -34,9 +34,9 @@ use Rattle.machine.specs.Answers.{StepSaid, Outcome, accepted}
 use Rattle.machine.specs.Stepping.{stepLimit, steppable, Own, Due, refusal-due, job-due, command-due, due, step}
 use Rattle.machine.specs.Running.{canStep, lowest, allFinished, done, stuck, spent, refused, RunOutcome, ended, look, runOn, run}
 use Rattle.machine.specs.Demand2.{Adds, Does}
-use Rattle.machine.proofs.OwnLaws.{status-not-own}
-use Rattle.machine.proofs.AnswerLaws.{if-passed}
-use Rattle.machine.proofs.StepLaws.{step-is, due-new, due-over}
+use Rattle.machine.proofs.TablesFollow.OwnLaws.{status-not-own}
+use Rattle.machine.proofs.TablesFollow.AnswerLaws.{if-passed}
+use Rattle.machine.proofs.TablesFollow.StepLaws.{step-is, due-new, due-over}
 use Rattle.machine.proofs.StepDemand2.{step-does, blocked-step}
 use Rattle.machine.proofs.RunDemand2.{Finds, lowest-finds, can-made, finished-all}
 

@@ -13,11 +13,11 @@ use Rattle.program.proofs.Formulas.{vertices-formula, edgeRows-formula}
 use Rattle.machine.specs.Answers.{StepSaid}
 use Rattle.machine.specs.Running.{canStep}
 use Rattle.machine.specs.Reached.{Reached}
-use Rattle.machine.proofs.Ghost.{Control, draft, fresh, ready, busy, joining, over, State}
-use Rattle.machine.proofs.Counts.{vertices-bound, edges-bound}
-use Rattle.machine.proofs.Progress.{Free, at-code, at-work}
-use Rattle.machine.proofs.FollowLaws.{statusOf, follows-status}
-use Rattle.machine.proofs.Tracked.{tracked}
+use Rattle.machine.proofs.GhostMachine.Ghost.{Control, draft, fresh, ready, busy, joining, over, State}
+use Rattle.machine.proofs.Counting.CountLaws.{vertices-bound, edges-bound}
+use Rattle.machine.proofs.GhostMachine.Progress.{Free, at-code, at-work}
+use Rattle.machine.proofs.TablesFollow.FollowLaws.{statusOf, follows-status}
+use Rattle.machine.proofs.TablesFollow.Tracked.{tracked}
 use Rattle.machine.proofs.Demand3.{free-steps}
 
 -- At most V vertices are made, and at most the edge rows needed are held.

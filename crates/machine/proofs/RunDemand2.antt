@@ -17,7 +17,7 @@ use Rattle.machine.specs.Stepping.{steppable, due, step}
 use Rattle.machine.specs.Running.{canStep, orThis, lowestBelow, lowest, allFinished, Ending, refused, RunOutcome, ended, look, runOn, run}
 use Rattle.machine.specs.Demand2.{Steps, no-step, one-more, AllFinished, Looks, OnlySuchSteps, run-refused, run-steps}
 use Rattle.machine.proofs.StepDemand2.{step-counts}
-use Rattle.machine.proofs.AnswerLaws.{if-passed}
+use Rattle.machine.proofs.TablesFollow.AnswerLaws.{if-passed}
 
 -- What a search below n comes to: no number, or the lowest of which the test holds.
 abbrev pub Finds : (ℕ → Bool) → ℕ → Option ℕ → Type 0

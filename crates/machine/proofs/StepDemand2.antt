@@ -45,8 +45,8 @@ use Rattle.machine.specs.Answers.{StepSaid, Outcome, accepted, refuse, s
 use Rattle.machine.specs.Stepping.{stepLimit, steppable, place, phase, Task, item, ends, nothing, task, Own, Due, refusal-due}
 use Rattle.machine.specs.Stepping.{job-due, command-due, dueIf, filledIn, nextOf, nextAt, due, doDue, step}
 use Rattle.machine.specs.Demand2.{IsCommand, Does, Before, Refused, before, by-command}
-use Rattle.machine.proofs.OwnLaws.{own-adds}
-use Rattle.machine.proofs.StepLaws.{step-is, due-released}
+use Rattle.machine.proofs.TablesFollow.OwnLaws.{own-adds}
+use Rattle.machine.proofs.TablesFollow.StepLaws.{step-is, due-released}
 
 -- a step says that it is accepted where its command does
 said-accepted : (a : of-graph.CommandSaid) → accepted (saidAs a) ≡ of-graph.accepted a

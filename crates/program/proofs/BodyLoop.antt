@@ -15,7 +15,7 @@ use Rattle.program.specs.Bytes.{endByte}
 use Rattle.refusal.specs.Refusals.{bytes-run-out}
 use Rattle.program.specs.Reader.{Read, took, refused, andThen, item, body}
 use Rattle.program.specs.Answers.{itemCounts}
-use Rattle.program.specs.Progress.{plus, past, stopped, reached, progress, countsOf, Ready}
+use Rattle.program.specs.Internal.Progress.{plus, past, stopped, reached, progress, countsOf, Ready}
 use Rattle.program.proofs.ReaderLaws.{body-empty, body-end, body-item}
 use Rattle.program.proofs.Soundness.{itemBytes, item-sound}
 use Rattle.program.proofs.ProgressLaws.{slice, slice-length, plus-assoc, plus-end, counts-ahead, item-most, stopped-on, Taken, taken, past-taken}

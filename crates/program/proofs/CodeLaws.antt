@@ -12,7 +12,7 @@ use Rattle.program.specs.Trees.{Counts}
 use Rattle.program.specs.Bytes.{jobByte, asyncByte, finishByte, forkByte}
 use Rattle.refusal.specs.Refusals.{number-malformed, job-too-large}
 use Rattle.program.specs.Answers.{itemCounts}
-use Rattle.program.specs.Progress.{NumberProgress, value, ended, plus, oneOf}
+use Rattle.program.specs.Internal.Progress.{NumberProgress, value, ended, plus, oneOf}
 
 -- what a test that holds chooses
 pub cond-yes : {A : Type 0} {b : Bool} (x y : A) → b ≡ true → x ≡ cond b x y

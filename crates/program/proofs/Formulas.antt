@@ -9,7 +9,7 @@ use Rattle.program.specs.Trees.{Kind, jobs, asyncs, finishes, forks, Bod
 use Rattle.program.specs.Bytes.{encodeNumber, encode, size}
 use Rattle.program.specs.Encodings.{firstEdition, weight, makes, links, does, itemsWeight, verticesMade, edgeRowsNeeded, stepsTaken}
 use Rattle.program.specs.Encodings.{vertexFormula, edgeRowFormula, stepFormula}
-use Rattle.program.specs.Progress.{plus}
+use Rattle.program.specs.Internal.Progress.{plus}
 
 -- what so many items of each kind weigh
 weigh : (Kind → ℕ) → Counts → ℕ

@@ -14,7 +14,7 @@ use Rattle.program.specs.Bytes.{endByte, jobByte, asyncByte, finishByte,
 use Rattle.program.specs.Reader.{Read, took, refused, number}
 use Rattle.program.specs.Answers.{itemCounts, Stands}
 use Rattle.program.specs.Located.{locate, head}
-use Rattle.program.specs.Progress.{NumberProgress, value, stopped, numberProgress, Sized, Shows, ShowsJob}
+use Rattle.program.specs.Internal.Progress.{NumberProgress, value, stopped, numberProgress, Sized, Shows, ShowsJob}
 use Rattle.program.proofs.NumberLaws.{number-complete}
 use Rattle.program.proofs.LocatedLaws.{place-locate}
 use Rattle.program.proofs.SkipLaws.{part, part-is, on-end, on-job, on-one, on-fork, past-body}

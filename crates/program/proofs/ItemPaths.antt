@@ -20,8 +20,8 @@ use Rattle.program.specs.Bytes.{endByte, jobByte, asyncByte, finishByte,
 use Rattle.refusal.specs.Refusals.{byte-unknown, level-too-deep, bytes-run-out}
 use Rattle.program.specs.Reader.{Read, took, refused, andThen, number, kindOf, jobOf, itemOf, item, body}
 use Rattle.program.specs.Answers.{itemCounts}
-use Rattle.program.specs.Progress.{plus, Progress, past, stopped, reached, progress, countsOf, NumberProgress, value, reachedNumber}
-use Rattle.program.specs.Progress.{numberProgress, oneOf, Few, Ready}
+use Rattle.program.specs.Internal.Progress.{plus, Progress, past, stopped, reached, progress, countsOf, NumberProgress, value, reachedNumber}
+use Rattle.program.specs.Internal.Progress.{numberProgress, oneOf, Few, Ready}
 use Rattle.program.proofs.ReaderLaws.{item-job, item-async, item-finish, item-fork, item-deep, item-unknown}
 use Rattle.program.proofs.Soundness.{body-sound}
 use Rattle.program.proofs.ProgressLaws.{slice, slice-length, plus-assoc, body-most, stopped-on, Moved, Taken, taken, past-taken}

@@ -13,7 +13,7 @@ use Rattle.program.specs.Trees.{Counts}
 use Rattle.program.specs.Reader.{reading}
 use Rattle.program.specs.Answers.{ProgramSaid, loads, told}
 use Rattle.program.specs.Located.{startsAt, MarksStarts}
-use Rattle.program.specs.Progress.{inNumber, Outside}
+use Rattle.program.specs.Internal.Progress.{inNumber, Outside}
 use Rattle.program.proofs.PlaceLaws.{starts-refused, starts-outside, starts-inside}
 
 -- marks that are all 0 have 0 at each place

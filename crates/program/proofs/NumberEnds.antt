@@ -14,7 +14,7 @@ use Rattle.program.specs.Limits.{numberBytes, jobLimit}
 use Rattle.program.specs.Trees.{Body, largest}
 use Rattle.program.specs.Bytes.{jobByte, topBit, groupBytes, encodeNumber, encode, numberSize, size}
 use Rattle.program.specs.Claims.{Encoding, encoding}
-use Rattle.program.specs.Progress.{numberEnd, inNumber}
+use Rattle.program.specs.Internal.Progress.{numberEnd, inNumber}
 use Rattle.program.proofs.NumberLaws.{one-byte, more-bytes}
 use Rattle.program.proofs.StartLaws.{starts-low}
 

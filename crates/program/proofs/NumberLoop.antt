@@ -17,7 +17,7 @@ use Rattle.program.specs.Trees.{Counts}
 use Rattle.program.specs.Bytes.{topBit}
 use Rattle.refusal.specs.Refusals.{number-malformed, bytes-run-out, job-too-large}
 use Rattle.program.specs.Reader.{Read, took, refused, andThen, takeIf, groups, number}
-use Rattle.program.specs.Progress.{NumberProgress, value, numberProgress, ended}
+use Rattle.program.specs.Internal.Progress.{NumberProgress, value, numberProgress, ended}
 use Rattle.program.proofs.NumberLaws.{groups-last, groups-more}
 
 -- what is read behind groups of this value, where the next has this weight

@@ -17,7 +17,7 @@ use Rattle.refusal.specs.Refusals.{nothing-starts}
 use Rattle.program.specs.Answers.{ProgramSaid, loads, refused, told, Stands}
 use Rattle.program.specs.Located.{Code, locate, codeAt, head, found, standsIn, itemAt, isSome, startsIn, startsAt}
 use Rattle.program.specs.Claims.{Fits, Loadable, Encoding, encoding}
-use Rattle.program.specs.Progress.{BeginsWithBody, begins, Shows, inNumber}
+use Rattle.program.specs.Internal.Progress.{BeginsWithBody, begins, Shows, inNumber}
 use Rattle.program.proofs.Exactness.{reading-sound}
 use Rattle.program.proofs.LocatedLaws.{item-stands}
 use Rattle.program.proofs.StartLaws.{Placed, placed, code-bytes, starts, starts-within}

@@ -13,7 +13,7 @@ use Rattle.program.specs.Trees.{same, Counts, counts}
 use Rattle.program.specs.Bytes.{encode, size}
 use Rattle.program.specs.Reader.{Read, took, refused, andThen}
 use Rattle.program.specs.Answers.{itemCounts}
-use Rattle.program.specs.Progress.{plus, Progress, past, stopped, progress, countsOf, Ready}
+use Rattle.program.specs.Internal.Progress.{plus, Progress, past, stopped, progress, countsOf, Ready}
 use Rattle.program.proofs.Formulas.{count-lt, count-le}
 use Rattle.program.proofs.Soundness.{itemBytes, encode-ahead}
 

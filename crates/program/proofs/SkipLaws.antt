@@ -13,7 +13,7 @@ use Rattle.program.specs.Limits.{jobLimit}
 use Rattle.program.specs.Trees.{Body, end, job, async, finish, fork, largest, depth}
 use Rattle.program.specs.Bytes.{endByte, jobByte, asyncByte, finishByte, forkByte, encodeNumber, encode, numberSize, size}
 use Rattle.program.specs.Claims.{Fits}
-use Rattle.program.specs.Progress.{BeginsWithBody, begins, Sized, numberEnd}
+use Rattle.program.specs.Internal.Progress.{BeginsWithBody, begins, Sized, numberEnd}
 use Rattle.program.proofs.ReadingLaws.{encode-positive}
 use Rattle.program.proofs.NumberEnds.{number-end}
 

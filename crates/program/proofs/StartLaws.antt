@@ -19,7 +19,7 @@ use Rattle.program.specs.Limits.{numberBytes, jobLimit}
 use Rattle.program.specs.Trees.{Body, end, job, async, finish, fork, depth, largest}
 use Rattle.program.specs.Bytes.{jobByte, asyncByte, finishByte, forkByte, topBit, groupBytes, encodeNumber, encode, numberSize, size}
 use Rattle.program.specs.Located.{Code, locate, startOf, last, here, orElse, codeAt, isSome}
-use Rattle.program.specs.Progress.{inNumber}
+use Rattle.program.specs.Internal.Progress.{inNumber}
 use Rattle.program.proofs.LocatedLaws.{here-cases, orElse-cases, here-later, orElse-none}
 use Rattle.program.proofs.LocatedLaws.{place-locate, last-locate, laid-locate, code-missing}
 

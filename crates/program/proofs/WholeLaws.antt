@@ -15,7 +15,7 @@ use Rattle.program.specs.Encodings.{vertexFormula}
 use Rattle.refusal.specs.Refusals.{bytes-after-end, length-outside, too-many-vertices}
 use Rattle.program.specs.Reader.{Read, took, refused, body, program, refusal, counted, whole, reading}
 use Rattle.program.specs.Answers.{ProgramSaid, loads, told, itemCounts, readerAt}
-use Rattle.program.specs.Progress.{plus, Progress, past, stopped, progress, finished, Ready}
+use Rattle.program.specs.Internal.Progress.{plus, Progress, past, stopped, progress, finished, Ready}
 use Rattle.program.proofs.Formulas.{vertices-formula}
 use Rattle.program.proofs.ReadingLaws.{Within, Outside, reading-outside, reading-within}
 

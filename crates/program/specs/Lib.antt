@@ -7,8 +7,8 @@
 --     Located     a tree laid out from an offset on, what stands at a place, and where something starts
 --     Answers     what reading a program and reading an item answer
 --     Claims      the words in which the reader's theorems are stated
--- Nobody has to believe this one, which the contracts of private functions cite:
---     Progress    a reading under way
+-- Nobody has to believe this, which the contracts of private functions cite:
+--     Internal
 pub mod Limits
 pub mod Trees
 pub mod Bytes
@@ -17,4 +17,4 @@ pub mod Reader
 pub mod Located
 pub mod Answers
 pub mod Claims
-pub mod Progress
+pub mod Internal

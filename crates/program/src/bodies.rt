@@ -22,7 +22,7 @@ ghost use lib.ListN.{length};
 ghost use Rattle.program.specs.Trees.{counts};
 ghost use Rattle.program.specs.Reader.{jobOf, item, body};
 ghost use Rattle.program.specs.Answers.{itemCounts};
-ghost use Rattle.program.specs.Progress.{Ready, Few, stopped, reached, progress, plus, oneOf, countsOf};
+ghost use Rattle.program.specs.Internal.Progress.{Ready, Few, stopped, reached, progress, plus, oneOf, countsOf};
 
 impl Reader {
     // Reads the body at this reader's place, where `bytes` start: items up to its end byte.

@@ -18,7 +18,7 @@ ghost use lib.ListN.{length};
 ghost use Rattle.program.specs.Limits.{programBytes};
 ghost use Rattle.program.specs.Located.{itemAt};
 ghost use Rattle.program.specs.Answers.{stands, readerAt, handedBack, movedPast};
-ghost use Rattle.program.specs.Progress.{BeginsWithBody, Shows, ShowsJob, Sized};
+ghost use Rattle.program.specs.Internal.Progress.{BeginsWithBody, Shows, ShowsJob, Sized};
 
 // What stands at a place of a program, with a reader moved past it that has seen nothing; refused where the program is, and where no item
 // or end byte starts.

@@ -14,7 +14,7 @@ ghost use lib.ListN.{length};
 ghost use Rattle.program.specs.Limits.{programBytes};
 ghost use Rattle.program.specs.Reader.{number};
 ghost use Rattle.program.specs.Answers.{itemCounts};
-ghost use Rattle.program.specs.Progress.{reachedNumber, numberProgress, numberEnd, ended};
+ghost use Rattle.program.specs.Internal.Progress.{reachedNumber, numberProgress, numberEnd, ended};
 
 impl Reader {
     // The same reader, so many bytes further.

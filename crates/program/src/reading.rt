@@ -14,7 +14,7 @@ ghost use mathlib.Core.Path.{_≡_};
 ghost use Rattle.program.specs.Encodings.{vertexFormula, edgeRowFormula, stepFormula};
 ghost use Rattle.program.specs.Reader.{reading};
 ghost use Rattle.program.specs.Answers.{ProgramSaid, itemCounts, said, told};
-ghost use Rattle.program.specs.Progress.{finished};
+ghost use Rattle.program.specs.Internal.Progress.{finished};
 
 // Vertices made in all by a program with these items.
 pub fn vertices(items: ItemCounts) -> u64

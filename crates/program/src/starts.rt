@@ -11,7 +11,7 @@ ghost use lib.ListN.{length, replicate};
 ghost use Rattle.program.specs.Bytes.{jobByte, topBit};
 ghost use Rattle.program.specs.Located.{startsAt, MarksStarts};
 ghost use Rattle.program.specs.Claims.{Encoding};
-ghost use Rattle.program.specs.Progress.{inNumber, Outside};
+ghost use Rattle.program.specs.Internal.Progress.{inNumber, Outside};
 
 // Whether an item or an end byte starts at a place of a program.
 pub fn starts_at(program: &[u8], place: u32) -> bool

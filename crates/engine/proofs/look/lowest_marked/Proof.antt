@@ -12,7 +12,7 @@ use Rattle.graph.specs.Sound.{sound}
 use Rattle.graph.proofs.SoundChecks.{sound-rows, usable-rows}
 use Rattle.machine.specs.Stepping.{stepLimit}
 use Rattle.machine.specs.Running.{canStep}
-use Rattle.engine.specs.Private.{CannotBelow}
+use Rattle.engine.specs.Internal.Underway.{CannotBelow}
 use Rattle.engine.proofs.CandidateLaws.{barred}
 use Rattle.engine.proofs.LowestLaws.{none-more, candidate-can, chosen-late, chosen-this, chosen-none}
 use Rattle.engine.proofs.look.lowest_marked.Statement.{statement}

@@ -4,7 +4,7 @@ use native.Mathlib.Omega.{arith}
 use Rattle.graph.specs.Tables.{usableLimit, target}
 use Rattle.graph.proofs.Chains.{blank-long, ends-made}
 use Rattle.graph.proofs.TestLaws.{at-end}
-use Rattle.engine.specs.Private.{Blocked}
+use Rattle.engine.specs.Internal.Underway.{Blocked}
 use Rattle.engine.proofs.LowestLaws.{blocked-none, blocked-more}
 use Rattle.engine.proofs.look.mark_blocked.Statement.{statement}
 use Rattle.engine.proofs.look.mark_blocked.Tie as tie

@@ -1,7 +1,7 @@
 -- A refusal is not accepted, a job is, and a command is as its refusal says.
 use borrow.Author.Needs.{needs}
 use mathlib.Core.Path.{refl}
-use Rattle.engine.specs.Private.{takes}
+use Rattle.engine.specs.Internal.Underway.{takes}
 use Rattle.engine.proofs.LowestLaws.{takes-case}
 use Rattle.engine.proofs.look.would_take.Statement.{statement}
 use Rattle.engine.proofs.look.would_take.Tie as tie

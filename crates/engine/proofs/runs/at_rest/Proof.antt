@@ -1,7 +1,7 @@
 -- All vertices are finished, or not.
 use borrow.Author.Needs.{needs}
 use mathlib.Core.Path.{_∙_, sym, ap}
-use Rattle.engine.specs.Private.{atRest}
+use Rattle.engine.specs.Internal.Underway.{atRest}
 use Rattle.engine.proofs.runs.at_rest.Statement.{statement}
 use Rattle.engine.proofs.runs.at_rest.Tie as tie
 

@@ -1,7 +1,7 @@
 -- After v turns none of the first v vertices executes or is released.
 use Prim.Native.Nat.{_-_}
 use native.Mathlib.Omega.{arith}
-use Rattle.engine.specs.Private.{FirstLive}
+use Rattle.engine.specs.Internal.Underway.{FirstLive}
 use Rattle.engine.proofs.RunLaws.{idle-more, idle-end}
 use Rattle.engine.proofs.runs.first_live.Statement.{statement}
 use Rattle.engine.proofs.runs.first_live.Tie as tie

@@ -10,7 +10,7 @@ use Rattle.graph.proofs.SoundChecks.{sound-rows}
 use Rattle.machine.specs.Stepping.{due}
 use Rattle.machine.proofs.LookLaws.{late-none}
 use Rattle.engine.specs.Answers.{dueOf}
-use Rattle.engine.specs.Private.{CannotBelow, is-due}
+use Rattle.engine.specs.Internal.Underway.{CannotBelow, is-due}
 use Rattle.engine.proofs.RunLaws.{idle-below, due-executing, turned-down, taken-up, none-left, sound-there, cannot-there, attempted-there}
 use Rattle.engine.proofs.runs.take_lowest.Statement.{statement}
 use Rattle.engine.proofs.runs.take_lowest.Tie as tie

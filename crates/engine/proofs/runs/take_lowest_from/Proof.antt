@@ -6,7 +6,7 @@ use native.Mathlib.Omega.{arith}
 use lib.ListN.{length}
 use Rattle.graph.specs.Tables.{lent}
 use Rattle.graph.proofs.SoundChecks.{sound-rows, usable-rows}
-use Rattle.engine.specs.Private.{CannotBelow, is-due}
+use Rattle.engine.specs.Internal.Underway.{CannotBelow, is-due}
 use Rattle.engine.proofs.RunLaws.{passed-by, due-here, turned-down, taken-up, none-left}
 use Rattle.engine.proofs.runs.take_lowest_from.Statement.{statement}
 use Rattle.engine.proofs.runs.take_lowest_from.Tie as tie

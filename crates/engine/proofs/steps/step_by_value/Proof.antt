@@ -1,6 +1,6 @@
 -- What is due in the program is done.
 use borrow.Author.Needs.{needs}
-use Rattle.engine.specs.Private.{is-due}
+use Rattle.engine.specs.Internal.Underway.{is-due}
 use Rattle.engine.proofs.steps.step_by_value.Statement.{statement}
 use Rattle.engine.proofs.steps.step_by_value.Tie as tie
 

@@ -4,7 +4,7 @@ use mathlib.Core.Path.{_≡_}
 use native.Mathlib.Omega.{arith}
 use lib.ListN.{length-set}
 use Rattle.graph.specs.Commands.{keptRows}
-use Rattle.graph.specs.Gather.{Gathered}
+use Rattle.graph.specs.Internal.Gather.{Gathered}
 use Rattle.graph.proofs.EdgeLoops.{gathered-none, gathered-skips, gathered-keeps, gathered-all}
 use Rattle.graph.proofs.edges.gather_others.Statement.{statement}
 use Rattle.graph.proofs.edges.gather_others.Tie as tie

@@ -5,7 +5,7 @@ use mathlib.Core.List.{List}
 use native.Mathlib.Omega.{arith}
 use lib.ListN.{length, length-set}
 use Rattle.graph.specs.Tables.{usableLimit, target}
-use Rattle.graph.specs.Search.{Chained}
+use Rattle.graph.specs.Internal.Search.{Chained}
 use Rattle.graph.proofs.Chains.{blank-long, chain-none, chain-more, ends-made}
 use Rattle.graph.proofs.paths.chain_rows.Statement.{statement}
 use Rattle.graph.proofs.paths.chain_rows.Tie as tie

@@ -3,7 +3,7 @@ use Prim.Native.Nat.{_≤_, _<_, _-_}
 use native.Mathlib.Omega.{arith}
 use lib.ListN.{getD}
 use Rattle.graph.specs.Tables.{usableLimit, source}
-use Rattle.graph.specs.Search.{Scanned}
+use Rattle.graph.specs.Internal.Search.{Scanned}
 use Rattle.graph.proofs.Chains.{chain-row}
 use Rattle.graph.proofs.Frontier.{room-left, room-taken, seen, found}
 use Rattle.graph.proofs.paths.scan.Statement.{statement}

@@ -7,7 +7,7 @@ use native.Mathlib.Omega.{arith}
 use lib.ListN.{length, take, drop, length-append}
 use lib.Seq.{length-take-le, take-at}
 use borrow.Author.Needs.{needs}
-use Rattle.graph.specs.Search.{blank, Rows, Chained}
+use Rattle.graph.specs.Internal.Search.{blank, Rows, Chained}
 use Rattle.graph.proofs.Chains.{blank-long}
 use Rattle.graph.proofs.paths.search.Statement.{statement}
 use Rattle.graph.proofs.paths.search.Tie as tie

@@ -5,7 +5,7 @@ use mathlib.Core.Path.{_≡_}
 use native.Mathlib.Omega.{arith}
 use lib.ListN.{length, getD}
 use Rattle.graph.specs.Tables.{usableLimit}
-use Rattle.graph.specs.Search.{Room, Frontier}
+use Rattle.graph.specs.Internal.Search.{Room, Frontier}
 use Rattle.graph.proofs.Chains.{blank-long, chain-of}
 use Rattle.graph.proofs.Frontier.{room-blank, start, queued-usable, turn, answer-yes, answer-no}
 use Rattle.graph.proofs.paths.search_back.Statement.{statement}

@@ -7,7 +7,7 @@ use native.Mathlib.Omega.{arith}
 use Rattle.engine.specs.declared.Answer.{Answer}
 use Rattle.engine.specs.Answers.{said}
 use Rattle.listing.specs.Text.{answerText}
-use Rattle.listing.specs.Private.{Put, answerRoom}
+use Rattle.listing.specs.Internal.Puts.{Put, answerRoom}
 use Rattle.listing.proofs.NumeralLaws.{numeral-short}
 use Rattle.listing.proofs.text.put_answer.Statement.{statement}
 use Rattle.listing.proofs.text.put_answer.Tie as tie

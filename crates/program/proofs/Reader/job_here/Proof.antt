@@ -1,7 +1,7 @@
 -- What the number comes to is what is told, and reading it counts nothing.
 use mathlib.Core.Path.{refl, sym, ap, _∙_}
 use borrow.Author.Needs.{needs}
-use Rattle.program.specs.Progress.{reachedNumber}
+use Rattle.program.specs.Internal.Progress.{reachedNumber}
 use Rattle.program.proofs.ItemLaws.{job-shown, handed, number-seen, same-seen}
 use Rattle.program.proofs.Reader.job_here.Statement.{statement}
 use Rattle.program.proofs.Reader.job_here.Tie as tie

@@ -3,7 +3,7 @@ use Prim.Native.Nat.{_+_, _-_, _≤_}
 use mathlib.Core.Path.{_≡_, refl}
 use native.Mathlib.Omega.{arith}
 use lib.ListN.{length, drop}
-use Rattle.program.specs.Progress.{numberEnd}
+use Rattle.program.specs.Internal.Progress.{numberEnd}
 use Rattle.program.proofs.NumberEnds.{end-none, end-more, end-found, end-nowhere}
 use Rattle.program.proofs.numbers.number_end.Statement.{statement}
 use Rattle.program.proofs.numbers.number_end.Tie as tie

@@ -3,7 +3,7 @@ use mathlib.Core.Path.{sym, ap, _∙_}
 use mathlib.Core.Logic.{inl, inr}
 use native.Mathlib.Omega.{arith}
 use borrow.Author.Needs.{needs}
-use Rattle.program.specs.Progress.{reached}
+use Rattle.program.specs.Internal.Progress.{reached}
 use Rattle.program.proofs.WholeLaws.{read-outside, start-ready, main-said}
 use Rattle.program.proofs.reading.read.Statement.{statement}
 use Rattle.program.proofs.reading.read.Tie as tie

@@ -4,7 +4,7 @@ use mathlib.Core.Path.{_≡_, refl, _∙_}
 use native.Mathlib.Omega.{arith}
 use lib.ListN.{length}
 use borrow.Author.Needs.{needs}
-use Rattle.program.specs.Progress.{inNumber}
+use Rattle.program.specs.Internal.Progress.{inNumber}
 use Rattle.program.proofs.NumberEnds.{inside-none, inside-more}
 use Rattle.program.proofs.MarkLaws.{Marking, marking-none, marking-more, marking-outside, byteMark, mark-byte}
 use Rattle.program.proofs.starts.mark_outside_numbers.Statement.{statement}

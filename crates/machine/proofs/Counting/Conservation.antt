@@ -1,0 +1,258 @@
+-- The conservation law: a move with the event e takes ω e off what is left in all, for every weight ω of events.
+--
+-- A move changes what is left to one vertex, the one that moves, and it may append one vertex. At all others the weight stays: a vertex
+-- that is released, and a draft that is one no more, have the same to do as before. Of a state's shape the law needs only that no vertex
+-- beyond those made has anything to do.
+--
+--     conserved      Shape S → Move L S v e S' → total ω S ≡ ω e + total ω S'
+--     runs-pay       Shape S → Runs L S es S' → total ω S ≡ spent ω es + total ω S', where Runs is a row of moves with the events es
+--     nothing-left   left each x ≡ 0 → x ≡ over, where each event weighs 1
+use Prim.Native.Nat.{ℕ, zero, suc, _+_, _<_}
+use mathlib.Core.Path.{_≡_, refl, sym, _∙_, ap}
+use mathlib.Core.Logic.{⊎-elim}
+use mathlib.Core.List.{List, [], _∷_, _++_}
+use native.Mathlib.Nat.{eq-or-lt-of-le, le-of-suc-le-suc}
+use native.Mathlib.Omega.{arith}
+use lib.ListN.{length, drop, length-append}
+use Rattle.program.specs.Encodings.{Name, Command, perform, newTd, newEdge, transfer, release, weight}
+use Rattle.program.specs.Located.{Code, end-at, job-at, async-at, finish-at, fork-at}
+use Rattle.machine.proofs.GhostMachine.Ghost.{Do, link, hand, free, Control, draft, fresh, ready, busy, joining, over, State, put, kids, goes}
+use Rattle.machine.proofs.GhostMachine.Ghost.{kindOf, commandsOf, joins, todo, onward, done, Event, a-start, a-new, a-job, a-stop}
+use Rattle.machine.proofs.GhostMachine.Ghost.{eventOf, Move, begins, performs, stops, makes, splits, acts, stirred}
+use Rattle.machine.proofs.GhostMachine.Invariant.{Shape}
+use Rattle.machine.proofs.GhostMachine.GhostLaws.{put-same, put-other, clash, below}
+use Rattle.machine.proofs.GhostMachine.ShapeKept.{shape-kept}
+use Rattle.machine.proofs.GhostMachine.RoadLaws.{done-keeps}
+use Rattle.machine.proofs.GhostMachine.SplitLaws.{stirred-keeps}
+use Rattle.machine.proofs.Counting.Weights.{joinWeight, joinsWeight, bodyWeight, kidsWeight, behindWeight, tasksWeight, left, sumBelow, total}
+use Rattle.machine.proofs.Counting.Weights.{spent, each}
+
+-- Sums.
+
+-- functions that agree have the same sum
+sum-same : (f g : ℕ → ℕ) (n : ℕ) → ((u : ℕ) → u < n → f u ≡ g u) → sumBelow f n ≡ sumBelow g n
+unfolding sumBelow
+sum-same f g zero same = refl
+sum-same f g (suc n) same = omega (arith, same n (omega arith), sum-same f g n (λ u h. same u (omega arith)))
+
+-- functions that agree but at v differ in their sums as they do there: with v as the last number,
+sum-last :
+    (f g : ℕ → ℕ) (n v : ℕ) → v ≡ n → ((u : ℕ) → u < suc n → (u ≡ v → ⊥) → f u ≡ g u)
+    → f v + sumBelow g (suc n) ≡ g v + sumBelow f (suc n)
+unfolding sumBelow
+sum-last f g n v e same =
+    omega (arith, ap f e, ap g e, sum-same f g n (λ u h. same u (omega arith) (λ q. absurd (omega arith))))
+
+-- with v below it,
+sum-below :
+    (f g : ℕ → ℕ) (n v : ℕ) → f v + sumBelow g n ≡ g v + sumBelow f n → f n ≡ g n
+    → f v + sumBelow g (suc n) ≡ g v + sumBelow f (suc n)
+unfolding sumBelow
+sum-below f g n v h e = omega arith
+
+-- and anywhere
+sum-but :
+    (f g : ℕ → ℕ) (n v : ℕ) → v < n → ((u : ℕ) → u < n → (u ≡ v → ⊥) → f u ≡ g u)
+    → f v + sumBelow g n ≡ g v + sumBelow f n
+sum-but f g zero v h same = absurd (omega arith)
+sum-but f g (suc n) v h same =
+    ⊎-elim (λ e. sum-last f g n v e same)
+    (λ l. sum-below f g n v (sum-but f g n v l (λ u h. same u (omega arith))) (same n (omega arith) (λ q. absurd (omega arith))))
+    (eq-or-lt-of-le (le-of-suc-le-suc h))
+
+-- What is left to a vertex.
+
+-- joining commands weigh the same with their vertices filled in
+joins-weight : (ω : Event → ℕ) (σ : ℕ) (ms : List ℕ) (cs : List Command) → tasksWeight ω (joins σ ms cs) ≡ weight (joinWeight ω) cs
+unfolding tasksWeight joins weight joinWeight eventOf
+joins-weight ω σ ms [] = refl
+joins-weight ω σ ms (perform ∷ cs) = omega (arith, joins-weight ω σ ms cs)
+joins-weight ω σ ms (newTd p a ∷ cs) = omega (arith, joins-weight ω σ ms cs)
+joins-weight ω σ ms (newEdge a b ∷ cs) = omega (arith, joins-weight ω σ ms cs)
+joins-weight ω σ ms (transfer a ∷ cs) = omega (arith, joins-weight ω σ ms cs)
+joins-weight ω σ ms (release a ∷ cs) = omega (arith, joins-weight ω σ ms cs)
+
+-- an item that has not made any vertex weighs as its code
+busy-none : (ω : Event → ℕ) (c : Code) → left ω (busy c []) ≡ bodyWeight ω c
+unfolding left kidsWeight behindWeight bodyWeight kids
+busy-none ω (end-at o) = omega arith
+busy-none ω (job-at o n r) = omega arith
+busy-none ω (async-at o b r) = omega arith
+busy-none ω (finish-at o b r) = omega arith
+busy-none ω (fork-at o b c r) = omega arith
+
+-- a vertex that goes on with these commands and then with this code
+onward-weight : (ω : Event → ℕ) (c : Code) (ds : List Do) → left ω (onward c ds) ≡ tasksWeight ω ds + bodyWeight ω c
+unfolding onward left tasksWeight
+onward-weight ω c [] = omega (arith, busy-none ω c)
+onward-weight ω c (d ∷ ds) = refl
+
+-- nothing is behind the first n of none
+drop-some : {A : Type 0} (n : ℕ) (x : A) (xs : List A) → drop n [] ≡ x ∷ xs → ⊥
+drop-some zero x xs e = absurd (omega (arith, ap length e))
+drop-some (suc n) x xs e = absurd (omega (arith, ap length e))
+
+-- and behind one more than the first n is the rest
+drop-more : {A : Type 0} (n : ℕ) (l : List A) (x : A) (xs : List A) → drop n l ≡ x ∷ xs → drop (suc n) l ≡ xs
+drop-more n [] x xs e = absurd (drop-some n x xs e)
+drop-more zero (y ∷ l) x xs e = ap (drop 1) e
+drop-more (suc n) (y ∷ l) x xs e = drop-more n l x xs e
+
+-- behind its vertices, an item that makes some has its joining commands, and the code where its vertex goes
+behind-weight :
+    (ω : Event → ℕ) (L : ℕ) (c : Code) (n : ℕ) (k : Code × Name) (ks : List (Code × Name)) → drop n (kids c) ≡ k ∷ ks
+    → behindWeight ω c ≡ weight (joinWeight ω) (commandsOf (kindOf c)) + bodyWeight ω (goes L c)
+unfolding kids goes kindOf commandsOf behindWeight bodyWeight joinsWeight
+behind-weight ω L (end-at o) n k ks e = absurd (drop-some n k ks e)
+behind-weight ω L (job-at o m r) n k ks e = absurd (drop-some n k ks e)
+behind-weight ω L (async-at o b r) n k ks e = refl
+behind-weight ω L (finish-at o b r) n k ks e = refl
+behind-weight ω L (fork-at o b c r) n k ks e = refl
+
+-- What each move takes off the vertex that moves.
+
+begins-weight : (ω : Event → ℕ) (c : Code) → left ω (ready c) ≡ ω a-start + left ω (busy c [])
+unfolding left
+begins-weight ω c = omega (arith, busy-none ω c)
+
+performs-weight : (ω : Event → ℕ) (o n : ℕ) (r : Code) → left ω (busy (job-at o n r) []) ≡ ω (a-job o) + left ω (busy r [])
+unfolding bodyWeight
+performs-weight ω o n r = omega (arith, busy-none ω (job-at o n r), busy-none ω r)
+
+stops-weight : (ω : Event → ℕ) (o : ℕ) → left ω (busy (end-at o) []) ≡ ω a-stop + left ω over
+unfolding bodyWeight left
+stops-weight ω o = omega (arith, busy-none ω (end-at o))
+
+makes-weight :
+    (ω : Event → ℕ) (c : Code) (ms : List ℕ) (m : ℕ) (k : Code) (a : Name) (ks : List (Code × Name))
+    → drop (length ms) (kids c) ≡ (k, a) ∷ ks → left ω (busy c ms) ≡ ω a-new + left ω (draft k) + left ω (busy c (ms ++ (m ∷ [])))
+unfolding left kidsWeight
+makes-weight ω c ms m k a ks e =
+    let one : length (ms ++ (m ∷ [])) ≡ suc (length ms) = omega (arith, length-append ms (m ∷ [])) in
+    rw (one, drop-more (length ms) (kids c) (k, a) ks e, e) (omega arith)
+
+splits-weight :
+    (ω : Event → ℕ) (L σ : ℕ) (c : Code) (ms all : List ℕ) (k : Code) (a : Name) → drop (length ms) (kids c) ≡ (k, a) ∷ []
+    → left ω (busy c ms) ≡ ω a-new + left ω (fresh k) + left ω (onward (goes L c) (todo σ all c))
+unfolding left kidsWeight todo
+splits-weight ω L σ c ms all k a e =
+    let cs : List Command = commandsOf (kindOf c) in
+    let behind = behind-weight ω L c (length ms) (k, a) [] e in
+    rw e (omega (arith, onward-weight ω (goes L c) (joins σ all cs), joins-weight ω σ all cs, behind))
+
+acts-weight : (ω : Event → ℕ) (c : Code) (d : Do) (ds : List Do) → left ω (joining c d ds) ≡ ω (eventOf d) + left ω (onward c ds)
+unfolding left tasksWeight
+acts-weight ω c d ds = omega (arith, onward-weight ω c ds)
+
+-- in every code there is something to do: it has an end byte
+body-some : (c : Code) → 0 < bodyWeight each c
+unfolding bodyWeight
+body-some (end-at o) = omega arith
+body-some (job-at o n r) = omega arith
+body-some (async-at o b r) = omega arith
+body-some (finish-at o b r) = omega arith
+body-some (fork-at o b c r) = omega arith
+
+-- so behind the vertices of its first item
+behind-some : (c : Code) → 0 < behindWeight each c
+unfolding behindWeight
+behind-some (end-at o) = omega arith
+behind-some (job-at o n r) = omega arith
+behind-some (async-at o b r) = omega (arith, body-some r)
+behind-some (finish-at o b r) = omega arith
+behind-some (fork-at o b c r) = omega arith
+
+-- so only a vertex that is over has nothing to do
+pub nothing-left : (x : Control) → left each x ≡ 0 → x ≡ over
+unfolding left
+nothing-left (draft c) h = absurd (omega arith)
+nothing-left (fresh c) h = absurd (omega arith)
+nothing-left (ready c) h = absurd (omega arith)
+nothing-left (busy c ms) h = absurd (omega (arith, behind-some c))
+nothing-left (joining c d ds) h = absurd (omega (arith, body-some c))
+nothing-left over h = refl
+
+-- What is left in all.
+
+-- a vertex v below n comes to have w less to do, and the others have the same as before
+moved :
+    (ω : Event → ℕ) (f g : ℕ → Control) (n v w : ℕ) → v < n → ((u : ℕ) → u < n → (u ≡ v → ⊥) → left ω (f u) ≡ left ω (g u))
+    → left ω (f v) ≡ w + left ω (g v) → sumBelow (λ u. left ω (f u)) n ≡ w + sumBelow (λ u. left ω (g u)) n
+moved ω f g n v w h same e = omega (arith, sum-but (λ u. left ω (f u)) (λ u. left ω (g u)) n v h same)
+
+-- v comes to x
+changed :
+    (ω : Event → ℕ) (f g : ℕ → Control) (n v w : ℕ) (x : Control) → v < n → ((u : ℕ) → left ω (f u) ≡ left ω (g u))
+    → left ω (f v) ≡ w + left ω x → sumBelow (λ u. left ω (f u)) n ≡ w + sumBelow (λ u. left ω (put g v x u)) n
+changed ω f g n v w x h same e =
+    moved ω f (put g v x) n v w h (λ u l ne. same u ∙ ap (left ω) (sym (put-other g v x u ne)))
+    (e ∙ ap (λ y. w + left ω y) (sym (put-same g v x)))
+
+-- v comes to x, and one more vertex is at y
+increased :
+    (ω : Event → ℕ) (f g : ℕ → Control) (n v w : ℕ) (x y : Control) → v < n → ((u : ℕ) → left ω (f u) ≡ left ω (g u))
+    → left ω (f v) ≡ w + left ω y + left ω x
+    → sumBelow (λ u. left ω (f u)) n ≡ w + sumBelow (λ u. left ω (put (put g n y) v x u)) (suc n)
+unfolding sumBelow
+increased ω f g n v w x y h same e =
+    let past : (u : ℕ) → (u ≡ v → ⊥) → put (put g n y) v x u ≡ put g n y u = put-other (put g n y) v x in
+    let old : (u : ℕ) → u < n → (u ≡ v → ⊥) → left ω (f u) ≡ left ω (put (put g n y) v x u)
+    = λ u l ne. same u ∙ ap (left ω) (sym (past u ne ∙ put-other g n y u (λ q. absurd (omega arith)))) in
+    let new : left ω (put (put g n y) v x n) ≡ left ω y = ap (left ω) (past n (λ q. absurd (omega arith)) ∙ put-same g n y) in
+    let here : left ω (put (put g n y) v x v) ≡ left ω x = ap (left ω) (put-same (put g n y) v x) in
+    omega (arith, new, moved ω f (put (put g n y) v x) n v (w + left ω y) h old (omega arith))
+
+-- where drafts become fresh, each vertex has the same to do
+stirred-weight : (ω : Event → ℕ) (f : ℕ → Control) (ms : List ℕ) (u : ℕ) → left ω (f u) ≡ left ω (stirred f ms u)
+unfolding left
+stirred-weight ω f ms u = sym (stirred-keeps (left ω) (λ c. refl) f ms u)
+
+-- and so it has after a joining command
+done-weight : (ω : Event → ℕ) (S : State) (v : ℕ) (d : Do) (u : ℕ) → left ω (S .control u) ≡ left ω (done S v d .control u)
+unfolding left
+done-weight ω S v d u = sym (done-keeps (left ω) (λ c. refl) S v d u)
+
+-- and makes none
+pub done-count : (S : State) (v : ℕ) (d : Do) → done S v d .count ≡ S .count
+unfolding done
+done-count S v (link a b) = refl
+done-count S v (hand h) = refl
+done-count S v (free m) = refl
+
+-- The law.
+pub conserved : (ω : Event → ℕ) {L v : ℕ} {S S' : State} {e : Event} → Shape S → Move L S v e S' → total ω S ≡ ω e + total ω S'
+unfolding total
+conserved ω {v = v} {S = S} sh (begins {c} q bare) =
+    changed ω (S .control) (S .control) (S .count) v _ _ (below sh v (λ o. clash cc)) (λ u. refl) (ap (left ω) q ∙ begins-weight ω c)
+conserved ω {v = v} {S = S} sh (performs {o} {n} {r} q) =
+    changed ω (S .control) (S .control) (S .count) v _ _ (below sh v (λ o. clash cc)) (λ u. refl) (ap (left ω) q ∙ performs-weight ω o n r)
+conserved ω {v = v} {S = S} sh (stops {o} q) =
+    changed ω (S .control) (S .control) (S .count) v _ _ (below sh v (λ o. clash cc)) (λ u. refl) (ap (left ω) q ∙ stops-weight ω o)
+conserved ω {v = v} {S = S} sh (makes {c} {ms} {k} {a} q e) =
+    increased ω (S .control) (S .control) (S .count) v _ _ _ (below sh v (λ o. clash cc)) (λ u. refl)
+    (ap (left ω) q ∙ makes-weight ω c ms (S .count) k a _ e)
+conserved ω {L} {v} {S} sh (splits {c} {ms} {k} {a} q e) =
+    increased ω (S .control) (stirred (S .control) ms) (S .count) v _ _ _ (below sh v (λ o. clash cc))
+    (stirred-weight ω (S .control) ms)
+    (ap (left ω) q ∙ splits-weight ω L (S .scope v) c ms (ms ++ (S .count ∷ [])) k a e)
+conserved ω {v = v} {S = S} sh (acts {c} {d} {ds} q) =
+    changed ω (S .control) (done S v d .control) (S .count) v _ _ (below sh v (λ o. clash cc)) (done-weight ω S v d)
+    (ap (left ω) q ∙ acts-weight ω c d ds)
+    ∙ ap (λ n. ω (eventOf d) + sumBelow (λ u. left ω (put (done S v d .control) v (onward c ds) u)) n) (sym (done-count S v d))
+
+-- Moves one after the other, with their events, the latest first.
+pub data Runs (L : ℕ) (S : State) : List Event → State → Type 0 where
+  no-move : Runs L S [] S
+  and-then : {v : ℕ} {e : Event} {es : List Event} {S1 S2 : State} → Runs L S es S1 → Move L S1 v e S2 → Runs L S (e ∷ es) S2
+
+-- all of them keep the shape
+runs-shape : {L : ℕ} {S S' : State} {es : List Event} → Shape S → Runs L S es S' → Shape S'
+runs-shape sh no-move = sh
+runs-shape sh (and-then r m) = shape-kept (runs-shape sh r) m
+
+-- what was left is what has been done and what is left
+pub runs-pay :
+    (ω : Event → ℕ) {L : ℕ} {S S' : State} {es : List Event} → Shape S → Runs L S es S' → total ω S ≡ spent ω es + total ω S'
+unfolding spent
+runs-pay ω sh no-move = omega arith
+runs-pay ω sh (and-then r m) = omega (arith, runs-pay ω sh r, conserved ω (runs-shape sh r) m)

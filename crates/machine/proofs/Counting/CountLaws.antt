@@ -1,0 +1,339 @@
+-- What is counted, as instances of the conservation law: vertices, edge rows, steps, and each job.
+--
+-- At the beginning a program's state weighs what the table of commands says of its items; so what has been done in a run never weighs more,
+-- and weighs as much once every vertex is over. A job is weighed by its offset, which no other job of laid code has.
+--
+-- Of beginning p L, where p is locate o t:
+--     steps-total       total each ≡ steps firstEdition t
+--     vertices-total    2 + total news ≡ vertices firstEdition t
+--     edges-total       1 + total links ≡ edgeRows firstEdition t
+-- Of what Runs from there to S with the events es:
+--     steps-run         length es + total each S ≡ steps firstEdition t
+--     steps-bound       length es ≤ steps firstEdition t
+--     vertices-bound    S .count ≤ vertices firstEdition t
+--     edges-bound       1 + spent links es ≤ edgeRows firstEdition t
+-- and for any laid p, where spent (jobAt q) es is how often the job at q was done:
+--     job-once          it is at most 1
+--     job-past          it is 1, if a job is written at q and total (jobAt q) S ≡ 0
+--     job-done          it is 1, if a job is written at q and total each S ≡ 0
+-- Of any state S:
+--     all-over          total each S ≡ 0 → every vertex is over
+--     over-all          every vertex is over → total ω S ≡ 0, for any ω
+use Prim.Native.Nat.{ℕ, zero, suc, _+_, _*_, _<_, _≤_}
+use mathlib.Core.Path.{_≡_, refl, sym, _∙_, ap}
+use mathlib.Core.Logic.{_⊎_, ⊎-elim}
+use mathlib.Core.List.{List, [], _∷_}
+use native.Mathlib.Nat.{eq-or-lt-of-le, le-of-suc-le-suc}
+use native.Mathlib.Omega.{arith}
+use lib.ListN.{length}
+use borrow.Author.Tests.{eq-eqb, ne-eqb}
+use Rattle.graph.proofs.TestLaws.{equal?}
+use Rattle.program.specs.Trees.{Kind, jobs, asyncs, finishes, forks, Body, end, job, async, finish, fork}
+use Rattle.program.specs.Trees as trees
+use Rattle.program.specs.Encodings as table
+use Rattle.program.specs.Encodings.{Command, perform, newTd, newEdge, transfer, release, firstEdition, weight, itemsWeight, verticesMade}
+use Rattle.program.specs.Encodings.{edgeRowsNeeded, stepsTaken}
+use Rattle.program.specs.Bytes.{numberSize, size}
+use Rattle.program.specs.Located.{Code, end-at, job-at, async-at, finish-at, fork-at, locate, startOf, last}
+use Rattle.program.proofs.LocatedLaws.{Laid}
+use Rattle.machine.proofs.GhostMachine.Ghost.{Event, a-start, a-new, an-edge, a-release, a-transfer, a-job, a-stop, eventOf, Do, link, hand, free}
+use Rattle.machine.proofs.GhostMachine.Ghost.{over, State, Move, begins, performs, stops, makes, splits, acts}
+use Rattle.machine.proofs.GhostMachine.Beginning.{beginning}
+use Rattle.machine.proofs.GhostMachine.BeginningShape.{shape-beginning}
+use Rattle.machine.proofs.Counting.Weights.{joinWeight, joinsWeight, bodyWeight, left, sumBelow, total, spent, each, news, links, jobAt}
+use Rattle.machine.proofs.Counting.Conservation.{nothing-left, done-count, Runs, no-move, and-then, runs-pay}
+use Rattle.machine.proofs.JobOrder.Order.{Job}
+
+-- Code by its items.
+
+-- what a command weighs, with j for a job
+unfoldable commandWeight : (Event → ℕ) → ℕ → Command → ℕ
+commandWeight ω j perform = j
+commandWeight ω j (newTd p a) = ω a-new
+commandWeight ω j (newEdge a b) = ω an-edge
+commandWeight ω j (transfer a) = ω a-transfer
+commandWeight ω j (release a) = ω a-release
+
+-- an item's commands, and a start and a stop for each vertex that it makes
+unfoldable kindWeight : (Event → ℕ) → ℕ → Kind → ℕ
+kindWeight ω j k =
+    weight (commandWeight ω j) (firstEdition k .commands) + weight table.makes (firstEdition k .commands) * (ω a-start + ω a-stop)
+
+-- where all jobs weigh the same, code weighs what its items do, and one stop
+items-weight :
+    (ω : Event → ℕ) (j : ℕ) → ((o : ℕ) → ω (a-job o) ≡ j) → (o : ℕ) (b : Body)
+    → bodyWeight ω (locate o b) ≡ ω a-stop + trees.total (kindWeight ω j) b
+unfolding locate bodyWeight joinsWeight joinWeight trees.total kindWeight commandWeight weight table.makes firstEdition
+items-weight ω j same o end = omega arith
+items-weight ω j same o (job n r) = omega (arith, same o, items-weight ω j same (suc (o + numberSize n)) r)
+items-weight ω j same o (async b r) = omega (arith, items-weight ω j same (suc o) b, items-weight ω j same (suc (o + size b)) r)
+items-weight ω j same o (finish b r) = omega (arith, items-weight ω j same (suc o) b, items-weight ω j same (suc (o + size b)) r)
+items-weight ω j same o (fork b c r) =
+    let past = items-weight ω j same (suc (o + size b + size c)) r in
+    omega (arith, items-weight ω j same (suc o) b, items-weight ω j same (suc (o + size b)) c, past)
+
+-- sums over the items of the same weights
+total-same : (f g : Kind → ℕ) → ((k : Kind) → f k ≡ g k) → (b : Body) → trees.total f b ≡ trees.total g b
+unfolding trees.total
+total-same f g same end = refl
+total-same f g same (job n r) = omega (arith, same jobs, total-same f g same r)
+total-same f g same (async b r) = omega (arith, same asyncs, total-same f g same b, total-same f g same r)
+total-same f g same (finish b r) = omega (arith, same finishes, total-same f g same b, total-same f g same r)
+total-same f g same (fork b c r) =
+    omega (arith, same forks, total-same f g same b, total-same f g same c, total-same f g same r)
+
+-- with a second sum counted twice
+total-plus : (f g : Kind → ℕ) (b : Body) → trees.total (λ k. f k + 2 * g k) b ≡ trees.total f b + 2 * trees.total g b
+unfolding trees.total
+total-plus f g end = omega arith
+total-plus f g (job n r) = omega (arith, total-plus f g r)
+total-plus f g (async b r) = omega (arith, total-plus f g b, total-plus f g r)
+total-plus f g (finish b r) = omega (arith, total-plus f g b, total-plus f g r)
+total-plus f g (fork b c r) = omega (arith, total-plus f g b, total-plus f g c, total-plus f g r)
+
+-- each kind, by the weights of the table
+each-kind :
+    (k : Kind) → kindWeight each 1 k ≡ weight table.does (firstEdition k .commands) + 2 * weight table.makes (firstEdition k .commands)
+unfolding kindWeight commandWeight weight table.makes table.does firstEdition
+each-kind jobs = omega arith
+each-kind asyncs = omega arith
+each-kind finishes = omega arith
+each-kind forks = omega arith
+
+-- and so all items
+each-items :
+    (b : Body) → trees.total (kindWeight each 1) b ≡ itemsWeight firstEdition table.does b + 2 * itemsWeight firstEdition table.makes b
+unfolding itemsWeight
+each-items b = total-same _ _ each-kind b ∙ total-plus _ _ b
+
+news-kind : (k : Kind) → kindWeight news 0 k ≡ weight table.makes (firstEdition k .commands)
+unfolding kindWeight commandWeight weight news table.makes firstEdition
+news-kind jobs = omega arith
+news-kind asyncs = omega arith
+news-kind finishes = omega arith
+news-kind forks = omega arith
+
+links-kind : (k : Kind) → kindWeight links 0 k ≡ weight table.links (firstEdition k .commands)
+unfolding kindWeight commandWeight weight links table.makes table.links firstEdition
+links-kind jobs = omega arith
+links-kind asyncs = omega arith
+links-kind finishes = omega arith
+links-kind forks = omega arith
+
+-- The beginning: two vertices are ready, one at the program's start and one at its last byte.
+
+-- both start, and the second only stops
+opening : (ω : Event → ℕ) (p : Code) (L : ℕ) → total ω (beginning p L) ≡ 2 * ω a-start + ω a-stop + bodyWeight ω p
+unfolding beginning total sumBelow left bodyWeight
+opening ω p L = omega arith
+
+-- what is counted at the beginning is what the program needs
+pub steps-total : (o L : ℕ) (t : Body) → total each (beginning (locate o t) L) ≡ stepsTaken firstEdition t
+unfolding stepsTaken verticesMade
+steps-total o L t = omega (arith, opening each (locate o t) L, items-weight each 1 (λ o. refl) o t, each-items t)
+
+pub vertices-total : (o L : ℕ) (t : Body) → 2 + total news (beginning (locate o t) L) ≡ verticesMade firstEdition t
+unfolding verticesMade itemsWeight news
+vertices-total o L t =
+    omega (arith, opening news (locate o t) L, items-weight news 0 (λ o. refl) o t, total-same _ _ news-kind t)
+
+pub edges-total : (o L : ℕ) (t : Body) → 1 + total links (beginning (locate o t) L) ≡ edgeRowsNeeded firstEdition t
+unfolding edgeRowsNeeded itemsWeight links
+edges-total o L t =
+    omega (arith, opening links (locate o t) L, items-weight links 0 (λ o. refl) o t, total-same _ _ links-kind t)
+
+-- Jobs.
+
+-- the jobs at q, counted
+abbrev pub jobsAt : ℕ → Code → ℕ
+jobsAt q c = bodyWeight (jobAt q) c
+
+-- a job is counted at its own offset only
+this-job : (o q : ℕ) → o ≡ q → jobAt q (a-job o) ≡ 1
+unfolding jobAt
+this-job o q e = rw (eq-eqb o q e) refl
+
+pub other-job : (o q : ℕ) → (o ≡ q → ⊥) → jobAt q (a-job o) ≡ 0
+unfolding jobAt
+other-job o q ne = rw (ne-eqb o q ne) refl
+
+-- and nothing else is counted: code has the jobs of its parts
+pub jobs-end : (q o : ℕ) → jobsAt q (end-at o) ≡ 0
+unfolding bodyWeight jobAt
+jobs-end q o = refl
+
+pub jobs-job : (q o n : ℕ) (r : Code) → jobsAt q (job-at o n r) ≡ jobAt q (a-job o) + jobsAt q r
+unfolding bodyWeight
+jobs-job q o n r = refl
+
+pub jobs-async : (q o : ℕ) (b r : Code) → jobsAt q (async-at o b r) ≡ jobsAt q b + jobsAt q r
+unfolding bodyWeight joinsWeight joinWeight weight firstEdition jobAt
+jobs-async q o b r = omega arith
+
+pub jobs-finish : (q o : ℕ) (b r : Code) → jobsAt q (finish-at o b r) ≡ jobsAt q b + jobsAt q r
+unfolding bodyWeight joinsWeight joinWeight weight firstEdition jobAt
+jobs-finish q o b r = omega arith
+
+pub jobs-fork : (q o : ℕ) (b c r : Code) → jobsAt q (fork-at o b c r) ≡ jobsAt q b + (jobsAt q c + jobsAt q r)
+unfolding bodyWeight joinsWeight joinWeight weight firstEdition jobAt
+jobs-fork q o b c r = omega arith
+
+-- Of jobs between lo and hi, w are at q: none, and J says that one is written there, or one.
+data Told (q w : ℕ) (J : Type 0) (lo hi : ℕ) : Type 0 where
+  none-there : w ≡ 0 → (J → ⊥) → Told q w J lo hi
+  one-there : w ≡ 1 → lo ≤ q → q ≤ hi → Told q w J lo hi
+
+-- of those in two ranges one behind the other
+beside :
+    {q w w' all lo hi lo' hi' from : ℕ} {J J' : Type 0} → Told q w J lo hi → Told q w' J' lo' hi' → all ≡ w + w' → hi < lo'
+    → from ≤ lo → lo ≤ hi → lo' ≤ hi' → Told q all (J ⊎ J') from hi'
+beside (none-there e f) (none-there e' f') sum apart s l l' = none-there (omega arith) (⊎-elim f f')
+beside (none-there e f) (one-there e' s' i') sum apart s l l' = one-there (omega arith) (omega arith) (omega arith)
+beside (one-there e s' i') (none-there e' f') sum apart s l l' = one-there (omega arith) (omega arith) (omega arith)
+beside (one-there e s' i') (one-there e' s'' i'') sum apart s l l' = absurd (omega arith)
+
+-- a job by itself
+told-job : (q o : ℕ) → Told q (jobAt q (a-job o)) (q ≡ o) o o
+told-job q o =
+    ⊎-elim (λ e. one-there (this-job o q e) (omega arith) (omega arith)) (λ ne. none-there (other-job o q ne) (λ h. ne (sym h)))
+    (equal? o q)
+
+-- the jobs of laid code
+told : (q : ℕ) (c : Code) → Laid c → Told q (jobsAt q c) (Job c q) (startOf c) (last c)
+unfolding Job Laid startOf last
+told q (end-at o) l = none-there (jobs-end q o) (λ h. h)
+told q (job-at o m r) l =
+    beside (told-job q o) (told q r (l .1)) (jobs-job q o m r) (l .0 .starts) (omega arith) (omega arith) (l .0 .rest)
+told q (async-at o b r) l =
+    beside (told q b (l .1)) (told q r (l .2)) (jobs-async q o b r) (omega (arith, l .0 .ends)) (omega (arith, l .0 .starts)) (l .0 .body)
+    (l .0 .rest)
+told q (finish-at o b r) l =
+    beside (told q b (l .1)) (told q r (l .2)) (jobs-finish q o b r) (omega (arith, l .0 .ends)) (omega (arith, l .0 .starts)) (l .0 .body)
+    (l .0 .rest)
+told q (fork-at o b c r) l =
+    beside (told q b (l .1))
+    (beside {from = startOf c} (told q c (l .2)) (told q r (l .3)) refl (omega (arith, l .0 .ends)) (omega arith) (l .0 .right) (l .0 .rest))
+    (jobs-fork q o b c r) (omega (arith, l .0 .between)) (omega (arith, l .0 .starts)) (l .0 .left)
+    (omega (arith, l .0 .right, l .0 .ends, l .0 .rest))
+
+-- so no two are at the same offset
+jobs-le : (q : ℕ) (c : Code) → Laid c → jobsAt q c ≤ 1
+jobs-le q c l = go (told q c l)
+  where
+    go : Told q (jobsAt q c) (Job c q) (startOf c) (last c) → jobsAt q c ≤ 1
+    go (none-there e f) = omega arith
+    go (one-there e s i) = omega arith
+
+-- and one is counted if it is written
+jobs-one : (q : ℕ) (c : Code) → Laid c → Job c q → jobsAt q c ≡ 1
+jobs-one q c l j = go (told q c l)
+  where
+    go : Told q (jobsAt q c) (Job c q) (startOf c) (last c) → jobsAt q c ≡ 1
+    go (none-there e f) = absurd (f j)
+    go (one-there e s i) = e
+
+-- Nothing is left exactly if every vertex is over.
+
+-- where a sum is 0, every summand is
+sum-zero : (f : ℕ → ℕ) (n : ℕ) → sumBelow f n ≡ 0 → (u : ℕ) → u < n → f u ≡ 0
+unfolding sumBelow
+sum-zero f zero h u l = absurd (omega arith)
+sum-zero f (suc n) h u l =
+    ⊎-elim (λ (e : u ≡ n). ap f e ∙ omega arith) (λ k. sum-zero f n (omega arith) u k) (eq-or-lt-of-le (le-of-suc-le-suc l))
+
+-- and the other way round
+zero-sum : (f : ℕ → ℕ) (n : ℕ) → ((u : ℕ) → u < n → f u ≡ 0) → sumBelow f n ≡ 0
+unfolding sumBelow
+zero-sum f zero h = refl
+zero-sum f (suc n) h = omega (arith, h n (omega arith), zero-sum f n (λ u l. h u (omega arith)))
+
+pub all-over : (S : State) → total each S ≡ 0 → (v : ℕ) → v < S .count → S .control v ≡ over
+unfolding total
+all-over S h v l = nothing-left (S .control v) (sum-zero (λ v. left each (S .control v)) (S .count) h v l)
+
+pub over-all : (ω : Event → ℕ) (S : State) → ((v : ℕ) → v < S .count → S .control v ≡ over) → total ω S ≡ 0
+unfolding total left
+over-all ω S h = zero-sum (λ v. left ω (S .control v)) (S .count) (λ v l. ap (left ω) (h v l))
+
+-- Runs from the beginning.
+
+-- what has been done and what is left is what a program's state weighs at the beginning
+runs-on :
+    (ω : Event → ℕ) (p : Code) (L : ℕ) {es : List Event} {S : State} → Runs L (beginning p L) es S
+    → total ω (beginning p L) ≡ spent ω es + total ω S
+runs-on ω p L r = runs-pay ω (shape-beginning p L) r
+
+-- Steps.
+
+spent-each : (es : List Event) → spent each es ≡ length es
+unfolding spent
+spent-each [] = refl
+spent-each (e ∷ es) = omega (arith, spent-each es)
+
+pub steps-run :
+    (o : ℕ) (t : Body) (L : ℕ) {es : List Event} {S : State} → Runs L (beginning (locate o t) L) es S
+    → length es + total each S ≡ stepsTaken firstEdition t
+steps-run o t L {es} r = omega (arith, runs-on each (locate o t) L r, spent-each es, steps-total o L t)
+
+pub steps-bound :
+    (o : ℕ) (t : Body) (L : ℕ) {es : List Event} {S : State} → Runs L (beginning (locate o t) L) es S
+    → length es ≤ stepsTaken firstEdition t
+steps-bound o t L r = omega (arith, steps-run o t L r)
+
+-- Vertices: each new one is counted.
+
+news-none : (d : Do) → news (eventOf d) ≡ 0
+unfolding news eventOf
+news-none (link a b) = refl
+news-none (hand h) = refl
+news-none (free m) = refl
+
+pub move-count : {L v : ℕ} {S S' : State} {e : Event} → Move L S v e S' → S' .count ≡ news e + S .count
+unfolding news
+move-count (begins q bare) = omega arith
+move-count (performs q) = omega arith
+move-count (stops q) = omega arith
+move-count (makes q e) = omega arith
+move-count (splits q e) = omega arith
+move-count {v = v} {S = S} (acts {d = d} q) = omega (arith, done-count S v d, news-none d)
+
+runs-count : {L : ℕ} {S S' : State} {es : List Event} → Runs L S es S' → S' .count ≡ spent news es + S .count
+unfolding spent
+runs-count no-move = omega arith
+runs-count (and-then r m) = omega (arith, runs-count r, move-count m)
+
+pub vertices-bound :
+    (o : ℕ) (t : Body) (L : ℕ) {es : List Event} {S : State} → Runs L (beginning (locate o t) L) es S → S .count ≤ verticesMade firstEdition t
+unfolding beginning
+vertices-bound o t L r = omega (arith, runs-on news (locate o t) L r, runs-count r, vertices-total o L t)
+
+-- Edge rows: the one that is held at the beginning, and each new one.
+
+pub edges-bound :
+    (o : ℕ) (t : Body) (L : ℕ) {es : List Event} {S : State} → Runs L (beginning (locate o t) L) es S
+    → 1 + spent links es ≤ edgeRowsNeeded firstEdition t
+edges-bound o t L r = omega (arith, runs-on links (locate o t) L r, edges-total o L t)
+
+-- Jobs.
+
+-- at the beginning, those that are written
+jobs-total : (q : ℕ) (p : Code) (L : ℕ) → total (jobAt q) (beginning p L) ≡ jobsAt q p
+unfolding jobAt
+jobs-total q p L = omega (arith, opening (jobAt q) p L)
+
+-- a job is done once at most
+pub job-once :
+    (q : ℕ) (p : Code) (L : ℕ) {es : List Event} {S : State} → Laid p → Runs L (beginning p L) es S → spent (jobAt q) es ≤ 1
+job-once q p L l r = omega (arith, runs-on (jobAt q) p L r, jobs-total q p L, jobs-le q p l)
+
+-- exactly once, if it is written, when nothing of it is left
+pub job-past :
+    (q : ℕ) (p : Code) (L : ℕ) {es : List Event} {S : State} → Laid p → Job p q → Runs L (beginning p L) es S
+    → total (jobAt q) S ≡ 0 → spent (jobAt q) es ≡ 1
+job-past q p L l j r z = omega (arith, runs-on (jobAt q) p L r, jobs-total q p L, jobs-one q p l j, z)
+
+-- so it is when all is done
+pub job-done :
+    (q : ℕ) (p : Code) (L : ℕ) {es : List Event} {S : State} → Laid p → Job p q → Runs L (beginning p L) es S → total each S ≡ 0
+    → spent (jobAt q) es ≡ 1
+job-done q p L {S = S} l j r z = job-past q p L l j r (over-all (jobAt q) S (all-over S z))

@@ -1,0 +1,371 @@
+-- The laws of the ghost machine's building blocks, so that proofs about moves need not open them.
+--
+-- A function changed in one place
+--     put-same       put f v x v ≡ x
+--     put-other      put f v x u ≡ f u, where u is not v; put-below: where u is below v
+--     put-cases      P (put f v x u) from P x, where u is v, and P (f u), where it is not
+--     put-all        P (put f v x u) from P x and P of every value of f
+--     put-keeps      g (put f v x u) ≡ g (f u), where g x ≡ g (f v); puts-keep: the same of two changes
+-- Controls
+--     clash          anything, from `true ≡ false`; `clash (cc)` where the hypotheses give two controls, or two other constructors, to one
+--                    thing. `cc` alone proves what equal constructors have in common: from x ≡ busy c ms and x ≡ busy d ns, ms ≡ ns
+--     apart          u is not v, where a test on what f gives tells them apart
+--     draft-new, fresh-new, ready-old, busy-old, joining-old, over-old    isNew of each
+--     woken-cases    P x (woken x), from P x x and P (draft c) (fresh c); woken-keeps: g (woken x) ≡ g x, where g sees these two alike
+--     freed-cases    P x (freed x), from P x x and P (fresh c) (ready c); freed-keeps: g (freed x) ≡ g x, where g sees these two alike
+--     onward-cases   P (onward c ds), from P (busy c []) and P (joining c d ds)
+-- Lists
+--     in-cases       In x (y ∷ ys): x is y, or In x ys
+--     in-none        nothing is in the empty list; in-empty: nor in one that is equal to it
+--     in-left        In x xs → In x (xs ++ ys)
+--     in-last        In x (xs ++ (x ∷ []))
+--     in-snoc        In x (xs ++ (y ∷ [])): In x xs, or x is y
+--     once-snoc      Once (xs ++ (x ∷ [])), where x is not in xs
+--     among-in, in-among, among-out    among u ms is In u ms
+-- What is left to do
+--     each-link, each-hand, each-free    what holds of each link, transfer, release in a list, holds of one that is in it. For a list that
+--                            is written out, EachLink, EachHand and EachFree are tuples that skip the other commands
+--     no-link, no-hand       there is none in a list of releases only
+--     tasks-onward           tasks (onward c ds) ≡ ds
+-- Where an item under way stands
+--     makes-at       the vertex to be made is not the item's last one: Makes
+--     splits-at      it is the last one: Splits
+-- Vertices of a state with a shape
+--     below          a vertex that is not over is below count
+--     new-below      so is a new one
+--     doer-below     so is one that has something left to do
+--     draft-of       what is known of a vertex of an item that is not split
+--     one-freer      no vertex is released by two
+use Prim.Native.Nat.{ℕ, zero, suc, _<_}
+use mathlib.Core.Path.{_≡_, refl, sym, _∙_, ap, subst}
+use mathlib.Core.Bool.{Bool, true, false}
+use mathlib.Core.Logic.{_⊎_, inl, inr, ⊎-elim}
+use mathlib.Core.List.{List, [], _∷_, _++_}
+use native.Mathlib.Nat.{lt-of-not-le}
+use native.Mathlib.Omega.{arith}
+use lib.Dec.{eqb}
+use lib.ListN.{length, drop}
+use borrow.Author.Tests.{eq-eqb, ne-eqb, eqb-true}
+use Rattle.graph.proofs.TestLaws.{equal?, either-left, either-right, either-cases, true-false, not-so}
+use Rattle.program.specs.Encodings.{Name, own-scope, made-1}
+use Rattle.program.specs.Located.{Code, end-at, job-at, async-at, finish-at, fork-at}
+use Rattle.machine.proofs.GhostMachine.Ghost.{Do, link, hand, free, Control, draft, fresh, ready, busy, joining, over, State, put, kids, onward}
+use Rattle.machine.proofs.GhostMachine.Ghost.{woken, freed, among}
+use Rattle.machine.proofs.GhostMachine.Invariant.{In, here, later, Once, tasks, tasksOf, isNew, Draft, Drafts, FreesOnly, Shape}
+
+-- a function is changed at v
+pub put-same : {A : Type 0} (f : ℕ → A) (v : ℕ) (x : A) → put f v x v ≡ x
+put-same f v x = rw (eq-eqb v v refl) refl
+
+-- and nowhere else
+pub put-other : {A : Type 0} (f : ℕ → A) (v : ℕ) (x : A) (u : ℕ) → (u ≡ v → ⊥) → put f v x u ≡ f u
+put-other f v x u ne = rw (ne-eqb u v ne) refl
+
+-- so it is as it was below v
+pub put-below : {A : Type 0} (f : ℕ → A) (v : ℕ) (x : A) (u : ℕ) → u < v → put f v x u ≡ f u
+put-below f v x u lt = put-other f v x u (λ e. absurd (omega arith))
+
+-- what holds of the new value at v and of the old ones elsewhere holds of all
+pub put-cases :
+    {A : Type 0} (P : A → Type 0) (f : ℕ → A) (v : ℕ) (x : A) (u : ℕ) → (u ≡ v → P x) → ((u ≡ v → ⊥) → P (f u))
+    → P (put f v x u)
+put-cases P f v x u at off =
+    ⊎-elim
+    (λ e. subst (λ (w : ℕ). P (put f v x w)) (sym e) (subst P (sym (put-same f v x)) (at e)))
+    (λ n. subst P (sym (put-other f v x u n)) (off n))
+    (equal? u v)
+
+-- what holds of its values and of the new one holds of all
+pub put-all : {A : Type 0} (P : A → Type 0) (f : ℕ → A) (v : ℕ) (x : A) → ((u : ℕ) → P (f u)) → P x → (u : ℕ) → P (put f v x u)
+put-all P f v x h p u = put-cases P f v x u (λ e. p) (λ n. h u)
+
+-- what is seen of the new value as it was of the old one is seen everywhere as before
+pub put-keeps :
+    {A B : Type 0} (g : A → B) (f : ℕ → A) (v : ℕ) (x : A) → g x ≡ g (f v) → (u : ℕ) → g (put f v x u) ≡ g (f u)
+put-keeps g f v x e u = put-cases (λ y. g y ≡ g (f u)) f v x u (λ q. e ∙ ap (λ (w : ℕ). g (f w)) (sym q)) (λ n. refl)
+
+-- the same of two changes
+pub puts-keep :
+    {A B : Type 0} (g : A → B) (f : ℕ → A) (n v : ℕ) (y x : A) → g y ≡ g (f n) → g x ≡ g (f v) → (u : ℕ)
+    → g (put (put f n y) v x u) ≡ g (f u)
+puts-keep g f n v y x e d u =
+    let inner = put-keeps g f n y e in put-keeps g (put f n y) v x (d ∙ sym (inner v)) u ∙ inner u
+
+-- a constructor is not another one
+pub clash : {A : Type 0} → _≡_ {A = Bool} true false → A
+clash e = true-false refl e
+
+-- two vertices that a test tells apart
+pub apart : {A : Type 0} (test : A → Bool) (f : ℕ → A) {u v : ℕ} → test (f u) ≡ true → test (f v) ≡ false → u ≡ v → ⊥
+apart test f h k e = true-false h (ap (λ w. test (f w)) e ∙ k)
+
+-- drafts and fresh vertices are new
+pub draft-new : {x : Control} {c : Code} → x ≡ draft c → isNew x ≡ true
+unfolding isNew
+draft-new h = cc
+
+pub fresh-new : {x : Control} {c : Code} → x ≡ fresh c → isNew x ≡ true
+unfolding isNew
+fresh-new h = cc
+
+-- the others are not
+pub ready-old : {x : Control} {c : Code} → x ≡ ready c → isNew x ≡ false
+unfolding isNew
+ready-old h = cc
+
+pub busy-old : {x : Control} {c : Code} {ms : List ℕ} → x ≡ busy c ms → isNew x ≡ false
+unfolding isNew
+busy-old h = cc
+
+pub joining-old : {x : Control} {c : Code} {d : Do} {ds : List Do} → x ≡ joining c d ds → isNew x ≡ false
+unfolding isNew
+joining-old h = cc
+
+pub over-old : {x : Control} → x ≡ over → isNew x ≡ false
+unfolding isNew
+over-old h = cc
+
+-- waking changes drafts only, and so whatever is seen of them
+pub woken-cases :
+    (P : Control → Control → Type 0) → ((x : Control) → P x x) → ((c : Code) → P (draft c) (fresh c)) → (x : Control) → P x (woken x)
+unfolding woken
+woken-cases P same wakes (draft c) = wakes c
+woken-cases P same wakes (fresh c) = same (fresh c)
+woken-cases P same wakes (ready c) = same (ready c)
+woken-cases P same wakes (busy c ms) = same (busy c ms)
+woken-cases P same wakes (joining c d ds) = same (joining c d ds)
+woken-cases P same wakes over = same over
+
+pub woken-keeps : {B : Type 0} (g : Control → B) → ((c : Code) → g (fresh c) ≡ g (draft c)) → (x : Control) → g (woken x) ≡ g x
+woken-keeps g e = woken-cases (λ x y. g y ≡ g x) (λ x. refl) e
+
+-- a release changes fresh vertices only
+pub freed-cases :
+    (P : Control → Control → Type 0) → ((x : Control) → P x x) → ((c : Code) → P (fresh c) (ready c)) → (x : Control) → P x (freed x)
+unfolding freed
+freed-cases P same rises (draft c) = same (draft c)
+freed-cases P same rises (fresh c) = rises c
+freed-cases P same rises (ready c) = same (ready c)
+freed-cases P same rises (busy c ms) = same (busy c ms)
+freed-cases P same rises (joining c d ds) = same (joining c d ds)
+freed-cases P same rises over = same over
+
+pub freed-keeps : {B : Type 0} (g : Control → B) → ((c : Code) → g (ready c) ≡ g (fresh c)) → (x : Control) → g (freed x) ≡ g x
+freed-keeps g e = freed-cases (λ x y. g y ≡ g x) (λ x. refl) e
+
+-- who goes on is executing: it is at an item, or has something left to do
+pub onward-cases :
+    (P : Control → Type 0) (c : Code) → P (busy c []) → ((d : Do) (ds : List Do) → P (joining c d ds)) → (ds : List Do) → P (onward c ds)
+unfolding onward
+onward-cases P c at left [] = at
+onward-cases P c at left (d ∷ ds) = left d ds
+
+-- an element is the first, or is behind it
+pub in-cases : {A P : Type 0} {x y : A} {ys : List A} → In x (y ∷ ys) → (x ≡ y → P) → (In x ys → P) → P
+in-cases here f g = f refl
+in-cases (later i) f g = g i
+
+-- nothing is in the empty list
+pub in-none : {A P : Type 0} {x : A} → In x [] → P
+in-none {P} i = go i refl
+  where
+    go : {A : Type 0} {x : A} {ys : List A} → In x ys → ys ≡ [] → P
+    go here e = clash cc
+    go (later i) e = clash cc
+
+-- nothing is in a list that is empty
+pub in-empty : {A B : Type 0} {x : A} {l : List A} → l ≡ [] → In x l → B
+in-empty {x = x} e i = in-none (subst (λ l. In x l) e i)
+
+-- what is in a list is in a longer one
+pub in-left : {A : Type 0} {x : A} {xs : List A} (ys : List A) → In x xs → In x (xs ++ ys)
+in-left ys here = here
+in-left ys (later i) = later (in-left ys i)
+
+-- the last element
+pub in-last : {A : Type 0} (x : A) (xs : List A) → In x (xs ++ (x ∷ []))
+in-last x [] = here
+in-last x (y ∷ ys) = later (in-last x ys)
+
+-- an element is the last, or is before it
+pub in-snoc : {A : Type 0} {x y : A} (xs : List A) → In x (xs ++ (y ∷ [])) → In x xs ⊎ (x ≡ y)
+in-snoc [] i = in-cases i (λ e. inr e) (λ k. in-none k)
+in-snoc (z ∷ zs) i =
+    in-cases i
+    (λ e. inl (subst (λ w. In w (z ∷ zs)) (sym e) here))
+    (λ k. ⊎-elim (λ l. inl (later l)) (λ e. inr e) (in-snoc zs k))
+
+-- no element stands twice, if the last does not
+pub once-snoc : {A : Type 0} (x : A) (xs : List A) → Once xs → (In x xs → ⊥) → Once (xs ++ (x ∷ []))
+unfolding Once
+once-snoc x [] o out = ((λ i. in-none i), tt)
+once-snoc x (y ∷ ys) o out =
+    ((λ i. ⊎-elim (o .0) (λ e. out (subst (λ w. In w (y ∷ ys)) e here)) (in-snoc ys i)), once-snoc x ys (o .1) (λ i. out (later i)))
+
+-- the test for being in a list
+pub among-in : (u : ℕ) (ms : List ℕ) → among u ms ≡ true → In u ms
+unfolding among
+among-in u [] h = clash (sym h)
+among-in u (m ∷ ms) h =
+    ⊎-elim
+    (λ e. subst (λ w. In w (m ∷ ms)) (sym (eqb-true u m e)) here)
+    (λ k. later (among-in u ms k))
+    (either-cases (eqb u m) (among u ms) h)
+
+pub in-among : {u : ℕ} {ms : List ℕ} → In u ms → among u ms ≡ true
+unfolding among
+in-among {u} (here {xs}) = either-left (among u xs) (eq-eqb u u refl)
+in-among {u} (later {y} i) = either-right (eqb u y) (in-among i)
+
+pub among-out : (u : ℕ) (ms : List ℕ) → (In u ms → ⊥) → among u ms ≡ false
+among-out u ms out = not-so (among u ms) (λ h. out (among-in u ms h))
+
+-- what holds of each link, of each transfer, of each release in a list
+unfoldable pub EachLink : (ℕ → ℕ → Type 0) → List Do → Type 0
+EachLink P [] = Unit {0}
+EachLink P (link a b ∷ ds) = P a b × EachLink P ds
+EachLink P (hand h ∷ ds) = EachLink P ds
+EachLink P (free m ∷ ds) = EachLink P ds
+
+unfoldable pub EachHand : (ℕ → Type 0) → List Do → Type 0
+EachHand P [] = Unit {0}
+EachHand P (link a b ∷ ds) = EachHand P ds
+EachHand P (hand h ∷ ds) = P h × EachHand P ds
+EachHand P (free m ∷ ds) = EachHand P ds
+
+unfoldable pub EachFree : (ℕ → Type 0) → List Do → Type 0
+EachFree P [] = Unit {0}
+EachFree P (link a b ∷ ds) = EachFree P ds
+EachFree P (hand h ∷ ds) = EachFree P ds
+EachFree P (free m ∷ ds) = P m × EachFree P ds
+
+-- holds of one that is in it
+pub each-link : {a b : ℕ} (P : ℕ → ℕ → Type 0) (ds : List Do) → EachLink P ds → In (link a b) ds → P a b
+unfolding EachLink
+each-link P [] h i = in-none i
+each-link {a} {b} P (link x y ∷ ds) h i =
+    in-cases i
+    (λ e. let at : a ≡ x = cc in let at' : b ≡ y = cc in subst (λ w. P w b) (sym at) (subst (P x) (sym at') (h .0)))
+    (λ k. each-link P ds (h .1) k)
+each-link P (hand x ∷ ds) h i = in-cases i (λ e. clash cc) (λ k. each-link P ds h k)
+each-link P (free x ∷ ds) h i = in-cases i (λ e. clash cc) (λ k. each-link P ds h k)
+
+pub each-hand : {a : ℕ} (P : ℕ → Type 0) (ds : List Do) → EachHand P ds → In (hand a) ds → P a
+unfolding EachHand
+each-hand P [] h i = in-none i
+each-hand P (link x y ∷ ds) h i = in-cases i (λ e. clash cc) (λ k. each-hand P ds h k)
+each-hand {a} P (hand x ∷ ds) h i =
+    in-cases i (λ e. let at : a ≡ x = cc in subst P (sym at) (h .0)) (λ k. each-hand P ds (h .1) k)
+each-hand P (free x ∷ ds) h i = in-cases i (λ e. clash cc) (λ k. each-hand P ds h k)
+
+pub each-free : {a : ℕ} (P : ℕ → Type 0) (ds : List Do) → EachFree P ds → In (free a) ds → P a
+unfolding EachFree
+each-free P [] h i = in-none i
+each-free P (link x y ∷ ds) h i = in-cases i (λ e. clash cc) (λ k. each-free P ds h k)
+each-free P (hand x ∷ ds) h i = in-cases i (λ e. clash cc) (λ k. each-free P ds h k)
+each-free {a} P (free x ∷ ds) h i =
+    in-cases i (λ e. let at : a ≡ x = cc in subst P (sym at) (h .0)) (λ k. each-free P ds (h .1) k)
+
+-- releases only: no link and no transfer
+pub no-link : {a b : ℕ} (ds : List Do) → FreesOnly ds → In (link a b) ds → ⊥
+unfolding FreesOnly
+no-link [] o i = in-none i
+no-link (link x y ∷ ds) o i = o
+no-link (hand x ∷ ds) o i = o
+no-link (free m ∷ ds) o i = in-cases i (λ e. clash cc) (λ k. no-link ds o k)
+
+pub no-hand : {h : ℕ} (ds : List Do) → FreesOnly ds → In (hand h) ds → ⊥
+unfolding FreesOnly
+no-hand [] o i = in-none i
+no-hand (link x y ∷ ds) o i = o
+no-hand (hand x ∷ ds) o i = o
+no-hand (free m ∷ ds) o i = in-cases i (λ e. clash cc) (λ k. no-hand ds o k)
+
+-- what a vertex has left to do after a command
+pub tasks-onward : (c : Code) (ds : List Do) → tasks (onward c ds) ≡ ds
+unfolding tasks onward
+tasks-onward c [] = refl
+tasks-onward c (d ∷ ds) = refl
+
+-- an item that has made ms makes a vertex with this code and scope next, and others behind it
+pub data Makes : Code → List ℕ → Code → Name → Type 0 where
+  finish-1 : {o : ℕ} {b r : Code} → Makes (finish-at o b r) [] r own-scope
+  fork-1 : {o : ℕ} {b c r : Code} → Makes (fork-at o b c r) [] b own-scope
+  fork-2 : {o m : ℕ} {b c r : Code} → Makes (fork-at o b c r) (m ∷ []) c own-scope
+
+-- the same of its last vertex
+pub data Splits : Code → List ℕ → Code → Name → Type 0 where
+  async-1 : {o : ℕ} {b r : Code} → Splits (async-at o b r) [] b own-scope
+  finish-2 : {o m : ℕ} {b r : Code} → Splits (finish-at o b r) (m ∷ []) b made-1
+  fork-3 : {o m m' : ℕ} {b c r : Code} → Splits (fork-at o b c r) (m ∷ m' ∷ []) r own-scope
+
+-- nothing is left of a list behind its end
+drop-none : {A : Type 0} (n : ℕ) → drop {A = A} n [] ≡ []
+drop-none zero = refl
+drop-none (suc n) = refl
+
+-- lists that are equal have the same first element
+first-is : {A : Type 0} {x y : A} {xs ys : List A} → x ∷ xs ≡ y ∷ ys → x ≡ y
+first-is e = cc
+
+pub makes-at :
+    (c : Code) (ms : List ℕ) {k : Code} {a : Name} {next : Code × Name} {more : List (Code × Name)}
+    → drop (length ms) (kids c) ≡ (k, a) ∷ (next ∷ more) → Makes c ms k a
+unfolding kids
+makes-at (end-at o) ms h = clash (cc (drop-none {A = Code × Name} (length ms)))
+makes-at (job-at o n r) ms h = clash (cc (drop-none {A = Code × Name} (length ms)))
+makes-at (async-at o b r) [] h = clash cc
+makes-at (async-at o b r) (m ∷ ms) h = clash (cc (drop-none {A = Code × Name} (length ms)))
+makes-at (finish-at o b r) [] h = subst (λ (p : Code × Name). Makes (finish-at o b r) [] (p .0) (p .1)) (first-is h) finish-1
+makes-at (finish-at o b r) (m ∷ []) h = clash cc
+makes-at (finish-at o b r) (m ∷ m' ∷ ms) h = clash (cc (drop-none {A = Code × Name} (length ms)))
+makes-at (fork-at o b c r) [] h = subst (λ (p : Code × Name). Makes (fork-at o b c r) [] (p .0) (p .1)) (first-is h) fork-1
+makes-at (fork-at o b c r) (m ∷ []) h =
+    subst (λ (p : Code × Name). Makes (fork-at o b c r) (m ∷ []) (p .0) (p .1)) (first-is h) fork-2
+makes-at (fork-at o b c r) (m ∷ m' ∷ []) h = clash cc
+makes-at (fork-at o b c r) (m ∷ m' ∷ m'' ∷ ms) h = clash (cc (drop-none {A = Code × Name} (length ms)))
+
+pub splits-at :
+    (c : Code) (ms : List ℕ) {k : Code} {a : Name} → drop (length ms) (kids c) ≡ (k, a) ∷ [] → Splits c ms k a
+unfolding kids
+splits-at (end-at o) ms h = clash (cc (drop-none {A = Code × Name} (length ms)))
+splits-at (job-at o n r) ms h = clash (cc (drop-none {A = Code × Name} (length ms)))
+splits-at (async-at o b r) [] h = subst (λ (p : Code × Name). Splits (async-at o b r) [] (p .0) (p .1)) (first-is h) async-1
+splits-at (async-at o b r) (m ∷ ms) h = clash (cc (drop-none {A = Code × Name} (length ms)))
+splits-at (finish-at o b r) [] h = clash cc
+splits-at (finish-at o b r) (m ∷ []) h =
+    subst (λ (p : Code × Name). Splits (finish-at o b r) (m ∷ []) (p .0) (p .1)) (first-is h) finish-2
+splits-at (finish-at o b r) (m ∷ m' ∷ ms) h = clash (cc (drop-none {A = Code × Name} (length ms)))
+splits-at (fork-at o b c r) [] h = clash cc
+splits-at (fork-at o b c r) (m ∷ []) h = clash cc
+splits-at (fork-at o b c r) (m ∷ m' ∷ []) h =
+    subst (λ (p : Code × Name). Splits (fork-at o b c r) (m ∷ m' ∷ []) (p .0) (p .1)) (first-is h) fork-3
+splits-at (fork-at o b c r) (m ∷ m' ∷ m'' ∷ ms) h = clash (cc (drop-none {A = Code × Name} (length ms)))
+
+-- a vertex that is not over has been made
+pub below : {S : State} → Shape S → (u : ℕ) → (S .control u ≡ over → ⊥) → u < S .count
+below sh u there = lt-of-not-le (λ le. there (sh .beyond u le))
+
+pub new-below : {S : State} → Shape S → (u : ℕ) → isNew (S .control u) ≡ true → u < S .count
+new-below sh u h = below sh u (λ o. true-false h (over-old o))
+
+-- so is one that has something left to do
+pub doer-below : {S : State} {d : Do} → Shape S → (t : ℕ) → In d (tasksOf S t) → t < S .count
+unfolding tasks
+doer-below {d = d} sh t i = below sh t (λ o. in-none (subst (λ x. In d (tasks x)) o i))
+
+-- what is known of a vertex that an item under way has made
+pub draft-of :
+    {S : State} {v m : ℕ} {all : List ℕ} (ms : List ℕ) (ks : List (Code × Name)) → Drafts S v all ms ks → In m ms
+    → (k : Code) × (a : Name) × Draft S v all m k a
+unfolding Drafts
+draft-of [] ks h i = in-none i
+draft-of (x ∷ ms) [] h i = absurd h
+draft-of {S} {v} {all = all} (x ∷ ms) (k ∷ ks) h i =
+    in-cases i
+    (λ e. (k .0, k .1, subst (λ w. Draft S v all w (k .0) (k .1)) (sym e) (h .0)))
+    (λ j. draft-of ms ks (h .1) j)
+
+-- no vertex is released by two
+pub one-freer : {S : State} → Shape S → (m t t' : ℕ) → In (free m) (tasksOf S t) → In (free m) (tasksOf S t') → t ≡ t'
+one-freer sh m t t' i j = sym (sh .todo-fits t .frees m i .1) ∙ sh .todo-fits t' .frees m j .1

@@ -1,0 +1,380 @@
+-- Edges, held or planned, lead from lower ranks to higher ones, and every move leaves it so. Ranks never change. A vertex that is made
+-- has the rank of its code, which stands right inside that of its maker: behind what its siblings of lower rank do, and before the scope.
+use Prim.Native.Nat.{ℕ, _<_, _≤_}
+use mathlib.Core.Path.{_≡_, refl, sym, _∙_, ap, subst}
+use mathlib.Core.Bool.{Bool, true}
+use mathlib.Core.Logic.{_⊎_, inl, inr, ⊎-elim}
+use mathlib.Core.List.{List, [], _∷_, _++_}
+use mathlib.Core.Option.{some, Option·some-injective}
+use native.Mathlib.Omega.{arith}
+use Rattle.graph.proofs.TestLaws.{equal?, true-false}
+use Rattle.program.specs.Encodings.{Name}
+use Rattle.program.specs.Located.{Code, job-at, startOf, last}
+use Rattle.program.proofs.LocatedLaws.{Laid, laid-le, code-laid, code-inner}
+use Rattle.machine.proofs.GhostMachine.Ghost.{Do, link, hand, free, Control, draft, fresh, busy, over, State, put, kids, goes, resolved, todo}
+use Rattle.machine.proofs.GhostMachine.Ghost.{onward, withControl, withEdges, grown, split, done, Event, Move, begins, performs, stops, makes}
+use Rattle.machine.proofs.GhostMachine.Ghost.{splits, acts, stirred}
+use Rattle.machine.proofs.GhostMachine.Invariant.{In, here, tasks, tasksOf, codeOf, isItem, Drafts, Shape, HasItem, Ranks, Coded}
+use Rattle.machine.proofs.GhostMachine.GhostLaws.{put-same, put-other, clash, draft-new, fresh-new, tasks-onward, Makes, finish-1, fork-1, fork-2}
+use Rattle.machine.proofs.GhostMachine.GhostLaws.{Splits, async-1, finish-2, fork-3, makes-at, splits-at, below, new-below, doer-below, put-keeps}
+use Rattle.machine.proofs.GhostMachine.GhostLaws.{puts-keep, put-below}
+use Rattle.machine.proofs.GhostMachine.ShapeMakes.{makes-scope, splits-scope}
+use Rattle.machine.proofs.GhostMachine.RoadLaws.{code-onward, linked-cases, handed-cases, dropped-edge, over-idle, busy-code, busy-below}
+use Rattle.machine.proofs.GhostMachine.SettledLaws.{acts-did, acts-keeps, task-stood, plan-cases}
+use Rattle.machine.proofs.GhostMachine.SplitLaws.{split-of, split-codes, todo-async, todo-finish, todo-fork, async-links, async-hands}
+use Rattle.machine.proofs.GhostMachine.SplitLaws.{finish-links, finish-hands, fork-links, fork-hands}
+use Rattle.machine.proofs.GhostMachine.CodedKept.{makes-inner, splits-inner}
+
+-- u, which has an item now, had an item of a body that ends at the same place
+abbrev Had : State → ℕ → Code → Type 0
+Had S u c = (c' : Code) × HasItem S u c' × (last c' ≡ last c)
+
+-- no new vertex: edges by rank, nothing more to do, and items that end where they did
+still :
+    (S : State) (f : ℕ → Control) (e : ℕ → ℕ → Bool) → Ranks S → ((a b : ℕ) → e a b ≡ true → S .fin a < S .rank b)
+    → ((t : ℕ) (d : Do) → In d (tasks (f t)) → In d (tasksOf S t))
+    → ((u : ℕ) (c : Code) → codeOf (f u) ≡ some c → isItem c ≡ true → Had S u c) → Ranks (withEdges (withControl S f) e)
+still S f e rk edges less items =
+    record {
+      rank-le = rk .rank-le;
+      edge-rank = edges;
+      link-rank = λ t a b i. rk .link-rank t a b (less t (link a b) i);
+      hand-rank = λ t h i. rk .hand-rank t h (less t (hand h) i);
+      scope-rank = λ u c h. let (c', h', e) = items u c (h .0) (h .1) in rk .scope-rank u c' h';
+      code-fin = λ u c h. let (c', h', e) = items u c (h .0) (h .1) in sym e ∙ rk .code-fin u c' h';
+    }
+
+-- the ends of what is to do are made
+draft-below : {S : State} {c : Code} → Shape S → (m : ℕ) → S .control m ≡ draft c → m < S .count
+draft-below sh m q = new-below sh m (draft-new q)
+
+freed-below : {S : State} → Shape S → (t m : ℕ) → In (free m) (tasksOf S t) → m < S .count
+freed-below sh t m i = new-below sh m (fresh-new (sh .todo-fits t .frees m i .0 .1))
+
+pub link-below : {S : State} → Shape S → (t a b : ℕ) → In (link a b) (tasksOf S t) → (a < S .count) × (b < S .count)
+link-below {S} sh t a b i = (
+  freed-below sh t a (sh .todo-fits t .link-from a b i),
+  ⊎-elim
+      (λ j. freed-below sh t b j)
+      (λ e. subst (λ (z : ℕ). z < S .count) (sym e) (sh .scope-within t (doer-below sh t i)))
+      (sh .todo-fits t .link-to a b i),
+)
+
+-- a vertex with code is made
+none-some : {x : Control} {c : Code} → x ≡ over → codeOf x ≡ some c → ⊥
+unfolding codeOf
+none-some e h = clash cc
+
+coded-below : {S : State} {c : Code} → Shape S → (u : ℕ) → codeOf (S .control u) ≡ some c → u < S .count
+coded-below sh u h = below sh u (λ o. none-some o h)
+
+-- what holds of old vertices holds with one more
+lt-old : (g h : ℕ → ℕ) (n x y a b : ℕ) → a < n → b < n → g a < h b → put g n x a < put h n y b
+lt-old g h n x y a b p q r = rw (put-below g n x a p, put-below h n y b q) r
+
+le-old : (g h : ℕ → ℕ) (n x y a b : ℕ) → a < n → b < n → g a ≤ h b → put g n x a ≤ put h n y b
+le-old g h n x y a b p q r = rw (put-below g n x a p, put-below h n y b q) r
+
+-- One new vertex, with the code k and a scope σ behind it: what is to do goes by rank, and an item is of k or ends where an item did.
+grown-ranks :
+    (S : State) (v : ℕ) (y : Control) (σ : ℕ) (k : Code) (f : ℕ → Control) → Shape S → Ranks S → startOf k ≤ last k → σ < S .count
+    → last k < S .rank σ
+    → ((t a b : ℕ) → In (link a b) (tasks (f t))
+    → In (link a b) (tasksOf S t) ⊎ (put (S .fin) (S .count) (last k) a < put (S .rank) (S .count) (startOf k) b))
+    → ((t h : ℕ) → In (hand h) (tasks (f t))
+    → In (hand h) (tasksOf S t) ⊎ (put (S .fin) (S .count) (last k) h ≤ put (S .fin) (S .count) (last k) t))
+    → ((u : ℕ) (c : Code) → codeOf (f u) ≡ some c → isItem c ≡ true → ((u ≡ S .count) × (c ≡ k)) ⊎ Had S u c)
+    → Ranks (withControl (grown S v y σ (startOf k) (last k)) f)
+grown-ranks S v y σ k f sh rk le below behind links hands items =
+    record {
+      rank-le =
+          λ u h.
+          ⊎-elim
+          (λ e. rw e (rw (put-same (S .rank) n (startOf k), put-same (S .fin) n (last k)) le))
+          (λ ne. let lt : u < n = omega arith in le-old (S .rank) (S .fin) n (startOf k) (last k) u u lt lt (rk .rank-le u lt))
+          (equal? u n);
+      edge-rank =
+          λ a b e.
+          let (p, q) = sh .within a b e in lt-old (S .fin) (S .rank) n (last k) (startOf k) a b p q (rk .edge-rank a b e);
+      link-rank =
+          λ t a b i.
+          ⊎-elim
+          (λ j.
+          let (p, q) = link-below sh t a b j in lt-old (S .fin) (S .rank) n (last k) (startOf k) a b p q (rk .link-rank t a b j))
+          (λ h. h)
+          (links t a b i);
+      hand-rank =
+          λ t h i.
+          ⊎-elim
+          (λ j.
+          let p = freed-below sh t h (sh .todo-fits t .hand-to h j) in
+          le-old (S .fin) (S .fin) n (last k) (last k) h t p (doer-below sh t j) (rk .hand-rank t h j))
+          (λ h. h)
+          (hands t h i);
+      scope-rank =
+          λ u c h.
+          ⊎-elim
+          (λ e. rw (e .0) (rw (put-same (S .fin) n (last k), put-same (S .scope) n σ, put-below (S .rank) n (startOf k) σ below) behind))
+          (λ had.
+          let (c', h', e) = had in
+          let lt = coded-below sh u (h' .0) in
+          rw (put-below (S .scope) n σ u lt)
+          (lt-old (S .fin) (S .rank) n (last k) (startOf k) u (S .scope u) lt (sh .scope-within u lt) (rk .scope-rank u c' h')))
+          (items u c (h .0) (h .1));
+      code-fin =
+          λ u c h.
+          ⊎-elim
+          (λ e. ap last (e .1) ∙ rw (e .0) (sym (put-same (S .fin) n (last k))))
+          (λ had.
+          let (c', h', e) = had in
+          sym e ∙ rk .code-fin u c' h' ∙ sym (put-below (S .fin) n (last k) u (coded-below sh u (h' .0))))
+          (items u c (h .0) (h .1));
+    }
+  where
+    n : ℕ
+    n = S .count
+
+-- the item that v has under way
+under-way-item :
+    {x : Control} {c : Code} {ms : List ℕ} → x ≡ busy c ms → isItem c ≡ true → (codeOf x ≡ some c) × (isItem c ≡ true)
+under-way-item q m = (busy-code q, m)
+
+-- The scope of a vertex that is made stands behind its code: it is the scope of its maker, or the vertex for the rest of a finish.
+makes-behind :
+    {S : State} {v : ℕ} {c k : Code} {ms : List ℕ} {a : Name} → Ranks S → S .control v ≡ busy c ms → Laid c → Makes c ms k a
+    → last k < S .rank (resolved (S .scope v) ms a)
+unfolding resolved Laid last isItem
+makes-behind {v = v} rk q l finish-1 = omega (arith, rk .scope-rank v _ (under-way-item q refl), rk .code-fin v _ (under-way-item q refl))
+makes-behind {v = v} rk q l fork-1 =
+    let e = rk .code-fin v _ (under-way-item q refl) in
+    omega (arith, rk .scope-rank v _ (under-way-item q refl), e, l .0 .between, l .0 .right, l .0 .ends, l .0 .rest)
+makes-behind {v = v} rk q l fork-2 =
+    let e = rk .code-fin v _ (under-way-item q refl) in
+    omega (arith, rk .scope-rank v _ (under-way-item q refl), e, l .0 .ends, l .0 .rest)
+
+splits-behind :
+    {S : State} {v : ℕ} {c k : Code} {ms : List ℕ} {a : Name} → Shape S → Ranks S → S .control v ≡ busy c ms → Laid c → Splits c ms k a
+    → last k < S .rank (resolved (S .scope v) ms a)
+unfolding resolved Laid last isItem Drafts kids
+splits-behind {v = v} sh rk q l async-1 =
+    let e = rk .code-fin v _ (under-way-item q refl) in
+    omega (arith, rk .scope-rank v _ (under-way-item q refl), e, l .0 .ends, l .0 .rest)
+splits-behind {v = v} sh rk q l finish-2 = let made = sh .under-way v _ _ q .0 .0 in omega (arith, made .rank-is, l .0 .ends)
+splits-behind {v = v} sh rk q l fork-3 =
+    omega (arith, rk .scope-rank v _ (under-way-item q refl), rk .code-fin v _ (under-way-item q refl))
+
+-- an item that makes vertices is an item
+makes-item : {c k : Code} {ms : List ℕ} {a : Name} → Makes c ms k a → isItem c ≡ true
+unfolding isItem
+makes-item finish-1 = refl
+makes-item fork-1 = refl
+makes-item fork-2 = refl
+
+splits-item : {c k : Code} {ms : List ℕ} {a : Name} → Splits c ms k a → isItem c ≡ true
+unfolding isItem
+splits-item async-1 = refl
+splits-item finish-2 = refl
+splits-item fork-3 = refl
+
+-- an edge from the new vertex to an old one, and from an old one to the new one
+lt-from : (g h : ℕ → ℕ) (n x y a b s : ℕ) → a ≡ n → b ≡ s → s < n → x < h s → put g n x a < put h n y b
+lt-from g h n x y a b s p q below lt = rw (p, q) (rw (put-same g n x, put-below h n y s below) lt)
+
+lt-to : (g h : ℕ → ℕ) (n x y a b m : ℕ) → a ≡ m → b ≡ n → m < n → g m < y → put g n x a < put h n y b
+lt-to g h n x y a b m p q below lt = rw (p, q) (rw (put-same h n y, put-below g n x m below) lt)
+
+-- edges handed to an old vertex, and to the new one
+le-of : (g : ℕ → ℕ) (n x a t m v : ℕ) → a ≡ m → t ≡ v → m < n → v < n → g m ≤ g v → put g n x a ≤ put g n x t
+le-of g n x a t m v p q below below' le = rw (p, q) (le-old g g n x x m v below below' le)
+
+le-from : (g : ℕ → ℕ) (n x a t v : ℕ) → a ≡ n → t ≡ v → v < n → x ≤ g v → put g n x a ≤ put g n x t
+le-from g n x a t v p q below le = rw (p, q) (rw (put-same g n x, put-below g n x v below) le)
+
+-- the code that v goes to at a split, if it has an item, ends where v's did
+goes-last :
+    (L : ℕ) {c k c' : Code} {ms : List ℕ} {a : Name} → Splits c ms k a → goes L c ≡ c' → isItem c' ≡ true → last c ≡ last c'
+unfolding goes last isItem
+goes-last L async-1 e i = ap last e
+goes-last L finish-2 e i = true-false i (ap isItem (sym e))
+goes-last L fork-3 e i = true-false i (ap isItem (sym e))
+
+-- what an item plans goes by rank
+plans-rank :
+    {S : State} {v : ℕ} {c k : Code} {ms : List ℕ} {a : Name} → Shape S → Ranks S → S .control v ≡ busy c ms → Laid c → Splits c ms k a
+    → ((x y : ℕ) → In (link x y) (todo (S .scope v) (ms ++ (S .count ∷ [])) c)
+    → put (S .fin) (S .count) (last k) x < put (S .rank) (S .count) (startOf k) y)
+    × ((h : ℕ) → In (hand h) (todo (S .scope v) (ms ++ (S .count ∷ [])) c)
+    → put (S .fin) (S .count) (last k) h ≤ put (S .fin) (S .count) (last k) v)
+unfolding Laid last resolved isItem Drafts kids
+plans-rank {S} {v} sh rk q l (async-1 {o = o} {b = b} {r = r}) =
+    let e = todo-async o b r (S .scope v) (S .count) in
+    let below = splits-scope sh q async-1 in
+    let lt = splits-behind sh rk q l async-1 in (
+      λ x y i. let (p, q) = async-links (subst (λ ds. In (link x y) ds) e i) in lt-from (S .fin) (S .rank) _ _ _ x y _ p q below lt,
+      λ h i. absurd (async-hands (subst (λ ds. In (hand h) ds) e i)),
+    )
+plans-rank {S} {v} sh rk q l (finish-2 {o = o} {m = m} {b = b} {r = r}) =
+    let e = todo-finish o b r (S .scope v) m (S .count) in
+    let below = splits-scope sh q finish-2 in
+    let lt = splits-behind sh rk q l finish-2 in
+    let made = sh .under-way v _ _ q .0 .0 in
+    let at : last r ≡ S .fin v = rk .code-fin v _ (under-way-item q refl) in
+    let le : S .fin m ≤ S .fin v = omega (arith, made .fin-is) in (
+      λ x y i. let (p, q) = finish-links (subst (λ ds. In (link x y) ds) e i) in lt-from (S .fin) (S .rank) _ _ _ x y _ p q below lt,
+      λ h i.
+          let p = finish-hands (subst (λ ds. In (hand h) ds) e i) in
+          le-of (S .fin) _ _ h v m v p refl below (busy-below sh v q) le,
+    )
+plans-rank {S} {v} sh rk q l (fork-3 {o = o} {m = m} {m' = m'} {b = b} {c = c} {r = r}) =
+    let e = todo-fork o b c r (S .scope v) m m' (S .count) in
+    let left = sh .under-way v _ _ q .0 .0 in
+    let right = sh .under-way v _ _ q .0 .1 .0 in
+    let lt : S .fin m < startOf r = omega (arith, left .fin-is, l .0 .between, l .0 .right, l .0 .ends) in
+    let lt' : S .fin m' < startOf r = omega (arith, right .fin-is, l .0 .ends) in
+    let at : last r ≡ S .fin v = rk .code-fin v _ (under-way-item q refl) in
+    let le : last r ≤ S .fin v = omega arith in (
+      λ x y i.
+          let (p, q) = fork-links (subst (λ ds. In (link x y) ds) e i) in
+          ⊎-elim
+          (λ p. lt-to (S .fin) (S .rank) _ _ _ x y m p q (draft-below sh m (left .is-draft)) lt)
+          (λ p. lt-to (S .fin) (S .rank) _ _ _ x y m' p q (draft-below sh m' (right .is-draft)) lt')
+          p,
+      λ h i.
+          let p = fork-hands (subst (λ ds. In (hand h) ds) e i) in
+          le-from (S .fin) _ _ h v v p refl (busy-below sh v q) le,
+    )
+
+-- one vertex more at n, and v comes to x: whose code it is
+code-at-self :
+    (g : ℕ → Control) (n v u : ℕ) (y x : Control) {c d : Code} → codeOf x ≡ some c → u ≡ v
+    → codeOf (put (put g n y) v x u) ≡ some d → c ≡ d
+code-at-self g n v u y x {c} {d} q e h =
+    Option·some-injective c d
+    (sym q ∙ ap codeOf (sym (put-same (put g n y) v x)) ∙ sym (ap (λ (z : ℕ). codeOf (put (put g n y) v x z)) e) ∙ h)
+
+code-at-new :
+    (g : ℕ → Control) (n v u : ℕ) (y x : Control) {k d : Code} → codeOf y ≡ some k → v < n → u ≡ n
+    → codeOf (put (put g n y) v x u) ≡ some d → d ≡ k
+code-at-new g n v u y x {k} {d} q lt e h =
+    let at : put (put g n y) v x n ≡ y = put-other (put g n y) v x n (λ e. absurd (omega arith)) ∙ put-same g n y in
+    Option·some-injective d k (sym h ∙ ap (λ (z : ℕ). codeOf (put (put g n y) v x z)) e ∙ ap codeOf at ∙ q)
+
+-- the split of an item
+splits-ranks :
+    (L : ℕ) {S : State} {v : ℕ} {c k : Code} {ms : List ℕ} {a : Name} → Shape S → Ranks S → S .control v ≡ busy c ms → Laid c
+    → startOf k ≤ last k → Splits c ms k a
+    → Ranks (split S v ms (onward (goes L c) (todo (S .scope v) (ms ++ (S .count ∷ [])) c)) k a)
+unfolding codeOf
+splits-ranks L {S} {v} {c} {k} {ms} {a} sh rk q l le m =
+    let f = stirred (S .control) ms in
+    let n = S .count in
+    let ds = todo (S .scope v) (ms ++ (n ∷ [])) c in
+    let x = onward (goes L c) ds in
+    let plans = split-of L x k a ds sh q (tasks-onward (goes L c) ds) (code-onward (goes L c) ds) .plans in
+    let below = splits-scope sh q m in
+    let behind = splits-behind sh rk q l m in
+    let (links, hands) = plans-rank sh rk q l m in
+    grown-ranks S v (fresh k) (resolved (S .scope v) ms a) k _ sh rk le below behind
+    (λ t x y i. plan-cases plans t i (λ e j. inr (links x y j)) (λ ne j. inl j))
+    (λ t h i. plan-cases plans t i (λ e j. inr (rw e (hands h j))) (λ ne j. inl j))
+    (λ u d h i.
+    ⊎-elim
+    (λ e. inl (e, code-at-new f n v u (fresh k) x refl (busy-below sh v q) e h))
+    (λ nc.
+    ⊎-elim
+    (λ e.
+    let same = code-at-self f n v u (fresh k) x (code-onward (goes L c) ds) e h in
+    inr (rw e (c, under-way-item q (splits-item m), goes-last L m same i)))
+    (λ nv. inr (d, (sym (split-codes (S .control) ms n v k x u nv nc) ∙ h, i), refl))
+    (equal? u v))
+    (equal? u n))
+
+-- a make that does not split
+makes-ranks :
+    {S : State} {v : ℕ} {c k : Code} {ms : List ℕ} {a : Name} (ms' : List ℕ) → Shape S → Ranks S
+    → S .control v ≡ busy c ms → Laid c → startOf k ≤ last k → Makes c ms k a
+    → Ranks
+    (withControl (grown S v (draft k) (resolved (S .scope v) ms a) (startOf k) (last k))
+    (put (put (S .control) (S .count) (draft k)) v (busy c ms')))
+unfolding tasks codeOf
+makes-ranks {S} {v} {c} {k} {ms} {a} ms' sh rk q l le m =
+    let below = makes-scope sh q m in
+    let behind = makes-behind rk q l m in
+    let f = S .control in
+    let n = S .count in
+    let task = puts-keep tasks f n v (draft k) (busy c ms') (sym (over-idle (sh .beyond n (omega arith)))) (sym (ap tasks q)) in
+    grown-ranks S v (draft k) (resolved (S .scope v) ms a) k _ sh rk le below behind
+    (λ t x y i. inl (subst (λ ds. In (link x y) ds) (task t) i))
+    (λ t h i. inl (subst (λ ds. In (hand h) ds) (task t) i))
+    (λ u d h i.
+    ⊎-elim
+    (λ e. inl (e, code-at-new f n v u (draft k) (busy c ms') refl (busy-below sh v q) e h))
+    (λ nc.
+    ⊎-elim
+    (λ e. inr (rw e (c, under-way-item q (makes-item m), ap last (code-at-self f n v u (draft k) (busy c ms') refl e h))))
+    (λ nv.
+    let same = put-other (put f n (draft k)) v (busy c ms') u nv ∙ put-other f n (draft k) u nc in
+    inr (d, (sym (ap codeOf same) ∙ h, i), refl))
+    (equal? u v))
+    (equal? u n))
+
+-- a control changed at v: the code of the others
+code-put : (f : ℕ → Control) (v u : ℕ) (x : Control) {d : Code} → (u ≡ v → ⊥) → codeOf (put f v x u) ≡ some d → codeOf (f u) ≡ some d
+code-put f v u x ne h = sym (ap codeOf (put-other f v x u ne)) ∙ h
+
+-- every move leaves the ranks; p is the program
+pub ranks-kept :
+    {L v : ℕ} {S S' : State} {e : Event} (p : Code) → Laid p → Shape S → Ranks S → Coded p S → Move L S v e S' → Ranks S'
+unfolding tasks codeOf isItem last done
+ranks-kept {v = v} {S = S} p l sh rk cd (begins {c = c} q f) =
+    still S _ (S .edge) rk (rk .edge-rank)
+    (λ t d. subst (λ ds. In d ds) (put-keeps tasks (S .control) v (busy c []) (sym (ap tasks q)) t))
+    (λ u d h i. (d, (sym (put-keeps codeOf (S .control) v (busy c []) (sym (ap codeOf q)) u) ∙ h, i), refl))
+ranks-kept {v = v} {S = S} p l sh rk cd (performs {o = o} {n = n} {r = r} q) =
+    still S _ (S .edge) rk (rk .edge-rank)
+    (λ t d. subst (λ ds. In d ds) (put-keeps tasks (S .control) v (busy r []) (sym (ap tasks q)) t))
+    (λ u d h i.
+    ⊎-elim
+    (λ e.
+    let same = sym (put-same (S .control) v (busy r [])) ∙ sym (ap (put (S .control) v (busy r [])) e) in
+    rw e (job-at o n r, (ap codeOf q, refl), ap last (Option·some-injective r d (ap codeOf same ∙ h))))
+    (λ ne. (d, (code-put (S .control) v u (busy r []) ne h, i), refl))
+    (equal? u v))
+ranks-kept {v = v} {S = S} p l sh rk cd (stops q) =
+    still S _ _ rk (λ a b e. rk .edge-rank a b (dropped-edge (S .edge) v a b e))
+    (λ t d. subst (λ ds. In d ds) (put-keeps tasks (S .control) v over (sym (ap tasks q)) t))
+    (λ u d h i.
+    ⊎-elim
+    (λ e. absurd (none-some (ap (put (S .control) v over) e ∙ put-same (S .control) v over) h))
+    (λ ne. (d, (code-put (S .control) v u over ne h, i), refl))
+    (equal? u v))
+ranks-kept {v = v} {S = S} p l sh rk cd (makes {c = c} {ms = ms} q w) =
+    let m = makes-at c ms w in
+    let at = cd v c (ap codeOf q) in
+    makes-ranks _ sh rk q (code-laid p _ l at) (laid-le _ (code-laid p _ l (code-inner p _ l at (makes-inner m)))) m
+ranks-kept {L = L} {v = v} {S = S} p l sh rk cd (splits {c = c} {ms = ms} q w) =
+    let m = splits-at c ms w in
+    let at = cd v c (ap codeOf q) in
+    splits-ranks L sh rk q (code-laid p _ l at) (laid-le _ (code-laid p _ l (code-inner p _ l at (splits-inner m)))) m
+ranks-kept {v = v} {S = S} p l sh rk cd (acts {c = c} {d = link a b} {ds = ds} q) =
+    let D = acts-did {S = S} {v = v} q in
+    still S _ _ rk
+    (λ x y e.
+    linked-cases (S .edge) a b x y e (rk .edge-rank x y)
+    (λ i j. rw (i, j) (rk .link-rank v a b (subst (λ ds. In (link a b) ds) (sym (ap tasks q)) here))))
+    (λ t d. task-stood D t)
+    (λ u d h i. (d, (sym (acts-keeps S v codeOf (λ c. refl) (code-onward c ds) q u) ∙ h, i), refl))
+ranks-kept {v = v} {S = S} p l sh rk cd (acts {c = c} {d = hand h} {ds = ds} q) =
+    let D = acts-did {S = S} {v = v} q in
+    let le = rk .hand-rank v h (subst (λ ds. In (hand h) ds) (sym (ap tasks q)) here) in
+    still S _ _ rk
+    (λ x y e.
+    handed-cases (S .edge) v h x y e (λ e ne. rk .edge-rank x y e)
+    (λ i e. rw i (omega (arith, le, rk .edge-rank v y e))))
+    (λ t d. task-stood D t)
+    (λ u d h i. (d, (sym (acts-keeps S v codeOf (λ c. refl) (code-onward c ds) q u) ∙ h, i), refl))
+ranks-kept {v = v} {S = S} p l sh rk cd (acts {c = c} {d = free m} {ds = ds} q) =
+    let D = acts-did {S = S} {v = v} q in
+    still S _ (S .edge) rk (rk .edge-rank)
+    (λ t d. task-stood D t)
+    (λ u d h i. (d, (sym (acts-keeps S v codeOf (λ c. refl) (code-onward c ds) q u) ∙ h, i), refl))

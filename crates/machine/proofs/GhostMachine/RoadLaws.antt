@@ -1,0 +1,105 @@
+-- More laws of the parts that states and moves are made of: what is seen of a control, and of what it becomes, and edges with one more,
+-- handed on, or dropped.
+use Prim.Native.Nat.{ℕ, _<_}
+use mathlib.Core.Path.{_≡_, refl, sym, _∙_, ap}
+use mathlib.Core.Bool.{Bool, true, false}
+use mathlib.Core.Logic.{⊎-elim}
+use mathlib.Core.List.{List, []}
+use mathlib.Core.Option.{some}
+use borrow.Author.Tests.{eq-eqb, ne-eqb, eqb-true, eqb-false, not-true}
+use Rattle.graph.proofs.TestLaws.{not-of-false, both-true, both-left, both-right, either-left, either-right, either-cases}
+use Rattle.program.specs.Located.{Code}
+use Rattle.machine.proofs.GhostMachine.Ghost.{Do, link, hand, free, Control, draft, fresh, ready, busy, over, State, onward, freed, done}
+use Rattle.machine.proofs.GhostMachine.Ghost.{linked, handed, dropped}
+use Rattle.machine.proofs.GhostMachine.Invariant.{tasks, codeOf, waits, isDraft, Shape}
+use Rattle.machine.proofs.GhostMachine.GhostLaws.{clash, below, put-keeps, freed-keeps, onward-cases}
+
+-- what is seen of controls
+pub fresh-idle : {x : Control} {c : Code} → x ≡ fresh c → tasks x ≡ []
+unfolding tasks
+fresh-idle e = ap tasks e
+
+pub over-idle : {x : Control} → x ≡ over → tasks x ≡ []
+unfolding tasks
+over-idle e = ap tasks e
+
+pub busy-code : {x : Control} {c : Code} {ms : List ℕ} → x ≡ busy c ms → codeOf x ≡ some c
+unfolding codeOf
+busy-code e = ap codeOf e
+
+pub busy-waits : {x : Control} {c : Code} {ms : List ℕ} → x ≡ busy c ms → waits x ≡ false
+unfolding waits
+busy-waits e = ap waits e
+
+pub draft-waits : {x : Control} {c : Code} → x ≡ draft c → waits x ≡ true
+unfolding waits
+draft-waits e = ap waits e
+
+pub over-waits : {x : Control} → x ≡ over → waits x ≡ false
+unfolding waits
+over-waits e = ap waits e
+
+pub busy-draft : {x : Control} {c : Code} {ms : List ℕ} → x ≡ busy c ms → isDraft x ≡ false
+unfolding isDraft
+busy-draft e = ap isDraft e
+
+-- a vertex that executes has been made
+pub busy-below : {S : State} {c : Code} {ms : List ℕ} → Shape S → (v : ℕ) → S .control v ≡ busy c ms → v < S .count
+busy-below sh v q = below sh v (λ o. let z = sym q ∙ o in clash cc)
+
+-- an edge besides those that were there: it is old, or it is that one
+pub linked-cases :
+    {P : Type 0} (e : ℕ → ℕ → Bool) (a b x y : ℕ) → linked e a b x y ≡ true → (e x y ≡ true → P) → (x ≡ a → y ≡ b → P) → P
+linked-cases e a b x y h f g =
+    ⊎-elim f (λ q. g (eqb-true x a (both-left _ _ q)) (eqb-true y b (both-right _ _ q))) (either-cases _ _ h)
+
+pub linked-old : (e : ℕ → ℕ → Bool) (a b x y : ℕ) → e x y ≡ true → linked e a b x y ≡ true
+linked-old e a b x y h = either-left _ h
+
+pub linked-new : (e : ℕ → ℕ → Bool) (a b : ℕ) → linked e a b a b ≡ true
+linked-new e a b = either-right (e a b) (both-true (eq-eqb a a refl) (eq-eqb b b refl))
+
+-- edges out of v given to h: an edge is out of another vertex and old, or it is one of h, and was one of v
+pub handed-cases :
+    {P : Type 0} (e : ℕ → ℕ → Bool) (v h x y : ℕ) → handed e v h x y ≡ true → (e x y ≡ true → (x ≡ v → ⊥) → P)
+    → (x ≡ h → e v y ≡ true → P) → P
+handed-cases e v h x y q f g =
+    ⊎-elim
+    (λ q. f (both-left _ _ q) (eqb-false x v (not-true _ (both-right _ _ q))))
+    (λ q. g (eqb-true x h (both-left _ _ q)) (both-right _ _ q))
+    (either-cases _ _ q)
+
+pub handed-old : (e : ℕ → ℕ → Bool) (v h x y : ℕ) → e x y ≡ true → (x ≡ v → ⊥) → handed e v h x y ≡ true
+handed-old e v h x y q n = either-left _ (both-true q (not-of-false (ne-eqb x v n)))
+
+pub handed-new : (e : ℕ → ℕ → Bool) (v h y : ℕ) → e v y ≡ true → handed e v h h y ≡ true
+handed-new e v h y q = either-right _ (both-true (eq-eqb h h refl) q)
+
+-- edges but for those out of v
+pub dropped-edge : (e : ℕ → ℕ → Bool) (v x y : ℕ) → dropped e v x y ≡ true → e x y ≡ true
+dropped-edge e v x y q = both-left _ _ q
+
+pub dropped-old : (e : ℕ → ℕ → Bool) (v x y : ℕ) → e x y ≡ true → (x ≡ v → ⊥) → dropped e v x y ≡ true
+dropped-old e v x y q n = both-true q (not-of-false (ne-eqb x v n))
+
+-- what is seen of a vertex behind a split
+pub code-onward : (c : Code) (ds : List Do) → codeOf (onward c ds) ≡ some c
+unfolding codeOf
+code-onward c = onward-cases (λ x. codeOf x ≡ some c) c refl (λ d ds. refl)
+
+pub waits-onward : (c : Code) (ds : List Do) → waits (onward c ds) ≡ false
+unfolding waits
+waits-onward c = onward-cases (λ x. waits x ≡ false) c refl (λ d ds. refl)
+
+pub draft-onward : (c : Code) (ds : List Do) → isDraft (onward c ds) ≡ false
+unfolding isDraft
+draft-onward c = onward-cases (λ x. isDraft x ≡ false) c refl (λ d ds. refl)
+
+-- a joining command leaves what is seen of controls, where a fresh and a released vertex are seen alike
+pub done-keeps :
+    {B : Type 0} (g : Control → B) → ((c : Code) → g (ready c) ≡ g (fresh c)) → (S : State) (v : ℕ) (d : Do) (u : ℕ)
+    → g (done S v d .control u) ≡ g (S .control u)
+unfolding done
+done-keeps g e S v (link a b) u = refl
+done-keeps g e S v (hand k) u = refl
+done-keeps g e S v (free m) u = put-keeps g (S .control) m (freed (S .control m)) (freed-keeps g e (S .control m)) u

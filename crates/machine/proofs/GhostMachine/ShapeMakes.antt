@@ -1,0 +1,563 @@
+-- Moves that make a vertex keep the shape. A vertex is made behind all others, so no edge and no task names it. Where it is not its item's
+-- last one, it is a draft like those before. With the last one the item is split: all of its vertices are fresh from then on, and what is
+-- left to do of the item is known. This list is looked at for each kind of item.
+use Prim.Native.Nat.{ℕ, _<_}
+use mathlib.Core.Path.{_≡_, refl, sym, _∙_, ap, subst}
+use mathlib.Core.Bool.{true, false}
+use mathlib.Core.Logic.{_⊎_, inl, inr, ⊎-elim}
+use mathlib.Core.List.{List, [], _∷_, _++_}
+use native.Mathlib.Omega.{arith}
+use Rattle.graph.proofs.TestLaws.{decide, equal?, true-false, not-so}
+use Rattle.program.specs.Encodings.{Name, own-scope, made-1, firstEdition}
+use Rattle.program.specs.Located.{Code, startOf, last}
+use Rattle.machine.proofs.GhostMachine.Ghost.{Do, link, hand, free, Control, draft, fresh, busy, State, put, kids, onward, goes, todo, joins}
+use Rattle.machine.proofs.GhostMachine.Ghost.{commandsOf, kindOf, resolved, woken, among, grown, withControl, oneMore, split, stirred}
+use Rattle.machine.proofs.GhostMachine.Invariant.{In, here, later, Precedes, first, behind, Once, tasks, tasksOf, isNew, Draft, Drafts, FreesOnly}
+use Rattle.machine.proofs.GhostMachine.Invariant.{Ordered, Fits, Shape}
+use Rattle.machine.proofs.GhostMachine.GhostLaws.{put-same, put-other, put-cases, clash, apart, draft-new, fresh-new, busy-old, in-cases, in-none}
+use Rattle.machine.proofs.GhostMachine.GhostLaws.{in-left, in-last, once-snoc, among-in, in-among, among-out, EachLink, EachHand, EachFree}
+use Rattle.machine.proofs.GhostMachine.GhostLaws.{each-link, each-hand, each-free, tasks-onward, Makes, finish-1, fork-1, fork-2, Splits, async-1}
+use Rattle.machine.proofs.GhostMachine.GhostLaws.{finish-2, fork-3, below, new-below, draft-of, put-below}
+use Rattle.machine.proofs.GhostMachine.ShapeStep.{made-busy, none-made, onward-old, onward-made, Turn, itself, stays, wakes, born, shape-step}
+use Rattle.machine.proofs.GhostMachine.RoadLaws.{busy-below}
+
+-- a vertex of an item that has just been split
+record Kid (S : State) (t m : ℕ) : Type 0 where
+  code : Code
+  is-fresh : S .control m ≡ fresh code
+  made-by : S .maker m ≡ t
+  bare : (x : ℕ) → S .edge m x ≡ false
+
+-- nothing left to do
+pub fits-none : (S : State) (t : ℕ) → Fits S t []
+unfolding Ordered Once
+fits-none S t =
+    record {
+      ordered = tt;
+      once = tt;
+      frees = λ m i. in-none i;
+      free-scope = λ m i. in-none i;
+      link-from = λ a b i. in-none i;
+      link-to = λ a b i. in-none i;
+      link-new = λ a b i. in-none i;
+      hand-to = λ h i. in-none i;
+      hand-new = λ h x i. in-none i;
+      hand-apart = λ h b i j. in-none i;
+      hand-one = λ h h' i j. in-none i;
+    }
+
+-- what is found in the list that a split leaves: of a release, of a link and of a transfer
+abbrev ScopeFirst : State → List Do → ℕ → Type 0
+ScopeFirst S ds m = (isNew (S .control (S .scope m)) ≡ false) ⊎ Precedes (free (S .scope m)) (free m) ds
+
+abbrev Planned : State → ℕ → List Do → ℕ → ℕ → Type 0
+Planned S t ds a b = In (free a) ds × (In (free b) ds ⊎ (b ≡ S .scope t))
+
+abbrev Given : List Do → ℕ → Type 0
+Given ds h = In (free h) ds × ((b : ℕ) → In (link h b) ds → ⊥) × ((h' : ℕ) → In (hand h') ds → h ≡ h')
+
+-- such a list fits
+fits-new :
+    (S : State) (t : ℕ) (ds : List Do) → Ordered ds → Once ds → EachFree (Kid S t) ds → EachFree (ScopeFirst S ds) ds
+    → EachLink (Planned S t ds) ds → EachHand (Given ds) ds → Fits S t ds
+fits-new S t ds ordered once kids scopes plans gifts =
+    record {
+      ordered = ordered;
+      once = once;
+      frees = λ m i. ((kid i .code, kid i .is-fresh), kid i .made-by);
+      free-scope = λ m i. each-free (ScopeFirst S ds) ds scopes i;
+      link-from = λ a b i. plan i .0;
+      link-to = λ a b i. plan i .1;
+      link-new = λ a b i. kid (plan i .0) .bare b;
+      hand-to = λ h i. gift i .0;
+      hand-new = λ h x i. kid (gift i .0) .bare x;
+      hand-apart = λ h b i j. gift i .1 b j;
+      hand-one = λ h h' i j. gift i .2 h' j;
+    }
+  where
+    kid : {m : ℕ} → In (free m) ds → Kid S t m
+    kid i = each-free (Kid S t) ds kids i
+
+    plan : {a b : ℕ} → In (link a b) ds → Planned S t ds a b
+    plan i = each-link (Planned S t ds) ds plans i
+
+    gift : {h : ℕ} → In (hand h) ds → Given ds h
+    gift i = each-hand (Given ds) ds gifts i
+
+-- what an async has left to do when its vertex n is made
+fits-async :
+    {S : State} {t n : ℕ} → Kid S t n → S .scope n ≡ S .scope t → isNew (S .control (S .scope t)) ≡ false
+    → Fits S t (link n (S .scope t) ∷ free n ∷ [])
+unfolding Ordered FreesOnly Once EachLink EachHand EachFree
+fits-async {S} {t} {n} kid same old =
+    fits-new S t (link n (S .scope t) ∷ free n ∷ []) tt
+    ((λ i. each-link (λ a b. ⊥) (free n ∷ []) tt i), ((λ i. in-none i), tt))
+    (kid, tt)
+    (inl (ap (λ w. isNew (S .control w)) same ∙ old), tt)
+    ((later here, inr refl), tt)
+    tt
+
+-- what a finish has left to do when its vertices m and n are made
+fits-finish :
+    {S : State} {t m n : ℕ} → Kid S t m → Kid S t n → (m ≡ n → ⊥) → S .scope m ≡ S .scope t → S .scope n ≡ m
+    → isNew (S .control (S .scope t)) ≡ false → Fits S t (link n m ∷ hand m ∷ free m ∷ free n ∷ [])
+unfolding Ordered FreesOnly Once EachLink EachHand EachFree
+fits-finish {S} {t} {m} {n} kid kid' ne same same' old =
+    fits-new S t ds tt (
+      (λ i. each-link (λ a b. ⊥) (hand m ∷ free m ∷ free n ∷ []) tt i),
+      (
+        (λ i. each-hand (λ h. ⊥) (free m ∷ free n ∷ []) tt i),
+        ((λ i. each-free (λ w. m ≡ w → ⊥) (free n ∷ []) (ne, tt) i refl), ((λ i. in-none i), tt)),
+      ),
+    )
+    (kid, (kid', tt)) (
+      inl (ap (λ w. isNew (S .control w)) same ∙ old),
+      (inr (subst (λ w. Precedes (free w) (free n) ds) (sym same') (behind (behind (first here)))), tt),
+    )
+    ((later (later (later here)), inl (later (later here))), tt) (
+      (
+        later (later here),
+        (λ b i. each-link (λ x y. m ≡ x → ⊥) ds (ne, tt) i refl),
+        (λ h i. each-hand (λ w. m ≡ w) ds (refl, tt) i),
+      ),
+      tt,
+    )
+  where
+    ds : List Do
+    ds = link n m ∷ hand m ∷ free m ∷ free n ∷ []
+
+-- what a fork has left to do when its vertices m, m' and n are made
+fits-fork :
+    {S : State} {t m m' n : ℕ} → Kid S t m → Kid S t m' → Kid S t n → (m ≡ m' → ⊥) → (m ≡ n → ⊥) → (m' ≡ n → ⊥)
+    → S .scope m ≡ S .scope t → S .scope m' ≡ S .scope t → S .scope n ≡ S .scope t → isNew (S .control (S .scope t)) ≡ false
+    → Fits S t (link m n ∷ link m' n ∷ hand n ∷ free n ∷ free m ∷ free m' ∷ [])
+unfolding Ordered FreesOnly Once EachLink EachHand EachFree
+fits-fork {S} {t} {m} {m'} {n} kid kid' kid'' ne ne' ne'' same same' same'' old =
+    fits-new S t ds tt (
+      (λ i. each-link (λ a b. m ≡ a → ⊥) (link m' n ∷ hand n ∷ free n ∷ free m ∷ free m' ∷ []) (ne, tt) i refl),
+      (
+        (λ i. each-link (λ a b. ⊥) (hand n ∷ free n ∷ free m ∷ free m' ∷ []) tt i),
+        (
+          (λ i. each-hand (λ h. ⊥) (free n ∷ free m ∷ free m' ∷ []) tt i),
+          (
+            (λ i.
+                each-free (λ w. n ≡ w → ⊥) (free m ∷ free m' ∷ []) ((λ e. ne' (sym e)), ((λ e. ne'' (sym e)), tt)) i refl),
+            ((λ i. each-free (λ w. m ≡ w → ⊥) (free m' ∷ []) (ne, tt) i refl), ((λ i. in-none i), tt)),
+          ),
+        ),
+      ),
+    )
+    (kid'', (kid, (kid', tt)))
+    (scoped same'', (scoped same, (scoped same', tt)))
+    ((later (later (later (later here))), to-n), ((later (later (later (later (later here)))), to-n), tt)) (
+      (
+        later (later (later here)),
+        (λ b i. each-link (λ x y. n ≡ x → ⊥) ds ((λ e. ne' (sym e)), ((λ e. ne'' (sym e)), tt)) i refl),
+        (λ h i. each-hand (λ w. n ≡ w) ds (refl, tt) i),
+      ),
+      tt,
+    )
+  where
+    ds : List Do
+    ds = link m n ∷ link m' n ∷ hand n ∷ free n ∷ free m ∷ free m' ∷ []
+
+    scoped : {u : ℕ} → S .scope u ≡ S .scope t → ScopeFirst S ds u
+    scoped e = inl (ap (λ w. isNew (S .control w)) e ∙ old)
+
+    to-n : In (free n) ds ⊎ (n ≡ S .scope t)
+    to-n = inl (later (later (later here)))
+
+-- what v comes to
+with-own : (S : State) (v : ℕ) (base : ℕ → Control) (kid x : Control) → put (put base (S .count) kid) v x v ≡ x
+with-own S v base kid x = put-same (put base (S .count) kid) v x
+
+-- the vertex that is made
+with-kid :
+    (S : State) (v : ℕ) (base : ℕ → Control) (kid x : Control) → v < S .count → put (put base (S .count) kid) v x (S .count) ≡ kid
+with-kid S v base kid x lt =
+    put-other (put base (S .count) kid) v x (S .count) (λ e. absurd (omega arith)) ∙ put-same base (S .count) kid
+
+-- and the others
+with-other :
+    (S : State) (v : ℕ) (base : ℕ → Control) (kid x : Control) (u : ℕ) → (u ≡ v → ⊥) → (u ≡ S .count → ⊥)
+    → put (put base (S .count) kid) v x u ≡ base u
+with-other S v base kid x u n ne = put-other (put base (S .count) kid) v x u n ∙ put-other base (S .count) kid u ne
+
+-- others stay as they are, but for drafts of v that become fresh
+abbrev Stays : State → ℕ → (ℕ → Control) → ℕ → Type 0
+Stays S v base u =
+    (base u ≡ S .control u) ⊎ ((k : Code) × (S .maker u ≡ v) × (S .control u ≡ draft k) × (base u ≡ fresh k))
+
+-- One vertex more, made by v, which is executing and comes to x; the others come to what `base` says.
+module _
+    (S : State) (v : ℕ) (base : ℕ → Control) (kid x : Control) (σ r f : ℕ) (sh : Shape S) (lt : v < S .count)
+    (was : isNew (S .control v) ≡ false) (old : isNew x ≡ false) (new : isNew kid ≡ true) (scope : σ < S .count)
+    (stay : (u : ℕ) → Stays S v base u)
+  where
+    abbrev With : State
+    With = withControl (grown S v kid σ r f) (put (put base (S .count) kid) v x)
+
+    is-own : With .control v ≡ x
+    is-own = with-own S v base kid x
+
+    is-kid : With .control (S .count) ≡ kid
+    is-kid = with-kid S v base kid x lt
+
+    is-other : (u : ℕ) → (u ≡ v → ⊥) → (u ≡ S .count → ⊥) → With .control u ≡ base u
+    is-other = with-other S v base kid x
+
+    -- what becomes of a vertex
+    with-turn : (u : ℕ) → Turn S With v u
+    with-turn u = ⊎-elim (λ e. itself e) (λ n. ⊎-elim (λ e. is-born e) (λ ne. is-old n ne) (equal? u (S .count))) (equal? u v)
+      where
+        is-born : u ≡ S .count → Turn S With v u
+        is-born e =
+            subst (λ w. Turn S With v w) (sym e)
+            (born refl (omega arith) (ap isNew is-kid ∙ new) (put-same (S .maker) (S .count) v)
+            (omega (arith, put-same (S .scope) (S .count) σ)))
+
+        is-old : (u ≡ v → ⊥) → (u ≡ S .count → ⊥) → Turn S With v u
+        is-old n ne =
+            ⊎-elim
+            (λ e. stays n (λ l. omega arith) (is-other u n ne ∙ e))
+            (λ w. wakes (w .0) (w .1) (w .2) (is-other u n ne ∙ w .3))
+            (stay u)
+
+    -- a new vertex that v made: it is made now, or it was before
+    abbrev Own : ℕ → Control → Type 0
+    Own m y = ((m ≡ S .count) × (kid ≡ y)) ⊎ ((base m ≡ y) × (S .maker m ≡ v))
+
+    with-new : (m : ℕ) {y : Control} → isNew y ≡ true → With .control m ≡ y → With .maker m ≡ v → Own m y
+    with-new m n h by =
+        ⊎-elim
+        (λ e. inl (e, sym is-kid ∙ ap (With .control) (sym e) ∙ h))
+        (λ ne.
+        inr (
+          sym (is-other m (λ e. true-false n (ap isNew (sym h ∙ ap (With .control) e ∙ is-own) ∙ old)) ne) ∙ h,
+          sym (put-other (S .maker) (S .count) v m ne) ∙ by,
+        ))
+        (equal? m (S .count))
+
+    -- the shape is kept if that of v's own item is
+    shape-with :
+        ((c : Code) (ms : List ℕ) → x ≡ busy c ms → Drafts With v ms ms (kids c) × Once ms)
+        → ((m : ℕ) (k : Code) → Own m (draft k) → (c : Code) × (ms : List ℕ) × (x ≡ busy c ms) × In m ms)
+        → ((m : ℕ) (k : Code) → Own m (fresh k) → In (free m) (tasks x)) → Fits With v (tasks x) → Shape With
+    shape-with items drafts freshes fits =
+        shape-step {v = v} sh
+        (record {
+          there = lt;
+          starts = was;
+          ends = ap isNew is-own ∙ old;
+          counts = omega arith;
+          turn = with-turn;
+          edge-same = λ a b. refl;
+          scope-same = put-below (S .scope) (S .count) σ;
+          maker-same = put-below (S .maker) (S .count) v;
+          rank-same = put-below (S .rank) (S .count) r;
+          fin-same = put-below (S .fin) (S .count) f;
+          own-item = λ c ms h. items c ms (sym is-own ∙ h);
+          own-drafts =
+              λ m k h by. let (c, ms, b, i) = drafts m k (with-new m (draft-new refl) h by) in (c, ms, is-own ∙ b, i);
+          own-freshes =
+              λ m k h by. subst (λ y. In (free m) (tasks y)) (sym is-own) (freshes m k (with-new m (fresh-new refl) h by));
+          own-tasks = subst (λ y. Fits With v (tasks y)) (sym is-own) fits;
+        })
+
+-- what is known of the vertices of an item under way
+under-way-draft :
+    {S : State} {v m : ℕ} {c : Code} {ms : List ℕ} → Shape S → S .control v ≡ busy c ms → In m ms
+    → (k : Code) × (a : Name) × Draft S v ms m k a
+under-way-draft {v = v} {c = c} {ms} sh h i = draft-of ms (kids c) (sh .under-way v c ms h .0) i
+
+-- they are there
+under-way-below : {S : State} {v m : ℕ} {c : Code} {ms : List ℕ} → Shape S → S .control v ≡ busy c ms → In m ms → m < S .count
+under-way-below {m = m} sh h i = let (k, a, d) = under-way-draft sh h i in new-below sh m (draft-new (d .is-draft))
+
+-- a draft that v made is one of them
+own-draft :
+    {S : State} {v m : ℕ} {c k : Code} {ms : List ℕ} → Shape S → S .control v ≡ busy c ms → S .control m ≡ draft k → S .maker m ≡ v
+    → In m ms
+own-draft {S} {v} {m} {c} {k} {ms} sh h d by =
+    let (c', ms', b, i) = sh .drafts m k d in
+    let b' : S .control v ≡ busy c' ms' = ap (S .control) (sym by) ∙ b in
+    let same : ms' ≡ ms = cc in
+    subst (λ ns. In m ns) same i
+
+-- v has no fresh vertices while its item is under way
+own-fresh :
+    {A : Type 0} {S : State} {v m : ℕ} {c k : Code} {ms : List ℕ} → Shape S → S .control v ≡ busy c ms → S .control m ≡ fresh k
+    → S .maker m ≡ v → A
+unfolding tasks
+own-fresh {S = S} {v} {m} {c} {k} {ms} sh h f by =
+    in-none (subst (λ x. In (free m) (tasks x)) h (subst (λ w. In (free m) (tasksOf S w)) by (sh .freshes m k f)))
+
+-- the scope of a vertex that is made is there, where it is not the last one
+pub makes-scope :
+    {S : State} {v : ℕ} {c : Code} {ms : List ℕ} {k : Code} {a : Name} → Shape S → S .control v ≡ busy c ms → Makes c ms k a
+    → resolved (S .scope v) ms a < S .count
+unfolding resolved
+makes-scope {v = v} sh h finish-1 = sh .scope-within v (busy-below sh v h)
+makes-scope {v = v} sh h fork-1 = sh .scope-within v (busy-below sh v h)
+makes-scope {v = v} sh h fork-2 = sh .scope-within v (busy-below sh v h)
+
+-- and where it is
+pub splits-scope :
+    {S : State} {v : ℕ} {c : Code} {ms : List ℕ} {k : Code} {a : Name} → Shape S → S .control v ≡ busy c ms → Splits c ms k a
+    → resolved (S .scope v) ms a < S .count
+unfolding resolved
+splits-scope {v = v} sh h async-1 = sh .scope-within v (busy-below sh v h)
+splits-scope {v = v} sh h finish-2 = under-way-below sh h here
+splits-scope {v = v} sh h fork-3 = sh .scope-within v (busy-below sh v h)
+
+-- the vertices of an item under way with one more
+module _
+    {S : State} {v : ℕ} {c : Code} {ms : List ℕ} (k : Code) (a : Name) (sh : Shape S) (h : S .control v ≡ busy c ms)
+  where
+    abbrev More : State
+    More = oneMore S v ms (busy c (ms ++ (S .count ∷ []))) (draft k) k a
+
+    lt : v < S .count
+    lt = below sh v (λ o. clash cc)
+
+    -- the scope that v's names stand for
+    own-is : (all : List ℕ) → resolved (S .scope v) ms own-scope ≡ resolved (More .scope v) all own-scope
+    unfolding resolved
+    own-is all = sym (put-below (S .scope) (S .count) (resolved (S .scope v) ms a) v lt)
+
+    draft-more : (all : List ℕ) → a ≡ own-scope → Draft More v all (S .count) k own-scope
+    draft-more all own =
+        record {
+          is-draft = with-kid S v (S .control) (draft k) (busy c (ms ++ (S .count ∷ []))) lt;
+          scope-is = put-same (S .scope) (S .count) (resolved (S .scope v) ms a) ∙ ap (resolved (S .scope v) ms) own ∙ own-is all;
+          rank-is = put-same (S .rank) (S .count) (startOf k);
+          fin-is = put-same (S .fin) (S .count) (last k);
+          made-by = put-same (S .maker) (S .count) v;
+        }
+
+    draft-before : (all : List ℕ) {m : ℕ} {k' : Code} → Draft S v ms m k' own-scope → Draft More v all m k' own-scope
+    draft-before all {m} d =
+        record {
+          is-draft =
+              with-other S v (S .control) (draft k) (busy c (ms ++ (S .count ∷ []))) m
+              (apart isNew (S .control) (draft-new (d .is-draft)) (busy-old h))
+              (λ e. absurd (omega (arith, lm)))
+              ∙ d .is-draft;
+          scope-is = put-below (S .scope) (S .count) (resolved (S .scope v) ms a) m lm ∙ d .scope-is ∙ own-is all;
+          rank-is = put-below (S .rank) (S .count) (startOf k) m lm ∙ d .rank-is;
+          fin-is = put-below (S .fin) (S .count) (last k) m lm ∙ d .fin-is;
+          made-by = put-below (S .maker) (S .count) v m lm ∙ d .made-by;
+        }
+      where
+        lm : m < S .count
+        lm = new-below sh m (draft-new (d .is-draft))
+
+-- so all that the item has made are its drafts
+makes-drafts :
+    {S : State} {v : ℕ} {c : Code} {ms : List ℕ} {k : Code} {a : Name} (sh : Shape S) (h : S .control v ≡ busy c ms)
+    → Makes c ms k a
+    → Drafts (oneMore S v ms (busy c (ms ++ (S .count ∷ []))) (draft k) k a) v (ms ++ (S .count ∷ [])) (ms ++ (S .count ∷ [])) (kids c)
+unfolding Drafts kids
+makes-drafts sh h finish-1 = (draft-more _ _ sh h _ refl, tt)
+makes-drafts sh h fork-1 = (draft-more _ _ sh h _ refl, tt)
+makes-drafts {v = v} sh h fork-2 = (draft-before _ _ sh h _ (sh .under-way v _ _ h .0 .0), (draft-more _ _ sh h _ refl, tt))
+
+-- A vertex is made that is not its item's last one.
+pub shape-makes :
+    {S : State} {v : ℕ} {c : Code} {ms : List ℕ} {k : Code} {a : Name} → Shape S → S .control v ≡ busy c ms → Makes c ms k a
+    → Shape (oneMore S v ms (busy c (ms ++ (S .count ∷ []))) (draft k) k a)
+unfolding tasks
+shape-makes {S} {v} {c} {ms} {k} {a} sh h mk =
+    shape-with S v (S .control) (draft k) (busy c ms') (resolved (S .scope v) ms a) (startOf k) (last k) sh
+    (below sh v (λ o. clash cc)) (busy-old h) (busy-old refl) (draft-new refl) (makes-scope sh h mk) (λ u. inl refl)
+    (λ c' ns e.
+    let (same, same') : (c ≡ c') × (ms' ≡ ns) = (cc, cc) in
+    subst (λ d. Drafts S' v ns ns (kids d) × Once ns) same
+    (subst (λ ns. Drafts S' v ns ns (kids c) × Once ns) same' (makes-drafts sh h mk, once)))
+    (λ m k'.
+    ⊎-elim
+    (λ n. (c, ms', refl, subst (λ w. In w ms') (sym (n .0)) (in-last (S .count) ms)))
+    (λ d. (c, ms', refl, in-left (S .count ∷ []) (own-draft sh h (d .0) (d .1)))))
+    (λ m k'. ⊎-elim (λ n. let e = n .1 in clash cc) (λ f. own-fresh sh h (f .0) (f .1)))
+    (fits-none S' v)
+  where
+    ms' : List ℕ
+    ms' = ms ++ (S .count ∷ [])
+
+    S' : State
+    S' = oneMore S v ms (busy c ms') (draft k) k a
+
+    once : Once ms'
+    once = once-snoc (S .count) ms (sh .under-way v c ms h .1) (λ i. absurd (omega (arith, under-way-below sh h i)))
+
+-- a split releases all of its item's vertices
+splits-frees :
+    {c : Code} {ms : List ℕ} {k : Code} {a : Name} {m : ℕ} (σ n : ℕ) → Splits c ms k a → In m (ms ++ (n ∷ []))
+    → In (free m) (todo σ (ms ++ (n ∷ [])) c)
+unfolding todo joins commandsOf kindOf firstEdition resolved
+splits-frees {m = m} σ n async-1 i = in-cases i (λ e. rw e (later here)) (λ i. in-none i)
+splits-frees {m = m} σ n finish-2 i =
+    in-cases i (λ e. rw e (later (later here)))
+    (λ i. in-cases i (λ e. rw e (later (later (later here)))) (λ i. in-none i))
+splits-frees {m = m} σ n fork-3 i =
+    in-cases i (λ e. rw e (later (later (later (later here)))))
+    (λ i.
+    in-cases i (λ e. rw e (later (later (later (later (later here))))))
+    (λ i. in-cases i (λ e. rw e (later (later (later here)))) (λ i. in-none i)))
+
+-- what the vertices that are there come to at a split: one of the item's
+woken-in : (S : State) {u : ℕ} {k : Code} {ms : List ℕ} → In u ms → S .control u ≡ draft k → stirred (S .control) ms u ≡ fresh k
+unfolding woken
+woken-in S i d = rw (in-among i, d) refl
+
+-- another one
+woken-out : (S : State) {u : ℕ} {ms : List ℕ} → (In u ms → ⊥) → stirred (S .control) ms u ≡ S .control u
+woken-out S {u} {ms} out = rw (among-out u ms out) refl
+
+-- one of a list, or not
+in? : (u : ℕ) (ms : List ℕ) → In u ms ⊎ (In u ms → ⊥)
+in? u ms = ⊎-elim (λ h. inl (among-in u ms h)) (λ h. inr (λ i. true-false (in-among i) h)) (decide (among u ms))
+
+-- What is known of the item's vertices and of their scopes in the state S' behind a split.
+record Halves (S S' : State) (v : ℕ) (ms : List ℕ) (σ : ℕ) : Type 0 where
+  now : Kid S' v (S .count)
+  before : {m : ℕ} → In m ms → Kid S' v m
+  not-now : {m : ℕ} → In m ms → m ≡ S .count → ⊥
+  own-scope-is : S' .scope v ≡ S .scope v
+  own-scope-old : isNew (S' .control (S' .scope v)) ≡ false
+  now-scope : S' .scope (S .count) ≡ σ
+  before-scope : {m : ℕ} → In m ms → S' .scope m ≡ S .scope m
+
+-- others stay as they are, but for the item's vertices
+splits-stay :
+    {S : State} {v : ℕ} {c : Code} {ms : List ℕ} → Shape S → S .control v ≡ busy c ms → (u : ℕ) → Stays S v (stirred (S .control) ms) u
+splits-stay {S} {ms = ms} sh h u =
+    ⊎-elim
+    (λ i. let (k, a, d) = under-way-draft sh h i in inr (k, d .made-by, d .is-draft, woken-in S i (d .is-draft)))
+    (λ out. inl (woken-out S out))
+    (in? u ms)
+
+-- a vertex that was not new is not new, where v comes to x
+splits-old :
+    {S : State} {v : ℕ} {c : Code} {ms : List ℕ} (x : Control) (k : Code) → Shape S → S .control v ≡ busy c ms → isNew x ≡ false
+    → (u : ℕ) → u < S .count → isNew (S .control u) ≡ false
+    → isNew (put (put (stirred (S .control) ms) (S .count) (fresh k)) v x u) ≡ false
+splits-old {S} {v} {ms = ms} x k sh h old u lt was =
+    put-cases (λ y. isNew y ≡ false) (put (stirred (S .control) ms) (S .count) (fresh k)) v x u
+    (λ e. old)
+    (λ n. ap isNew (put-below (stirred (S .control) ms) (S .count) (fresh k) u lt ∙ woken-out S out) ∙ was)
+  where
+    out : In u ms → ⊥
+    out i = let (k, a, d) = under-way-draft sh h i in true-false (draft-new (d .is-draft)) was
+
+-- so it is at a split
+halves :
+    {S : State} {v : ℕ} {c : Code} {ms : List ℕ} (x : Control) (k : Code) (a : Name) → Shape S → S .control v ≡ busy c ms
+    → isNew x ≡ false → Halves S (split S v ms x k a) v ms (resolved (S .scope v) ms a)
+halves {S} {v} {c} {ms} x k a sh h old =
+    record {
+      now =
+          record {
+            code = k;
+            is-fresh = with-kid S v (stirred (S .control) ms) (fresh k) x there;
+            made-by = put-same (S .maker) (S .count) v;
+            bare = λ y. not-so _ (λ e. absurd (omega (arith, sh .within (S .count) y e .0)));
+          };
+      before = λ i. old-kid i;
+      not-now = λ i e. absurd (omega (arith, under-way-below sh h i));
+      own-scope-is = own-is;
+      own-scope-old =
+          ap (λ w. isNew (split S v ms x k a .control w)) own-is
+          ∙ splits-old x k sh h old (S .scope v) (sh .scope-within v there) (sh .scope-old v there (busy-old h));
+      now-scope = put-same (S .scope) (S .count) (resolved (S .scope v) ms a);
+      before-scope = λ {m} i. put-below (S .scope) (S .count) (resolved (S .scope v) ms a) m (under-way-below sh h i);
+    }
+  where
+    there : v < S .count
+    there = below sh v (λ o. clash cc)
+
+    own-is : split S v ms x k a .scope v ≡ S .scope v
+    own-is = put-below (S .scope) (S .count) (resolved (S .scope v) ms a) v there
+
+    old-kid : {m : ℕ} → In m ms → Kid (split S v ms x k a) v m
+    old-kid {m} i =
+        let (k', a', d) = under-way-draft sh h i in
+        let lt = under-way-below sh h i in
+        record {
+          code = k';
+          is-fresh =
+              with-other S v (stirred (S .control) ms) (fresh k) x m (apart isNew (S .control) (draft-new (d .is-draft)) (busy-old h))
+              (λ e. absurd (omega (arith, lt)))
+              ∙ woken-in S i (d .is-draft);
+          made-by = put-below (S .maker) (S .count) v m lt ∙ d .made-by;
+          bare = λ y. sh .draft-bare m y k' (d .is-draft) .1;
+        }
+
+-- what is left to do of the item can be done
+splits-fits :
+    {S : State} {v : ℕ} {c : Code} {ms : List ℕ} (x : Control) {k : Code} {a : Name} → Shape S → S .control v ≡ busy c ms
+    → isNew x ≡ false → Splits c ms k a → Fits (split S v ms x k a) v (todo (S .scope v) (ms ++ (S .count ∷ [])) c)
+unfolding todo joins commandsOf kindOf firstEdition resolved Drafts Once kids
+splits-fits {S} {v} x sh h old (async-1 {b = b}) =
+    let hs = halves x b own-scope sh h old in
+    subst (λ σ. Fits (split S v [] x b own-scope) v (link (S .count) σ ∷ free (S .count) ∷ [])) (hs .own-scope-is)
+    (fits-async (hs .now) (hs .now-scope ∙ sym (hs .own-scope-is)) (hs .own-scope-old))
+splits-fits {S} {v} x sh h old (finish-2 {b = b}) =
+    let hs = halves x b made-1 sh h old in
+    let (d, o) = sh .under-way v _ _ h in
+    fits-finish (hs .before here) (hs .now) (hs .not-now here)
+    (hs .before-scope here ∙ d .0 .scope-is ∙ sym (hs .own-scope-is))
+    (hs .now-scope)
+    (hs .own-scope-old)
+splits-fits {S} {v} x sh h old (fork-3 {m' = m'} {r = r}) =
+    let hs = halves x r own-scope sh h old in
+    let (d, o) = sh .under-way v _ _ h in
+    fits-fork (hs .before here) (hs .before (later here)) (hs .now)
+    (λ e. o .0 (subst (λ w. In w (m' ∷ [])) (sym e) here))
+    (hs .not-now here)
+    (hs .not-now (later here))
+    (hs .before-scope here ∙ d .0 .scope-is ∙ sym (hs .own-scope-is))
+    (hs .before-scope (later here) ∙ d .1 .0 .scope-is ∙ sym (hs .own-scope-is))
+    (hs .now-scope ∙ sym (hs .own-scope-is))
+    (hs .own-scope-old)
+
+-- A vertex is made that is its item's last one.
+pub shape-splits :
+    (L : ℕ) {S : State} {v : ℕ} {c : Code} {ms : List ℕ} {k : Code} {a : Name} → Shape S → S .control v ≡ busy c ms
+    → Splits c ms k a → Shape (split S v ms (onward (goes L c) (todo (S .scope v) (ms ++ (S .count ∷ [])) c)) k a)
+shape-splits L {S} {v} {c} {ms} {k} {a} sh h sp =
+    shape-with S v (stirred (S .control) ms) (fresh k) x (resolved (S .scope v) ms a) (startOf k) (last k) sh
+    (below sh v (λ o. clash cc)) (busy-old h) old (fresh-new refl) (splits-scope sh h sp) (splits-stay sh h)
+    (λ c' ns e. none-made (split S v ms x k a) v c' (sym (made-busy e) ∙ onward-made (goes L c) ds))
+    (λ m k'.
+    ⊎-elim
+    (λ n. let e = n .1 in clash cc)
+    (λ d.
+    ⊎-elim
+    (λ i. let e = d .0 in clash (cc (woken-in S i (under-way-draft sh h i .2 .is-draft))))
+    (λ out. absurd (out (own-draft sh h (sym (woken-out S out) ∙ d .0) (d .1))))
+    (in? m ms)))
+    (λ m k'.
+    ⊎-elim
+    (λ n. released (subst (λ w. In w ms') (sym (n .0)) (in-last (S .count) ms)))
+    (λ f.
+    ⊎-elim
+    (λ i. released (in-left (S .count ∷ []) i))
+    (λ out. own-fresh sh h (sym (woken-out S out) ∙ f .0) (f .1))
+    (in? m ms)))
+    (subst (λ es. Fits (split S v ms x k a) v es) (sym (tasks-onward (goes L c) ds)) (splits-fits x sh h old sp))
+  where
+    ms' : List ℕ
+    ms' = ms ++ (S .count ∷ [])
+
+    ds : List Do
+    ds = todo (S .scope v) ms' c
+
+    x : Control
+    x = onward (goes L c) ds
+
+    old : isNew x ≡ false
+    old = onward-old (goes L c) ds
+
+    released : {m : ℕ} → In m ms' → In (free m) (tasks x)
+    released {m} i = subst (λ es. In (free m) es) (sym (tasks-onward (goes L c) ds)) (splits-frees (S .scope v) (S .count) sp i)

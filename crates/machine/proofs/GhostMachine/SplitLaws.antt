@@ -1,0 +1,159 @@
+-- What a split does: its item's vertices are drafts no more, a new one comes, and the vertex that splits has all that the item does behind
+-- the split to do.
+use Prim.Native.Nat.{ℕ}
+use mathlib.Core.Path.{_≡_, refl, sym, _∙_, ap}
+use mathlib.Core.Bool.{Bool, true, false, cond}
+use mathlib.Core.Logic.{_⊎_, inl, inr, ⊎-elim}
+use mathlib.Core.List.{List, [], _∷_}
+use mathlib.Core.Option.{some}
+use native.Mathlib.Omega.{arith}
+use Rattle.graph.proofs.TestLaws.{equal?, true-false}
+use Rattle.program.specs.Encodings.{Name, firstEdition}
+use Rattle.program.specs.Located.{Code, async-at, finish-at, fork-at}
+use Rattle.machine.proofs.GhostMachine.Ghost.{Do, link, hand, free, Control, draft, fresh, busy, over, State, put, goes, kindOf, commandsOf}
+use Rattle.machine.proofs.GhostMachine.Ghost.{resolved, joins, todo, woken, among, split, stirred}
+use Rattle.machine.proofs.GhostMachine.Invariant.{In, tasks, codeOf, waits, Shape}
+use Rattle.machine.proofs.GhostMachine.GhostLaws.{put-same, put-other, clash, EachLink, EachHand, each-link, each-hand, put-keeps, woken-keeps}
+use Rattle.machine.proofs.GhostMachine.SettledLaws.{Plans}
+
+-- v has an item of code c, and its split with the vertices ms that were made before and a new one, whose scope is σ, leaves v with T to do
+pub record Split (L : ℕ) (S S' : State) (v : ℕ) (c : Code) (ms : List ℕ) (T : List Do) (σ : ℕ) : Type 0 where
+  pub self : S .control v ≡ busy c ms
+  pub plans : Plans S S' v T
+  pub self-code : codeOf (S' .control v) ≡ some (goes L c)
+  pub waiting : (u : ℕ) → waits (S .control u) ≡ true → waits (S' .control u) ≡ true
+  pub new-waits : waits (S' .control (S .count)) ≡ true
+  pub same : (u : ℕ) → (u ≡ v → ⊥) → (u ≡ S .count → ⊥) → among u ms ≡ false → S' .control u ≡ S .control u
+  pub same-scope : (u : ℕ) → (u ≡ S .count → ⊥) → S' .scope u ≡ S .scope u
+  pub new-scope : S' .scope (S .count) ≡ σ
+
+-- what the item of each kind does behind its split
+pub todo-async : (o : ℕ) (b r : Code) (σ n : ℕ) → todo σ (n ∷ []) (async-at o b r) ≡ link n σ ∷ free n ∷ []
+unfolding todo joins commandsOf kindOf resolved firstEdition
+todo-async o b r σ n = refl
+
+pub todo-finish :
+    (o : ℕ) (b r : Code) (σ m n : ℕ) → todo σ (m ∷ n ∷ []) (finish-at o b r) ≡ link n m ∷ hand m ∷ free m ∷ free n ∷ []
+unfolding todo joins commandsOf kindOf resolved firstEdition
+todo-finish o b r σ m n = refl
+
+pub todo-fork :
+    (o : ℕ) (b c r : Code) (σ m m' n : ℕ)
+    → todo σ (m ∷ m' ∷ n ∷ []) (fork-at o b c r) ≡ link m n ∷ link m' n ∷ hand n ∷ free n ∷ free m ∷ free m' ∷ []
+unfolding todo joins commandsOf kindOf resolved firstEdition
+todo-fork o b c r σ m m' n = refl
+
+-- the edges that it plans, and the vertex that it hands over to
+pub async-links : {n σ a b : ℕ} → In (link a b) (link n σ ∷ free n ∷ []) → (a ≡ n) × (b ≡ σ)
+unfolding EachLink
+async-links {n} {σ} i = each-link (λ a b. (a ≡ n) × (b ≡ σ)) _ ((refl, refl), tt) i
+
+pub async-hands : {n σ h : ℕ} → In (hand h) (link n σ ∷ free n ∷ []) → ⊥
+unfolding EachHand
+async-hands i = each-hand (λ h. ⊥) _ tt i
+
+pub finish-links : {n m a b : ℕ} → In (link a b) (link n m ∷ hand m ∷ free m ∷ free n ∷ []) → (a ≡ n) × (b ≡ m)
+unfolding EachLink
+finish-links {n} {m} i = each-link (λ a b. (a ≡ n) × (b ≡ m)) _ ((refl, refl), tt) i
+
+pub finish-hands : {n m h : ℕ} → In (hand h) (link n m ∷ hand m ∷ free m ∷ free n ∷ []) → h ≡ m
+unfolding EachHand
+finish-hands {m = m} i = each-hand (λ h. h ≡ m) _ (refl, tt) i
+
+pub fork-links :
+    {n m m' a b : ℕ} → In (link a b) (link m n ∷ link m' n ∷ hand n ∷ free n ∷ free m ∷ free m' ∷ [])
+    → ((a ≡ m) ⊎ (a ≡ m')) × (b ≡ n)
+unfolding EachLink
+fork-links {n} {m} {m'} i = each-link (λ a b. ((a ≡ m) ⊎ (a ≡ m')) × (b ≡ n)) _ ((inl refl, refl), ((inr refl, refl), tt)) i
+
+pub fork-hands : {n m m' h : ℕ} → In (hand h) (link m n ∷ link m' n ∷ hand n ∷ free n ∷ free m ∷ free m' ∷ []) → h ≡ n
+unfolding EachHand
+fork-hands {n} i = each-hand (λ h. h ≡ n) _ (refl, tt) i
+
+-- where drafts become fresh, a control is seen as before, if these two are seen alike
+pub stirred-keeps :
+    {B : Type 0} (g : Control → B) → ((c : Code) → g (fresh c) ≡ g (draft c)) → (f : ℕ → Control) (ms : List ℕ) (u : ℕ)
+    → g (stirred f ms u) ≡ g (f u)
+stirred-keeps g e f ms u = go (among u ms)
+  where
+    go : (b : Bool) → g (cond b (woken (f u)) (f u)) ≡ g (f u)
+    go true = woken-keeps g e (f u)
+    go false = refl
+
+-- the vertices that wait do so behind the split
+split-waits :
+    (f : ℕ → Control) (ms : List ℕ) (n v : ℕ) (k : Code) (x : Control) → waits (f v) ≡ false → (u : ℕ) → waits (f u) ≡ true
+    → waits (put (put (stirred f ms) n (fresh k)) v x u) ≡ true
+unfolding waits
+split-waits f ms n v k x w u h =
+    let ne : u ≡ v → ⊥ = λ e. true-false (ap (λ (z : ℕ). waits (f z)) (sym e) ∙ h) w in
+    ap waits (put-other (put (stirred f ms) n (fresh k)) v x u ne)
+    ∙ ⊎-elim
+    (λ e. ap (λ (z : ℕ). waits (put (stirred f ms) n (fresh k) z)) e ∙ ap waits (put-same (stirred f ms) n (fresh k)))
+    (λ nn. ap waits (put-other (stirred f ms) n (fresh k) u nn) ∙ stirred-keeps waits (λ c. refl) f ms u ∙ h)
+    (equal? u n)
+
+-- what is to do stands as before, but for v
+split-tasks :
+    (f : ℕ → Control) (ms : List ℕ) (n v : ℕ) (k : Code) (x : Control) → tasks (f n) ≡ [] → (u : ℕ) → (u ≡ v → ⊥)
+    → tasks (put (put (stirred f ms) n (fresh k)) v x u) ≡ tasks (f u)
+unfolding tasks
+split-tasks f ms n v k x e u ne =
+    let kept = stirred-keeps tasks (λ c. refl) f ms in
+    ap tasks (put-other (put (stirred f ms) n (fresh k)) v x u ne)
+    ∙ put-keeps tasks (stirred f ms) n (fresh k) (sym (kept n ∙ e)) u
+    ∙ kept u
+
+-- the code is as before, but for v and the new one
+pub split-codes :
+    (f : ℕ → Control) (ms : List ℕ) (n v : ℕ) (k : Code) (x : Control) (u : ℕ) → (u ≡ v → ⊥) → (u ≡ n → ⊥)
+    → codeOf (put (put (stirred f ms) n (fresh k)) v x u) ≡ codeOf (f u)
+unfolding codeOf
+split-codes f ms n v k x u nv nn =
+    ap codeOf (put-other (put (stirred f ms) n (fresh k)) v x u nv ∙ put-other (stirred f ms) n (fresh k) u nn)
+    ∙ stirred-keeps codeOf (λ c. refl) f ms u
+
+-- the others are as before
+split-same :
+    (f : ℕ → Control) (ms : List ℕ) (n v : ℕ) (k : Code) (x : Control) (u : ℕ) → (u ≡ v → ⊥) → (u ≡ n → ⊥) → among u ms ≡ false
+    → put (put (stirred f ms) n (fresh k)) v x u ≡ f u
+split-same f ms n v k x u nv nn na =
+    put-other (put (stirred f ms) n (fresh k)) v x u nv
+    ∙ put-other (stirred f ms) n (fresh k) u nn
+    ∙ ap (λ (t : Bool). cond t (woken (f u)) (f u)) na
+
+-- the new one is fresh
+split-new-waits :
+    (f : ℕ → Control) (ms : List ℕ) (n v : ℕ) (k : Code) (x : Control) → (n ≡ v → ⊥)
+    → waits (put (put (stirred f ms) n (fresh k)) v x n) ≡ true
+unfolding waits
+split-new-waits f ms n v k x ne =
+    ap waits (put-other (put (stirred f ms) n (fresh k)) v x n ne ∙ put-same (stirred f ms) n (fresh k))
+
+-- the move splits the item
+pub split-of :
+    (L : ℕ) {S : State} {v : ℕ} {c : Code} {ms : List ℕ} (x : Control) (k : Code) (a : Name) (T : List Do) → Shape S
+    → S .control v ≡ busy c ms → tasks x ≡ T → codeOf x ≡ some (goes L c)
+    → Split L S (split S v ms x k a) v c ms T (resolved (S .scope v) ms a)
+unfolding tasks waits
+split-of L {S} {v} {c} {ms} x k a T sh q e d =
+    let f = S .control in
+    let n = S .count in
+    let new : f n ≡ over = sh .beyond n (omega arith) in
+    let at-v = put-same (put (stirred f ms) n (fresh k)) v x in
+    record {
+      self = q;
+      plans =
+          record {
+            idle = ap tasks q;
+            plan = ap tasks at-v ∙ e;
+            others = split-tasks f ms n v k x (ap tasks new);
+            edges = λ a b. refl;
+          };
+      self-code = ap codeOf at-v ∙ d;
+      waiting = split-waits f ms n v k x (ap waits q);
+      new-waits = split-new-waits f ms n v k x (λ e. let z = sym q ∙ sym (ap f e) ∙ new in clash cc);
+      same = split-same f ms n v k x;
+      same-scope = λ u nc. put-other (S .scope) n (resolved (S .scope v) ms a) u nc;
+      new-scope = put-same (S .scope) n (resolved (S .scope v) ms a);
+    }

@@ -1,0 +1,170 @@
+-- The single commands that steps do: when each is taken, by what holds of the state that the tables follow, and what a step by a command
+-- that is taken says and leaves. No path closes because edges lead to higher ranks.
+use Prim.Native.Nat.{ℕ, _<_, _≤_}
+use mathlib.Core.Path.{_≡_, refl, sym, _∙_, ap, subst}
+use mathlib.Core.Bool.{true, false}
+use mathlib.Core.Logic.{_⊎_, inl, inr, ⊎-elim}
+use mathlib.Core.List.{List}
+use native.Mathlib.Omega.{arith}
+use lib.Dec.{ltb}
+use borrow.Author.Tests.{ltb-true, ltb-false, eqb-true}
+use Rattle.graph.specs.Tables.{Lent, NEW, RELEASED, EXECUTING, FINISHED, edgeRows, status, source}
+use Rattle.graph.specs.Sound.{sound}
+use Rattle.graph.specs.Paths.{holds, leadsInto, reaches}
+use Rattle.graph.specs.declared.Command.{Command}
+use Rattle.graph.specs.declared.Command.the-variants.{NewEdge, Release, Transfer, Start}
+use Rattle.graph.proofs.TestLaws.{true-false, decide, not-so, any-found}
+use Rattle.graph.proofs.PathLaws.{holds-at, reaches-path}
+use Rattle.graph.proofs.EdgeLaws.{none-out-of}
+use Rattle.graph.proofs.CycleLaws.{target-reaches}
+use Rattle.graph.proofs.TakenLaws as of-taken
+use Rattle.graph.proofs.TakenLaws.{leaves, says-accepted, taken-is, after-is, Runs, Taken, taken}
+use Rattle.graph.proofs.Demand2.{stays-sound}
+use Rattle.program.specs.Located.{Code}
+use Rattle.machine.specs.Answers.{StepSaid, oneStep, saidAs}
+use Rattle.machine.specs.Stepping.{Own, command-due, withOwn, doDue}
+use Rattle.machine.proofs.GhostMachine.Ghost.{Do, link, hand, free, Control, draft, fresh, ready, busy, joining, over, State}
+use Rattle.machine.proofs.GhostMachine.Invariant.{In, here, tasks, tasksOf, waits, planned, Shape, Ranks, Roads}
+use Rattle.machine.proofs.GhostMachine.Acyclic.{path-rises}
+use Rattle.machine.proofs.TablesFollow.Follows.{Follows}
+use Rattle.machine.proofs.TablesFollow.FollowLaws.{statusOf, follows-status}
+
+-- what a step by a command that is taken says
+abbrev pub says : Command → Lent → StepSaid
+says c s = saidAs (of-taken.says c s)
+
+-- and all that it comes to
+pub called :
+    (c : Command) (s : Lent) (v : ℕ) (w : Own) → Taken c s
+    → doDue s v (command-due c w) ≡ record { answer = says c s; after = oneStep (withOwn (leaves c s) v w) }
+called c s v w h = rw (taken-is c s (taken c s .1 h), says-accepted c s)
+
+-- it leaves sound tables
+pub leaves-sound : (c : Command) (s : Lent) → sound s ≡ true → Taken c s → sound (leaves c s) ≡ true
+leaves-sound c s known h = subst (λ (z : Lent). sound z ≡ true) (after-is c s (taken c s .1 h)) (stays-sound c s known)
+
+-- an edge that leads in
+pub into-from : (e : List ℕ) (n v : ℕ) → leadsInto e n v ≡ true → (u : ℕ) × (holds e n u v ≡ true)
+unfolding leadsInto
+into-from e n v h =
+    let (i, lt, q) = any-found _ n h in
+    (source e i, subst (λ (z : ℕ). holds e n (source e i) z ≡ true) (eqb-true _ _ q) (holds-at e n i lt))
+
+-- a vertex with an unfinished status is made
+pub live : (S : State) → Shape S → (v n : ℕ) → statusOf (S .control v) ≡ n → n < FINISHED → v < S .count
+unfolding statusOf
+live S shape v n q lt =
+    ⊎-elim (λ h. ltb-true v (S .count) h)
+    (λ h. let z : statusOf (S .control v) ≡ FINISHED = ap statusOf (shape .beyond v (ltb-false v (S .count) h)) in absurd (omega arith))
+    (decide (ltb v (S .count)))
+
+-- a vertex that waits is new or released
+waits-status : (x : Control) → waits x ≡ true → (statusOf x ≡ NEW) ⊎ (statusOf x ≡ RELEASED)
+unfolding waits statusOf
+waits-status (draft c) h = inl refl
+waits-status (fresh c) h = inl refl
+waits-status (ready c) h = inr refl
+waits-status (busy c ms) h = true-false h refl
+waits-status (joining c d ds) h = true-false h refl
+waits-status over h = true-false h refl
+
+-- a fresh vertex is new
+fresh-status : {x : Control} {c : Code} → x ≡ fresh c → statusOf x ≡ NEW
+unfolding statusOf
+fresh-status q = ap statusOf q
+
+-- the command at the head of what is left to do
+pub first-task : (S : State) (v : ℕ) {c : Code} {d : Do} {ds : List Do} → S .control v ≡ joining c d ds → In d (tasksOf S v)
+unfolding tasks
+first-task S v q = rw q here
+
+module _ {p : Code} {L : ℕ} {s : Lent} {S : State} (shape : Shape S) (F : Follows p L s S) where
+  -- a vertex's row, by what the vertex is at
+  pub stands : (v n : ℕ) → statusOf (S .control v) ≡ n → n < FINISHED → (v < s .made) × (status (s .vertices) v ≡ n)
+  stands v n q lt =
+      let made = live S shape v n q lt in
+      (subst (λ (k : ℕ). v < k) (sym (F .made-is)) made, follows-status s S v F made ∙ q)
+
+  -- one that executes may give commands
+  pub runs : (v : ℕ) → statusOf (S .control v) ≡ EXECUTING → Runs s v
+  runs v q =
+      let (made, executing) = stands v EXECUTING q (omega arith) in
+      record { known = F .sound-is; is-made = made; executing = executing }
+
+  -- start
+  pub takes-start : (v : ℕ) → statusOf (S .control v) ≡ RELEASED → leadsInto (s .edges) (s .held) v ≡ false → Taken (Start v) s
+  takes-start v q none =
+      let (made, released) = stands v RELEASED q (omega arith) in
+      (F .sound-is, made, released, none)
+
+  -- release
+  new-of : (v m : ℕ) → In (free m) (tasksOf S v) → statusOf (S .control m) ≡ NEW
+  new-of v m i = fresh-status (shape .todo-fits v .frees m i .0 .1)
+
+  pub takes-release : (v m : ℕ) → statusOf (S .control v) ≡ EXECUTING → In (free m) (tasksOf S v) → Taken (Release v m) s
+  takes-release v m q i =
+      let (made, new) = stands m NEW (new-of v m i) (omega arith) in
+      (runs v q, made, new)
+
+  -- paths lead to higher ranks, so none leads to a lower one
+  no-way : Ranks S → (a b : ℕ) → S .rank b ≤ S .fin a → reaches (s .edges) (s .held) a b ≡ false
+  no-way ranks a b le =
+      not-so (reaches (s .edges) (s .held) a b)
+      (λ h. absurd (omega (arith, le, path-rises shape ranks (F .edges-are) (reaches-path (s .edges) (s .held) a b h) .0)))
+
+  -- newEdge
+  pub takes-edge :
+      Ranks S → Roads S → (v a b : ℕ) → statusOf (S .control v) ≡ EXECUTING → In (link a b) (tasksOf S v)
+      → s .held < edgeRows (s .edges) → Taken (NewEdge v a b) s × (status (s .vertices) a ≡ FINISHED → ⊥)
+  takes-edge ranks roads v a b q i room =
+      let tasks = shape .todo-fits v in
+      let new-a = new-of v a (tasks .link-from a b i) in
+      let (made-a, status-a) = stands a NEW new-a (omega arith) in
+      let le-a = ranks .rank-le a (live S shape a NEW new-a (omega arith)) in
+      let up = ranks .link-rank v a b i in
+      let waiting = waits-status (S .control b) (roads .into a b (planned v i)) in
+      let (made-b, status-b) = target-of waiting in (
+        (
+          runs v q,
+          record {
+            source-made = made-a;
+            target-made = made-b;
+            waits = status-b;
+            adds =
+                inr
+                (record {
+                  not-finished = λ z. omega (arith, z, status-a);
+                  not-held = F .edges-are a b ∙ tasks .link-new a b i;
+                  not-same = λ z. apart z up le-a;
+                  no-path = no-way ranks b a (omega (arith, up, le-a, ranks .rank-le b (subst (λ (k : ℕ). b < k) (F .made-is) made-b)));
+                  row-free = room;
+                });
+          },
+        ),
+        λ z. omega (arith, z, status-a),
+      )
+    where
+      target-of :
+          {b : ℕ} → (statusOf (S .control b) ≡ NEW) ⊎ (statusOf (S .control b) ≡ RELEASED)
+          → (b < s .made) × ((status (s .vertices) b ≡ NEW) ⊎ (status (s .vertices) b ≡ RELEASED))
+      target-of {b} (inl z) = let (made, new) = stands b NEW z (omega arith) in (made, inl new)
+      target-of {b} (inr z) = let (made, released) = stands b RELEASED z (omega arith) in (made, inr released)
+
+      apart : {a b : ℕ} → a ≡ b → S .fin a < S .rank b → S .rank a ≤ S .fin a → ⊥
+      apart {a} z up le = let up' : S .fin a < S .rank a = subst (λ (k : ℕ). S .fin a < S .rank k) (sym z) up in omega arith
+
+  -- transfer
+  pub takes-transfer : Ranks S → (v h : ℕ) → statusOf (S .control v) ≡ EXECUTING → In (hand h) (tasksOf S v) → Taken (Transfer v h) s
+  takes-transfer ranks v h q i =
+      let tasks = shape .todo-fits v in
+      let new-h = new-of v h (tasks .hand-to h i) in
+      let (made-h, status-h) = stands h NEW new-h (omega arith) in
+      let le-h = ranks .rank-le h (live S shape h NEW new-h (omega arith)) in (
+        runs v q,
+        record {
+          is-made = made-h;
+          is-new = status-h;
+          no-edge-out = none-out-of (s .edges) (s .held) h .1 (λ b. F .edges-are h b ∙ tasks .hand-new h b i);
+          no-path = target-reaches (s .edges) (s .held) v h ∙ no-way ranks v h (omega (arith, le-h, ranks .hand-rank v h i));
+        },
+      )

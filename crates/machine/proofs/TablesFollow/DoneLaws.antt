@@ -1,0 +1,229 @@
+-- What the tables follow after a command that is taken: the state after a start, a stop, a newTd and after each command that joins
+-- vertices, before anything is done to the row of the vertex that steps.
+use Prim.Native.Nat.{ℕ, _+_, _<_, _≤_}
+use mathlib.Core.Path.{_≡_, refl, sym, _∙_, ap, subst}
+use mathlib.Core.Bool.{Bool, true, not}
+use mathlib.Core.Logic.{inl, inr, ⊎-elim}
+use mathlib.Core.List.{[]}
+use native.Mathlib.Omega.{arith}
+use lib.Dec.{eqb}
+use borrow.Author.Tests.{eq-eqb, ne-eqb, eqb-true, eqb-false, not-true}
+use Rattle.graph.specs.Tests.{both, either}
+use Rattle.graph.specs.Tables.{Lent, NEW, RELEASED, EXECUTING, FINISHED, vertexRows, edgeRows, status}
+use Rattle.graph.specs.Sound.{sound}
+use Rattle.graph.specs.Paths.{holds}
+use Rattle.graph.specs.Commands.{withStatus, withEdge, withMoved, stopped}
+use Rattle.graph.specs.declared.Command.{Command}
+use Rattle.graph.specs.declared.Command.the-variants.{NewTd, NewEdge, Release, Transfer, Start, Stop}
+use Rattle.graph.proofs.TestLaws.{both-true, both-left, both-right, either-cases, either-left, either-right, not-of-false}
+use Rattle.graph.proofs.EdgeLaws.{Is, OneMore, NotFrom, Moved, is-same, without-is}
+use Rattle.graph.proofs.SoundLaws.{sound-fits}
+use Rattle.graph.proofs.TakenLaws.{leaves, Taken}
+use Rattle.graph.proofs.EffectLaws.{leaves-edge, withEdge-is, withMoved-is}
+use Rattle.program.specs.Located.{Code, startOf, last}
+use Rattle.machine.proofs.GhostMachine.Ghost.{Do, link, hand, free, Control, fresh, ready, busy, over, State, put, freed, withControl, withEdges}
+use Rattle.machine.proofs.GhostMachine.Ghost.{grown, linked, handed, dropped, done, eventOf}
+use Rattle.machine.proofs.GhostMachine.Invariant.{In, tasksOf, Shape, Ranks, Roads}
+use Rattle.machine.proofs.Counting.Weights.{links}
+use Rattle.machine.proofs.TablesFollow.Follows.{Words, row, wordsOf, Shows, shows-fresh, shows-ready, shows-busy, shows-over, Follows, Answers}
+use Rattle.machine.proofs.TablesFollow.Follows.{says-edge, says-release, says-transfer}
+use Rattle.machine.proofs.TablesFollow.RowLaws.{setAt, rowed-status}
+use Rattle.machine.proofs.TablesFollow.FollowLaws.{statusOf, row-follows, edges-follow, vertex-follows}
+use Rattle.machine.proofs.TablesFollow.CommandLaws.{says, leaves-sound, takes-release, takes-edge, takes-transfer}
+
+-- the sets of edges of the moves, told by their members
+linked-is : (e : ℕ → ℕ → Bool) (a b : ℕ) → Is (linked e a b) (OneMore e a b)
+linked-is e a b x y = (
+  λ h. ⊎-elim inl (λ r. inr (eqb-true x a (both-left _ _ r), eqb-true y b (both-right _ _ r))) (either-cases _ _ h),
+  λ h. ⊎-elim (λ r. either-left _ r) (λ r. either-right _ (both-true (eq-eqb x a (r .0)) (eq-eqb y b (r .1)))) h,
+)
+
+dropped-is : (e : ℕ → ℕ → Bool) (v : ℕ) → Is (dropped e v) (NotFrom e v)
+dropped-is e v x y = (
+  λ h. (both-left _ _ h, eqb-false x v (not-true _ (both-right _ _ h))),
+  λ h. both-true (h .0) (not-of-false (ne-eqb x v (h .1))),
+)
+
+handed-is : (e : ℕ → ℕ → Bool) (v h : ℕ) → Is (handed e v h) (Moved e v h)
+handed-is e v h x y = (
+  λ q. ⊎-elim (λ r. inl (dropped-is e v x y .0 r)) (λ r. inr (eqb-true x h (both-left _ _ r), both-right _ _ r)) (either-cases _ _ q),
+  λ q. ⊎-elim (λ r. either-left _ (dropped-is e v x y .1 r)) (λ r. either-right _ (both-true (eq-eqb x h (r .0)) (r .1))) q,
+)
+
+-- the row of a vertex that waits or is busy
+ready-row : {p : Code} {L σ : ℕ} {w : Words} {c : Code} → Shows p L w σ (ready c) → w ≡ row RELEASED (startOf c) σ 0 0 0 0
+ready-row (shows-ready h) = h
+
+fresh-row : {p : Code} {L σ : ℕ} {w : Words} {c : Code} → Shows p L w σ (fresh c) → w ≡ row NEW (startOf c) σ 0 0 0 0
+fresh-row (shows-fresh h) = h
+
+-- a started, a released and a finished row
+shows-started : {p : Code} {L σ : ℕ} {w : Words} {c : Code} → Shows p L w σ (ready c) → Shows p L (setAt 0 EXECUTING w) σ (busy c [])
+shows-started h = shows-busy (ap (setAt 0 EXECUTING) (ready-row h))
+
+shows-freed : {p : Code} {L σ : ℕ} {w : Words} {c : Code} → Shows p L w σ (fresh c) → Shows p L (setAt 0 RELEASED w) σ (freed (fresh c))
+unfolding freed
+shows-freed h = shows-ready (ap (setAt 0 RELEASED) (fresh-row h))
+
+shows-finished : {p : Code} {L σ : ℕ} (w : Words) → Shows p L (setAt 0 FINISHED w) σ over
+shows-finished (row st pl sc ph a b c) = shows-over pl sc ph a b c refl
+
+module _ {p : Code} {L : ℕ} {s : Lent} {S : State} (F : Follows p L s S) where
+  in-table : (v : ℕ) → v < s .made → v < vertexRows (s .vertices)
+  in-table v lt = omega (arith, sound-fits s (F .sound-is) .vertices-fit)
+
+  -- what v shows
+  pub shown-as : (v : ℕ) (x : Control) → v < s .made → S .control v ≡ x → Shows p L (wordsOf s v) (S .scope v) x
+  shown-as v x lt q =
+      subst (λ (y : Control). Shows p L (wordsOf s v) (S .scope v) y) q (F .rows-are v (subst (λ (k : ℕ). v < k) (F .made-is) lt))
+
+  -- start
+  pub start-done :
+      (v : ℕ) (c : Code) → S .control v ≡ ready c → Taken (Start v) s
+      → Follows p L (leaves (Start v) s) (withControl S (put (S .control) v (busy c [])))
+  start-done v c q h =
+      row-follows S (busy c []) F (rowed-status s v EXECUTING (in-table v (h .1))) (shows-started (shown-as v (ready c) (h .1) q))
+
+  -- stop
+  pub stop-done :
+      (v : ℕ) → Taken (Stop v) s
+      → Follows p L (leaves (Stop v) s) (withEdges (withControl S (put (S .control) v over)) (dropped (S .edge) v))
+  unfolding stopped
+  stop-done v h =
+      edges-follow (withControl S (put (S .control) v over)) (dropped (S .edge) v)
+      (row-follows S over F (rowed-status s v FINISHED (in-table v (h .is-made))) (shows-finished (wordsOf s v)))
+      refl refl
+      (λ a b.
+      is-same (without-is v (s .edges) (s .held)) (dropped-is (holds (s .edges) (s .held)) v) a b
+      ∙ ap (λ (z : Bool). both z (not (eqb a v))) (F .edges-are a b))
+      (leaves-sound (Stop v) s (F .sound-is) h)
+
+  -- newTd, of a vertex with the code k and the scope σ
+  pub new-done :
+      (v : ℕ) (x : Control) (k : Code) (σ : ℕ) → Shows p L (row NEW (startOf k) σ 0 0 0 0) σ x → Taken (NewTd v (startOf k) σ) s
+      → Follows p L (leaves (NewTd v (startOf k) σ) s) (grown S v x σ (startOf k) (last k))
+  new-done v x k σ shown h = vertex-follows s S v x k σ F (h .1) (leaves-sound (NewTd v (startOf k) σ) s (F .sound-is) h) shown
+
+  -- newEdge, out of a vertex that is not finished
+  edge-follows :
+      (a b : ℕ) → s .held < edgeRows (s .edges) → sound (withEdge s a b) ≡ true
+      → Follows p L (withEdge s a b) (withEdges S (linked (S .edge) a b))
+  unfolding withEdge
+  edge-follows a b room known =
+      edges-follow S (linked (S .edge) a b) F refl refl
+      (λ x y.
+      is-same (withEdge-is s a b room) (linked-is (holds (s .edges) (s .held)) a b) x y
+      ∙ ap (λ (z : Bool). either z (both (eqb x a) (eqb y b))) (F .edges-are x y))
+      known
+
+  pub edge-done :
+      (v a b : ℕ) → Taken (NewEdge v a b) s → (status (s .vertices) a ≡ FINISHED → ⊥) → s .held < edgeRows (s .edges)
+      → Follows p L (leaves (NewEdge v a b) s) (withEdges S (linked (S .edge) a b))
+  edge-done v a b h live room =
+      rw (leaves-edge s v a b live)
+      (edge-follows a b room (rw (leaves-edge s v a b live) at (leaves-sound (NewEdge v a b) s (F .sound-is) h)))
+
+  -- transfer
+  pub hand-done :
+      (v h : ℕ) → Taken (Transfer v h) s → Follows p L (leaves (Transfer v h) s) (withEdges S (handed (S .edge) v h))
+  unfolding withMoved
+  hand-done v h t =
+      edges-follow S (handed (S .edge) v h) F refl refl
+      (λ a b.
+      is-same (withMoved-is s v h (sound-fits s (F .sound-is))) (handed-is (holds (s .edges) (s .held)) v h) a b
+      ∙ ap (λ (z : Bool). either (both z (not (eqb a v))) (both (eqb a h) (holds (s .edges) (s .held) v b))) (F .edges-are a b)
+      ∙ ap (λ (z : Bool). either (both (S .edge a b) (not (eqb a v))) (both (eqb a h) z)) (F .edges-are v b))
+      (leaves-sound (Transfer v h) s (F .sound-is) t)
+
+  -- release
+  pub free-done :
+      (v m : ℕ) (c : Code) → S .control m ≡ fresh c → Taken (Release v m) s
+      → Follows p L (leaves (Release v m) s) (withControl S (put (S .control) m (freed (S .control m))))
+  free-done v m c q h =
+      row-follows S (freed (S .control m)) F (rowed-status s m RELEASED (in-table m (h .1)))
+      (subst (λ (x : Control). Shows p L (setAt 0 RELEASED (wordsOf s m)) (S .scope m) (freed x)) (sym q)
+      (shows-freed (shown-as m (fresh c) (h .1) q)))
+
+-- the single command of a vertex that joins vertices
+unfoldable pub asked : ℕ → Do → Command
+asked v (link a b) = NewEdge v a b
+asked v (hand h) = Transfer v h
+asked v (free m) = Release v m
+
+-- the row that it needs
+unfoldable pub Room : Lent → Do → Type 0
+Room s (link a b) = s .held < edgeRows (s .edges)
+Room s (hand h) = Unit {0}
+Room s (free m) = Unit {0}
+
+-- It is taken; the tables follow what it does; it leaves the row of its vertex, and answers and needs rows as it should.
+pub record Joined (p : Code) (L : ℕ) (s : Lent) (S : State) (v : ℕ) (d : Do) : Type 0 where
+  pub is-taken : Taken (asked v d) s
+  pub follows : Follows p L (leaves (asked v d) s) (done S v d)
+  pub row-same : wordsOf (leaves (asked v d) s) v ≡ wordsOf s v
+  pub scope-same : done S v d .scope v ≡ S .scope v
+  pub held-le : leaves (asked v d) s .held ≤ s .held + links (eventOf d)
+  pub answers : Answers S v (eventOf d) (says (asked v d) s)
+
+-- a row beside the one that is set
+row-beside : (s : Lent) (v m x : ℕ) → m < vertexRows (s .vertices) → (v ≡ m → ⊥) → wordsOf (withStatus s m x) v ≡ wordsOf s v
+row-beside s v m x lt ne = rowed-status s m x lt .others v ne
+
+-- newEdge and transfer change no row of a vertex, and hold one edge more, or none
+edge-row : (s : Lent) (v a b u : ℕ) → (status (s .vertices) a ≡ FINISHED → ⊥) → wordsOf (leaves (NewEdge v a b) s) u ≡ wordsOf s u
+unfolding wordsOf withEdge
+edge-row s v a b u live = rw (leaves-edge s v a b live) refl
+
+edge-held : (s : Lent) (v a b : ℕ) → (status (s .vertices) a ≡ FINISHED → ⊥) → leaves (NewEdge v a b) s .held ≤ s .held + 1
+unfolding withEdge
+edge-held s v a b live = rw (leaves-edge s v a b live) (omega arith)
+
+moved-row : (s : Lent) (v h u : ℕ) → wordsOf (leaves (Transfer v h) s) u ≡ wordsOf s u
+unfolding wordsOf withMoved
+moved-row s v h u = refl
+
+moved-held : (s : Lent) (v h : ℕ) → leaves (Transfer v h) s .held ≤ s .held + 0
+unfolding withMoved
+moved-held s v h = omega arith
+
+-- each of the three commands
+pub joined :
+    {p : Code} {L : ℕ} {s : Lent} {S : State} → Shape S → Ranks S → Roads S → Follows p L s S → (v : ℕ) (d : Do)
+    → statusOf (S .control v) ≡ EXECUTING → In d (tasksOf S v) → Room s d → Joined p L s S v d
+unfolding asked Room done eventOf links
+joined {s = s} shape ranks roads F v (link a b) q i room =
+    let (t, live) = takes-edge shape F ranks roads v a b q i room in
+    record {
+      is-taken = t;
+      follows = edge-done F v a b t live room;
+      row-same = edge-row s v a b v live;
+      scope-same = refl;
+      held-le = edge-held s v a b live;
+      answers = says-edge a b;
+    }
+joined {s = s} shape ranks roads F v (hand h) q i room =
+    let t = takes-transfer shape F ranks v h q i in
+    record {
+      is-taken = t;
+      follows = hand-done F v h t;
+      row-same = moved-row s v h v;
+      scope-same = refl;
+      held-le = moved-held s v h;
+      answers = says-transfer h;
+    }
+joined {s = s} {S = S} shape ranks roads F v (free m) q i room =
+    let t = takes-release shape F v m q i in
+    let (c, fresh-is) = shape .todo-fits v .frees m i .0 in
+    record {
+      is-taken = t;
+      follows = free-done F v m c fresh-is t;
+      row-same = row-beside s v m RELEASED (in-table F m (t .1)) (λ z. apart z (t .0 .executing) (t .2));
+      scope-same = refl;
+      held-le = omega arith;
+      answers = says-release m;
+    }
+  where
+    apart : {v m : ℕ} → v ≡ m → status (s .vertices) v ≡ EXECUTING → status (s .vertices) m ≡ NEW → ⊥
+    apart {m = m} z x y =
+        let same : status (s .vertices) m ≡ EXECUTING = subst (λ (k : ℕ). status (s .vertices) k ≡ EXECUTING) z x in
+        omega arith

@@ -1,0 +1,177 @@
+-- Tables that follow a state: what the rows tell of it, and how they follow it further. There are five effects, and each move is made of
+-- them: a row and its control change, the edges change, a vertex is made, drafts are drafts no more, a step is counted.
+use Prim.Native.Nat.{ℕ, suc, _+_, _<_}
+use mathlib.Core.Path.{_≡_, refl, sym, _∙_, ap, subst}
+use mathlib.Core.Bool.{Bool, true, false, cond}
+use mathlib.Core.Logic.{⊎-elim}
+use mathlib.Core.List.{List}
+use native.Mathlib.Omega.{arith}
+use Rattle.graph.specs.Tables.{Lent, NEW, RELEASED, EXECUTING, FINISHED, vertexRows, status}
+use Rattle.graph.specs.Sound.{sound}
+use Rattle.graph.specs.Paths.{holds}
+use Rattle.graph.specs.Commands.{withVertex}
+use Rattle.graph.proofs.TestLaws.{equal?}
+use Rattle.graph.proofs.SoundLaws.{Known, Fits, sound-fits, fits-sound}
+use Rattle.program.specs.Located.{Code, startOf, last}
+use Rattle.machine.specs.Answers.{oneStep}
+use Rattle.machine.proofs.GhostMachine.Ghost.{Control, draft, fresh, ready, busy, joining, over, State, put, woken, among, withControl, withEdges}
+use Rattle.machine.proofs.GhostMachine.Ghost.{grown, stirred}
+use Rattle.machine.proofs.GhostMachine.GhostLaws.{put-same, put-other}
+use Rattle.machine.proofs.TablesFollow.Follows.{Words, row, wordsOf, Shows, shows-draft, shows-fresh, shows-ready, shows-busy, shows-joining}
+use Rattle.machine.proofs.TablesFollow.Follows.{shows-over, Follows, statusIn}
+use Rattle.machine.proofs.TablesFollow.RowLaws.{Rowed, new-row, new-others}
+
+-- the status that a row has while it shows a control
+unfoldable pub statusOf : Control → ℕ
+statusOf (draft c) = NEW
+statusOf (fresh c) = NEW
+statusOf (ready c) = RELEASED
+statusOf (busy c ms) = EXECUTING
+statusOf (joining c d ds) = EXECUTING
+statusOf over = FINISHED
+
+-- these are statuses
+status-known : (x : Control) → Known (statusOf x)
+unfolding statusOf
+status-known (draft c) = (omega arith, omega arith)
+status-known (fresh c) = (omega arith, omega arith)
+status-known (ready c) = (omega arith, omega arith)
+status-known (busy c ms) = (omega arith, omega arith)
+status-known (joining c d ds) = (omega arith, omega arith)
+status-known over = (omega arith, omega arith)
+
+-- a row has the status of what it shows
+status-shown : {p : Code} {L σ : ℕ} {w : Words} {x : Control} → Shows p L w σ x → statusIn w ≡ statusOf x
+unfolding statusOf
+status-shown (shows-draft h) = ap statusIn h
+status-shown (shows-fresh h) = ap statusIn h
+status-shown (shows-ready h) = ap statusIn h
+status-shown (shows-busy h) = ap statusIn h
+status-shown (shows-joining k φ ms h at goes le rest) = ap statusIn h
+status-shown (shows-over pl sc ph a b c h) = ap statusIn h
+
+shown-status : {p : Code} {L σ : ℕ} (s : Lent) (v : ℕ) {x : Control} → Shows p L (wordsOf s v) σ x → status (s .vertices) v ≡ statusOf x
+unfolding wordsOf
+shown-status s v h = status-shown h
+
+-- what is shown by the row of a vertex that is made
+pub follows-status :
+    {p : Code} {L : ℕ} (s : Lent) (S : State) (v : ℕ) → Follows p L s S → v < S .count → status (s .vertices) v ≡ statusOf (S .control v)
+follows-status s S v F lt = shown-status s v (F .rows-are v lt)
+
+-- a row and its control change
+pub row-follows :
+    {p : Code} {L : ℕ} {s s' : Lent} {v : ℕ} {f : Words → Words} (S : State) (x : Control) → Follows p L s S → Rowed s s' v f
+    → Shows p L (f (wordsOf s v)) (S .scope v) x → Follows p L s' (withControl S (put (S .control) v x))
+row-follows {p} {L} {s} {s'} {v} S x F R shown =
+    record {
+      made-is = R .made-same ∙ F .made-is;
+      edges-are = edges;
+      rows-are = rows;
+      sound-is =
+          fits-sound s'
+          (record {
+            vertices-fit = rw (R .made-same, R .length-same) (fits .vertices-fit);
+            edges-fit = rw (R .held-same, R .edges-same) (fits .edges-fit);
+            statuses-known =
+                λ k lt.
+                let shows = rows k (omega (arith, R .made-same, F .made-is)) in
+                subst (λ (z : ℕ). Known z) (sym (shown-status s' k shows)) (status-known _);
+            ends-made = rw (R .made-same, R .held-same, R .edges-same) (fits .ends-made);
+          });
+    }
+  where
+    fits : Fits s
+    fits = sound-fits s (F .sound-is)
+
+    edges : (a b : ℕ) → holds (s' .edges) (s' .held) a b ≡ S .edge a b
+    edges a b = rw (R .held-same, R .edges-same) (F .edges-are a b)
+
+    rows : (u : ℕ) → u < S .count → Shows p L (wordsOf s' u) (S .scope u) (put (S .control) v x u)
+    rows u lt =
+        ⊎-elim
+        (λ q.
+        subst (λ (z : ℕ). Shows p L (wordsOf s' z) (S .scope z) (put (S .control) v x z)) (sym q)
+        (rw (R .here, put-same (S .control) v x) shown))
+        (λ ne. rw (R .others u ne, put-other (S .control) v x u ne) (F .rows-are u lt))
+        (equal? u v)
+
+-- tables with the same vertices have the same rows
+same-rows : (s s' : Lent) (u : ℕ) → s' .vertices ≡ s .vertices → wordsOf s' u ≡ wordsOf s u
+unfolding wordsOf
+same-rows s s' u q = rw q refl
+
+-- the edges change
+pub edges-follow :
+    {p : Code} {L : ℕ} {s s' : Lent} (S : State) (e : ℕ → ℕ → Bool) → Follows p L s S → s' .vertices ≡ s .vertices → s' .made ≡ s .made
+    → ((a b : ℕ) → holds (s' .edges) (s' .held) a b ≡ e a b) → sound s' ≡ true → Follows p L s' (withEdges S e)
+edges-follow {s} {s'} S e F q m h known =
+    record {
+      made-is = m ∙ F .made-is;
+      edges-are = h;
+      rows-are = λ u lt. rw (same-rows s s' u q) (F .rows-are u lt);
+      sound-is = known;
+    }
+
+-- a vertex is made
+pub vertex-follows :
+    {p : Code} {L : ℕ} (s : Lent) (S : State) (t : ℕ) (x : Control) (k : Code) (σ : ℕ) → Follows p L s S
+    → s .made < vertexRows (s .vertices) → sound (withVertex s (startOf k) σ) ≡ true → Shows p L (row NEW (startOf k) σ 0 0 0 0) σ x
+    → Follows p L (withVertex s (startOf k) σ) (grown S t x σ (startOf k) (last k))
+unfolding withVertex
+vertex-follows {p} {L} s S t x k σ F room known shown =
+    record {
+      made-is = counted s S (F .made-is);
+      edges-are = F .edges-are;
+      rows-are = rows;
+      sound-is = known;
+    }
+  where
+    counted : (s : Lent) (S : State) → s .made ≡ S .count → s .made + 1 ≡ suc (S .count)
+    counted s S q = omega arith
+
+    rows :
+        (u : ℕ) → u < suc (S .count)
+        → Shows p L (wordsOf (withVertex s (startOf k) σ) u) (put (S .scope) (S .count) σ u) (put (S .control) (S .count) x u)
+    rows u lt =
+        ⊎-elim
+        (λ q.
+        subst
+        (λ (z : ℕ). Shows p L (wordsOf (withVertex s (startOf k) σ) z) (put (S .scope) (S .count) σ z) (put (S .control) (S .count) x z))
+        (sym q)
+        (rw (put-same (S .scope) (S .count) σ, put-same (S .control) (S .count) x, sym (F .made-is), new-row s (startOf k) σ room) shown))
+        (λ ne.
+        rw (put-other (S .scope) (S .count) σ u ne, put-other (S .control) (S .count) x u ne)
+        (rw (new-others s (startOf k) σ u (λ q. ne (q ∙ F .made-is))) (F .rows-are u (omega arith))))
+        (equal? u (S .count))
+
+-- a draft and a fresh vertex have the same row
+shows-woken : {p : Code} {L σ : ℕ} {w : Words} {x : Control} → Shows p L w σ x → Shows p L w σ (woken x)
+unfolding woken
+shows-woken (shows-draft h) = shows-fresh h
+shows-woken (shows-fresh h) = shows-fresh h
+shows-woken (shows-ready h) = shows-ready h
+shows-woken (shows-busy h) = shows-busy h
+shows-woken (shows-joining k φ ms h at goes le rest) = shows-joining k φ ms h at goes le rest
+shows-woken (shows-over pl sc ph a b c h) = shows-over pl sc ph a b c h
+
+-- drafts are drafts no more
+pub woken-follows :
+    {p : Code} {L : ℕ} {s : Lent} (S : State) (ms : List ℕ) → Follows p L s S
+    → Follows p L s (withControl S (stirred (S .control) ms))
+woken-follows {p} {L} {s} S ms F =
+    record {
+      made-is = F .made-is;
+      edges-are = F .edges-are;
+      rows-are = λ u lt. go (among u ms) (F .rows-are u lt);
+      sound-is = F .sound-is;
+    }
+  where
+    go : (b : Bool) {w : Words} {σ : ℕ} {x : Control} → Shows p L w σ x → Shows p L w σ (cond b (woken x) x)
+    go true h = shows-woken h
+    go false h = h
+
+-- a step is counted
+pub count-follows : {p : Code} {L : ℕ} {s : Lent} {S : State} → Follows p L s S → Follows p L (oneStep s) S
+unfolding wordsOf sound
+count-follows F = record { made-is = F .made-is; edges-are = F .edges-are; rows-are = F .rows-are; sound-is = F .sound-is }

@@ -1,0 +1,85 @@
+-- How lent tables and the ghost machine belong together. The rows show what each vertex is at (`Shows`), and the held edges are the
+-- machine's (`Follows`). A step is refused for a reason that the state shows, or it is a move, which its answer tells (`Followed`).
+use Prim.Native.Nat.{ℕ, _+_, _<_, _≤_}
+use mathlib.Core.Path.{_≡_}
+use mathlib.Core.Bool.{true}
+use mathlib.Core.List.{List, [], _∷_}
+use mathlib.Core.Option.{some}
+use lib.ListN.{length, drop, getD}
+use Rattle.graph.specs.Tables.{Lent, NEW, RELEASED, EXECUTING, FINISHED, status}
+use Rattle.refusal.specs.Refusals.{no-such-vertex, edge-leads-in, vertex-is-new, vertex-is-finished}
+use Rattle.graph.specs.Sound.{sound}
+use Rattle.graph.specs.Paths.{holds}
+use Rattle.program.specs.Located.{Code, job-at, codeAt}
+use Rattle.program.specs.Located as code
+use Rattle.machine.specs.Answers.{StepSaid, Outcome, refuse}
+use Rattle.machine.specs.Stepping as words
+use Rattle.machine.proofs.GhostMachine.Ghost.{Do, Control, draft, fresh, ready, busy, joining, over, State, kids, goes, kindOf, commandsOf, joins}
+use Rattle.machine.proofs.GhostMachine.Ghost.{Event, a-start, a-new, an-edge, a-release, a-transfer, a-job, a-stop, Move}
+use Rattle.machine.proofs.GhostMachine.Invariant.{isNew}
+use Rattle.machine.proofs.Counting.Weights.{links}
+
+-- A vertex row: status, place, scope, phase, and the vertices that the item at hand made.
+pub data Words : Type 0 where
+  row : (status place scope phase a b c : ℕ) → Words
+
+unfoldable pub wordsOf : Lent → ℕ → Words
+wordsOf s v =
+    row (status (s .vertices) v) (words.place s v) (words.scope s v) (words.phase s v) (words.made s v 0) (words.made s v 1)
+    (words.made s v 2)
+
+-- its status
+abbrev pub statusIn : Words → ℕ
+statusIn (row st pl sc ph a b c) = st
+
+-- A row shows a control, of a vertex with the scope σ, in a program p whose last byte is at L.
+pub data Shows (p : Code) (L : ℕ) (w : Words) (σ : ℕ) : Control → Type 0 where
+  shows-draft : {c : Code} → w ≡ row NEW (code.startOf c) σ 0 0 0 0 → Shows p L w σ (draft c)
+  shows-fresh : {c : Code} → w ≡ row NEW (code.startOf c) σ 0 0 0 0 → Shows p L w σ (fresh c)
+  shows-ready : {c : Code} → w ≡ row RELEASED (code.startOf c) σ 0 0 0 0 → Shows p L w σ (ready c)
+  shows-busy :
+      {c : Code} {ms : List ℕ} → w ≡ row EXECUTING (code.startOf c) σ (length ms) (getD ms 0 0) (getD ms 1 0) (getD ms 2 0)
+      → Shows p L w σ (busy c ms)
+  -- its item is at k's head, and has come to phase φ
+  shows-joining :
+      {c : Code} {d : Do} {ds : List Do} (k : Code) (φ : ℕ) (ms : List ℕ)
+      → w ≡ row EXECUTING (code.startOf k) σ φ (getD ms 0 0) (getD ms 1 0) (getD ms 2 0) → codeAt p (code.startOf k) ≡ some k → goes L k ≡ c
+      → length (kids k) ≤ φ → joins σ ms (drop φ (commandsOf (kindOf k))) ≡ d ∷ ds → Shows p L w σ (joining c d ds)
+  shows-over : (pl sc ph a b c : ℕ) → w ≡ row FINISHED pl sc ph a b c → Shows p L w σ over
+
+pub record Follows (p : Code) (L : ℕ) (s : Lent) (S : State) : Type 0 where
+  pub made-is : s .made ≡ S .count
+  pub edges-are : (a b : ℕ) → holds (s .edges) (s .held) a b ≡ S .edge a b
+  pub rows-are : (v : ℕ) → v < S .count → Shows p L (wordsOf s v) (S .scope v) (S .control v)
+  pub sound-is : sound s ≡ true
+
+-- why a step of v is refused: "20 no such vertex; 21 released but an edge leads in; 22 new; 23 finished"
+pub data Refuses (S : State) (v : ℕ) : ℕ → Type 0 where
+  absent : S .count ≤ v → Refuses S v no-such-vertex
+  blocked : {c : Code} → S .control v ≡ ready c → (u : ℕ) → S .edge u v ≡ true → Refuses S v edge-leads-in
+  is-new : isNew (S .control v) ≡ true → Refuses S v vertex-is-new
+  is-over : v < S .count → S .control v ≡ over → Refuses S v vertex-is-finished
+
+-- what a move is answered with
+pub data Answers (S : State) (v : ℕ) : Event → StepSaid → Type 0 where
+  says-start : Answers S v a-start StepSaid.start
+  says-new : Answers S v a-new (StepSaid.new (S .count))
+  says-edge : (a b : ℕ) → Answers S v an-edge (StepSaid.edge a b)
+  says-release : (m : ℕ) → Answers S v a-release (StepSaid.release m)
+  says-transfer : (h : ℕ) → Answers S v a-transfer (StepSaid.transfer h)
+  says-job : {o n : ℕ} {r : Code} → S .control v ≡ busy (job-at o n r) [] → Answers S v (a-job o) (StepSaid.job n o)
+  says-stop : Answers S v a-stop StepSaid.stop
+
+-- what a move does to the tally's other numbers, and to the tables' lengths
+pub record Tallied (e : Event) (s s' : Lent) : Type 0 where
+  pub steps-are : s' .steps ≡ s .steps + 1
+  pub held-le : s' .held ≤ s .held + links e
+  pub vertex-length : length (s' .vertices) ≡ length (s .vertices)
+  pub edge-length : length (s' .edges) ≡ length (s .edges)
+
+-- A step of v: refused for one of these reasons, or a move.
+pub data Followed (p : Code) (L : ℕ) (s : Lent) (S : State) (v : ℕ) (o : Outcome) : Type 0 where
+  refused : (n : ℕ) → Refuses S v n → o ≡ refuse s n 0 → Followed p L s S v o
+  moved :
+      (e : Event) (S' : State) → Move L S v e S' → Follows p L (o .after) S' → Answers S v e (o .answer) → Tallied e s (o .after)
+      → Followed p L s S v o

@@ -1,0 +1,221 @@
+-- The tables that an accepted loading leaves follow the ghost machine as it begins: vertices 0 and 1 are released, each with its place and
+-- with scope 1, all other words of the used rows are 0, and the edge from 0 to 1 is held.
+use Prim.Native.Nat.{ℕ, zero, suc, _+_, _-_, _*_, _<_, _≤_}
+use mathlib.Core.Path.{_≡_, refl, sym, _∙_, ap}
+use mathlib.Core.Bool.{true, false}
+use mathlib.Core.Logic.{inr, ⊎-elim}
+use mathlib.Core.List.{List}
+use native.Mathlib.Omega.{arith}
+use lib.ListN.{length, getD, length-set}
+use lib.Seq.{getD-set-same, getD-set-other}
+use Rattle.graph.specs.Tables.{Lent, RELEASED, vertexWords, edgeWords, statusWord, placeWord, scopeWord, vertexRows, edgeRows, vertexWord}
+use Rattle.graph.specs.Tables.{status, setStatus, setVertexWord, clear}
+use Rattle.graph.specs.Sound.{sound}
+use Rattle.graph.specs.Paths.{holds}
+use Rattle.graph.specs.Commands.{appended}
+use Rattle.graph.proofs.TableLaws.{vertex-in, length-clear, clear-in, length-appended}
+use Rattle.graph.proofs.EdgeLaws.{Is, is-same, holds-none, appended-is}
+use Rattle.graph.proofs.SoundLaws.{fits-sound}
+use Rattle.program.specs.Trees.{Body}
+use Rattle.program.specs.Bytes.{encode, size}
+use Rattle.program.specs.Reader.{program, reading}
+use Rattle.program.specs.Located.{Code, end-at, locate}
+use Rattle.program.specs.Located as code
+use Rattle.program.proofs.LocatedLaws.{place-locate, last-locate}
+use Rattle.program.proofs.Exactness.{reading-sound}
+use Rattle.machine.specs.Answers.{isLoaded}
+use Rattle.machine.specs.Loading.{placed, loadedTables, load}
+use Rattle.machine.specs.Demand2.{Lends}
+use Rattle.machine.proofs.LoadLaws.{two-rows, one-edge-row, load-accepted}
+use Rattle.machine.proofs.GhostMachine.Ghost.{ready}
+use Rattle.machine.proofs.GhostMachine.RoadLaws.{linked-new}
+use Rattle.machine.proofs.GhostMachine.Beginning.{beginning, beginning-edge}
+use Rattle.machine.proofs.TablesFollow.Follows.{Words, row, wordsOf, Shows, shows-ready, Follows, statusIn}
+use Rattle.machine.proofs.TablesFollow.RowLaws.{same-row}
+
+-- the row of a vertex in a table
+abbrev rowIn : List ℕ → ℕ → Words
+rowIn l k =
+    row (vertexWord l k 0) (vertexWord l k 1) (vertexWord l k 2) (vertexWord l k 3) (vertexWord l k 4) (vertexWord l k 5) (vertexWord l k 6)
+
+-- a vertex as loading sets it, in a table where its row is cleared
+module _ (l : List ℕ) (k x : ℕ) where
+  length-placed : length (placed l k x) ≡ length l
+  length-placed = simp length-set
+
+  -- outside its first three words nothing changes
+  placed-out :
+      (i : ℕ) → (i ≡ vertexWords * k + statusWord → ⊥) → (i ≡ vertexWords * k + placeWord → ⊥)
+      → (i ≡ vertexWords * k + scopeWord → ⊥) → getD (placed l k x) i 0 ≡ getD l i 0
+  placed-out i ns np nc =
+      getD-set-other (setVertexWord (setStatus l k RELEASED) k placeWord x) (vertexWords * k + scopeWord) i _ 0 nc
+      ∙ getD-set-other (setStatus l k RELEASED) (vertexWords * k + placeWord) i x 0 np
+      ∙ getD-set-other l (vertexWords * k + statusWord) i RELEASED 0 ns
+
+  -- these three
+  placed-status : k < vertexRows l → vertexWord (placed l k x) k statusWord ≡ RELEASED
+  placed-status lt =
+      getD-set-other (setVertexWord (setStatus l k RELEASED) k placeWord x) (vertexWords * k + scopeWord) (vertexWords * k + statusWord) _ 0
+      (omega arith)
+      ∙ getD-set-other (setStatus l k RELEASED) (vertexWords * k + placeWord) (vertexWords * k + statusWord) x 0 (omega arith)
+      ∙ getD-set-same l (vertexWords * k + statusWord) RELEASED 0 (vertex-in l k statusWord lt (omega arith))
+
+  placed-place : k < vertexRows l → vertexWord (placed l k x) k placeWord ≡ x
+  placed-place lt =
+      getD-set-other (setVertexWord (setStatus l k RELEASED) k placeWord x) (vertexWords * k + scopeWord) (vertexWords * k + placeWord) _ 0
+      (omega arith)
+      ∙ getD-set-same (setStatus l k RELEASED) (vertexWords * k + placeWord) x 0
+      (simp length-set (vertex-in l k placeWord lt (omega arith)))
+
+  placed-scope : k < vertexRows l → vertexWord (placed l k x) k scopeWord ≡ 1
+  placed-scope lt =
+      getD-set-same (setVertexWord (setStatus l k RELEASED) k placeWord x) (vertexWords * k + scopeWord) _ 0
+      (simp length-set (vertex-in l k scopeWord lt (omega arith)))
+
+  -- its whole row
+  placed-row : k < vertexRows l → ((w : ℕ) → w < vertexWords → vertexWord l k w ≡ 0) → rowIn (placed l k x) k ≡ row RELEASED x 1 0 0 0 0
+  placed-row lt z =
+      same-row (placed-status lt) (placed-place lt) (placed-scope lt) (rest 3 (omega arith) (omega arith))
+      (rest 4 (omega arith) (omega arith)) (rest 5 (omega arith) (omega arith)) (rest 6 (omega arith) (omega arith))
+    where
+      rest : (w : ℕ) → 2 < w → w < vertexWords → vertexWord (placed l k x) k w ≡ 0
+      rest w gt lw = placed-out (vertexWords * k + w) (omega arith) (omega arith) (omega arith) ∙ z w lw
+
+  -- the rows of others
+  placed-word : (u w : ℕ) → w < vertexWords → (u ≡ k → ⊥) → vertexWord (placed l k x) u w ≡ vertexWord l u w
+  placed-word u w lw ne = placed-out (vertexWords * u + w) (λ q. ne (omega arith)) (λ q. ne (omega arith)) (λ q. ne (omega arith))
+
+  placed-other : (u : ℕ) → (u ≡ k → ⊥) → rowIn (placed l k x) u ≡ rowIn l u
+  placed-other u ne =
+      same-row (at 0 (omega arith)) (at 1 (omega arith)) (at 2 (omega arith)) (at 3 (omega arith)) (at 4 (omega arith))
+      (at 5 (omega arith)) (at 6 (omega arith))
+    where
+      at : (w : ℕ) → w < vertexWords → vertexWord (placed l k x) u w ≡ vertexWord l u w
+      at w lw = placed-word u w lw ne
+
+-- the used rows, cleared
+abbrev blank : List ℕ → List ℕ
+blank l = clear l 0 (vertexWords * vertexRows l)
+
+blank-word : (l : List ℕ) (k w : ℕ) → k < vertexRows l → w < vertexWords → vertexWord (blank l) k w ≡ 0
+blank-word l k w lt lw = clear-in l 0 (vertexWords * vertexRows l) (vertexWords * k + w) (omega arith) (omega arith)
+
+-- the vertex table that loading leaves
+abbrev loadedRows : List ℕ → ℕ → List ℕ
+loadedRows l L = placed (placed (blank l) 0 0) 1 L
+
+-- its length, and its first two rows
+length-loaded : (l : List ℕ) (L : ℕ) → length (loadedRows l L) ≡ length l
+length-loaded l L = length-placed (placed (blank l) 0 0) 1 L ∙ length-placed (blank l) 0 0 ∙ length-clear l 0 (vertexWords * vertexRows l)
+
+first-row : (l : List ℕ) (L : ℕ) → 2 ≤ vertexRows l → rowIn (loadedRows l L) 0 ≡ row RELEASED 0 1 0 0 0 0
+first-row l L le =
+    placed-other (placed (blank l) 0 0) 1 L 0 (omega arith)
+    ∙ placed-row (blank l) 0 0 (rw length-clear (omega arith)) (λ w lw. blank-word l 0 w (omega arith) lw)
+
+second-row : (l : List ℕ) (L : ℕ) → 2 ≤ vertexRows l → rowIn (loadedRows l L) 1 ≡ row RELEASED L 1 0 0 0 0
+second-row l L le =
+    placed-row (placed (blank l) 0 0) 1 L (rw (length-placed (blank l) 0 0, length-clear) (omega arith))
+    (λ w lw. placed-word (blank l) 0 0 1 w lw (omega arith) ∙ blank-word l 1 w (omega arith) lw)
+
+-- the edge table that it leaves holds one edge
+loaded-edge :
+    (e : List ℕ) (n : ℕ) → 0 < edgeRows e → Is (holds (appended (clear e 0 n) 0 0 1) 1) (λ a b. (a ≡ 0) × (b ≡ 1))
+loaded-edge e n lt a b =
+    let (f, g) = appended-is (clear e 0 n) 0 0 1 (rw length-clear lt) a b in
+    (λ h. ⊎-elim (λ q. absurd (holds-none (clear e 0 n) a b q)) (λ q. q) (f h), λ q. g (inr q))
+
+-- and so does the ghost machine
+begin-edge : (p : Code) (L : ℕ) → Is (beginning p L .edge) (λ a b. (a ≡ 0) × (b ≡ 1))
+unfolding beginning
+begin-edge p L a b = (beginning-edge p L a b, λ q. rw (q .0, q .1) (linked-new (λ a b. false) 0 1))
+
+module _ (bytes : List ℕ) (s : Lent) (t : Body) (h : Lends t s) where
+  -- the offset of the last byte
+  abbrev L : ℕ
+  L = length bytes - 1
+
+  -- each part of the claim
+  edges-follow : (a b : ℕ) → holds (loadedTables bytes s .edges) (loadedTables bytes s .held) a b ≡ beginning (locate 0 t) L .edge a b
+  unfolding loadedTables
+  edges-follow = is-same (loaded-edge (s .edges) (edgeWords * edgeRows (s .edges)) (one-edge-row t s h)) (begin-edge (locate 0 t) L)
+
+  first-shows : Shows (locate 0 t) L (wordsOf (loadedTables bytes s) 0) 1 (ready (locate 0 t))
+  unfolding loadedTables wordsOf
+  first-shows =
+      shows-ready
+      (first-row (s .vertices) L (two-rows t s h) ∙ ap (λ (x : ℕ). row RELEASED x 1 0 0 0 0) (sym (place-locate 0 t)))
+
+  second-shows : Shows (locate 0 t) L (wordsOf (loadedTables bytes s) 1) 1 (ready (end-at L))
+  unfolding loadedTables wordsOf code.startOf
+  second-shows = shows-ready (second-row (s .vertices) L (two-rows t s h))
+
+  rows-follow : (v : ℕ) → v < 2 → Shows (locate 0 t) L (wordsOf (loadedTables bytes s) v) 1 (beginning (locate 0 t) L .control v)
+  unfolding beginning
+  rows-follow zero lt = first-shows
+  rows-follow (suc zero) lt = second-shows
+  rows-follow (suc (suc v)) lt = absurd (omega arith)
+
+  statuses-follow : (k : ℕ) → k < 2 → status (loadedTables bytes s .vertices) k ≡ RELEASED
+  unfolding loadedTables
+  statuses-follow zero lt = ap statusIn (first-row (s .vertices) L (two-rows t s h))
+  statuses-follow (suc zero) lt = ap statusIn (second-row (s .vertices) L (two-rows t s h))
+  statuses-follow (suc (suc v)) lt = absurd (omega arith)
+
+  sound-follows : sound (loadedTables bytes s) ≡ true
+  unfolding loadedTables
+  sound-follows =
+      fits-sound (loadedTables bytes s)
+      (record {
+        vertices-fit = rw (length-loaded (s .vertices) L) (two-rows t s h);
+        edges-fit = rw (length-appended (clear (s .edges) 0 (edgeWords * edgeRows (s .edges))) 0 0 1, length-clear) (one-edge-row t s h);
+        statuses-known = λ k lt. let q = statuses-follow k lt in (omega (arith, q), omega (arith, q));
+        ends-made =
+            λ a b q.
+            let (x, y) = loaded-edge (s .edges) (edgeWords * edgeRows (s .edges)) (one-edge-row t s h) a b .0 q in
+            (omega (arith, x), omega (arith, y));
+      })
+
+  loaded-follows : Follows (locate 0 t) L (loadedTables bytes s) (beginning (locate 0 t) L)
+  unfolding loadedTables beginning
+  loaded-follows =
+      record {
+        made-is = refl;
+        edges-are = edges-follow;
+        rows-are = rows-follow;
+        sound-is = sound-follows;
+      }
+
+-- what else loading leaves: the tally's other numbers, and the tables' lengths
+pub record Begun (s s' : Lent) : Type 0 where
+  pub steps-none : s' .steps ≡ 0
+  pub held-one : s' .held ≡ 1
+  pub vertex-length : length (s' .vertices) ≡ length (s .vertices)
+  pub edge-length : length (s' .edges) ≡ length (s .edges)
+
+loaded-begun : (bytes : List ℕ) (s : Lent) → Begun s (loadedTables bytes s)
+unfolding loadedTables
+loaded-begun bytes s =
+    record {
+      steps-none = refl;
+      held-one = refl;
+      vertex-length = length-loaded (s .vertices) (length bytes - 1);
+      edge-length = rw (length-appended (clear (s .edges) 0 (edgeWords * edgeRows (s .edges))) 0 0 1, length-clear);
+    }
+
+-- After an accepted loading the tables follow the ghost machine as it begins.
+pub load-follows :
+    (bytes : List ℕ) (s : Lent) (t : Body) → reading bytes ≡ program t → isLoaded (load bytes s .answer) ≡ true
+    → Follows (locate 0 t) (length bytes - 1) (load bytes s .after) (beginning (locate 0 t) (length bytes - 1))
+    × Begun s (load bytes s .after)
+load-follows bytes s t r h =
+    let (l, e) = load-accepted bytes s t r h in
+    rw e (loaded-follows bytes s t l, loaded-begun bytes s)
+
+-- The number that the two are told is the offset of the program's end byte.
+pub last-byte : (bytes : List ℕ) (t : Body) → reading bytes ≡ program t → code.last (locate 0 t) ≡ length bytes - 1
+unfolding size
+last-byte bytes t r =
+    let same : length bytes ≡ length (encode t) = ap length (reading-sound bytes t r .0) in
+    let ends : suc (code.last (locate 0 t)) ≡ 0 + size t = last-locate 0 t in
+    omega arith

@@ -1,0 +1,292 @@
+-- A step of the lent tables is a move of the ghost machine, or it is refused for one of the paper's reasons. What the vertex
+-- is at decides which.
+use Prim.Native.Nat.{ℕ, _-_, _<_, _≤_}
+use mathlib.Core.Path.{_≡_, refl, sym, _∙_, ap, subst}
+use mathlib.Core.Bool.{true}
+use mathlib.Core.Logic.{⊎-elim}
+use mathlib.Core.List.{List, [], _∷_, _++_}
+use mathlib.Core.Option.{some}
+use native.Mathlib.Omega.{arith}
+use lib.Dec.{ltb}
+use lib.ListN.{length}
+use borrow.Author.Tests.{ltb-true, ltb-false}
+use Rattle.graph.specs.Tables.{Lent, NEW, RELEASED, EXECUTING, FINISHED, vertexRows, edgeRows}
+use Rattle.refusal.specs.Refusals.{no-such-vertex, edge-leads-in, vertex-is-new, vertex-is-finished}
+use Rattle.graph.specs.Paths.{leadsInto}
+use Rattle.graph.specs.declared.Command.the-variants.{NewTd, Start, Stop}
+use Rattle.graph.proofs.TestLaws.{decide, true-false}
+use Rattle.graph.proofs.SoundLaws.{sound-fits}
+use Rattle.graph.proofs.EdgeLaws.{none-into}
+use Rattle.graph.proofs.TakenLaws.{leaves, Taken}
+use Rattle.program.specs.Trees.{Body}
+use Rattle.program.specs.Encodings.{Name, perform, newTd}
+use Rattle.program.specs.Reader.{program, reading}
+use Rattle.program.specs.Located.{Code, end-at, job-at, locate, startOf, codeAt}
+use Rattle.machine.specs.Answers.{StepSaid, Outcome, oneStep}
+use Rattle.machine.specs.Stepping.{stepLimit, steppable, Own, ownOf, movedOn, filledIn, withOwn, step}
+use Rattle.machine.specs.Stepping as words
+use Rattle.machine.proofs.GhostMachine.Ghost.{Do, link, hand, free, Control, draft, fresh, ready, busy, joining, over, State, resolved, a-start}
+use Rattle.machine.proofs.GhostMachine.Ghost.{a-new, an-edge, a-job, a-stop, eventOf, Move, begins, performs, stops, makes, splits, acts}
+use Rattle.machine.proofs.GhostMachine.Invariant.{isNew, Shape, Ranks, Roads, Coded}
+use Rattle.machine.proofs.GhostMachine.GhostLaws.{draft-new, fresh-new}
+use Rattle.machine.proofs.GhostMachine.RoadLaws.{busy-code}
+use Rattle.machine.proofs.GhostMachine.Unsplit.{MoreToMake, UnsplitAt, Unsplit}
+use Rattle.machine.proofs.TablesFollow.Follows.{Words, wordsOf, Shows, shows-draft, shows-fresh, shows-busy, Follows, absent, blocked, is-new}
+use Rattle.machine.proofs.TablesFollow.Follows.{is-over, Answers, says-start, says-new, says-job, says-stop, Followed, refused, moved}
+use Rattle.machine.proofs.TablesFollow.OwnLaws.{length-stored, leaves-stored}
+use Rattle.machine.proofs.TablesFollow.FollowLaws.{statusOf, follows-status, woken-follows, count-follows}
+use Rattle.machine.proofs.TablesFollow.CommandLaws.{into-from, first-task, stands, runs, takes-start}
+use Rattle.machine.proofs.TablesFollow.DoneLaws.{shown-as, start-done, stop-done, asked, Room, Joined, joined}
+use Rattle.machine.proofs.TablesFollow.StepLaws.{rowOf, steppable-of, step-is, due-absent, due-new, due-over, due-released, row-place, job-item}
+use Rattle.machine.proofs.TablesFollow.StepLaws.{due-command, due-end}
+use Rattle.machine.proofs.StepDemand2.{blocked-step}
+use Rattle.machine.proofs.TablesFollow.ItemLaws.{Acting, acting, busyRow, Making, Busy, at-end, at-job, making, splitting}
+use Rattle.machine.proofs.TablesFollow.ItemLaws.{busy-cases, job-next}
+use Rattle.machine.proofs.TablesFollow.MoveLaws.{joins-due, new-due, by-command, acts-follows, performs-follows, makes-follows, new-held, stop-held}
+
+-- the row of a busy vertex
+busy-row : {p : Code} {L σ : ℕ} {w : Words} {c : Code} {ms : List ℕ} → Shows p L w σ (busy c ms) → w ≡ busyRow c σ ms
+busy-row (shows-busy h) = h
+
+-- statuses by what a vertex is at
+new-is : (x : Control) → isNew x ≡ true → statusOf x ≡ NEW
+unfolding isNew statusOf
+new-is (draft c) h = refl
+new-is (fresh c) h = refl
+new-is (ready c) h = true-false h refl
+new-is (busy c ms) h = true-false h refl
+new-is (joining c d ds) h = true-false h refl
+new-is over h = true-false h refl
+
+ready-is : {x : Control} {c : Code} → x ≡ ready c → statusOf x ≡ RELEASED
+unfolding statusOf
+ready-is q = ap statusOf q
+
+busy-is : {x : Control} {c : Code} {ms : List ℕ} → x ≡ busy c ms → statusOf x ≡ EXECUTING
+unfolding statusOf
+busy-is q = ap statusOf q
+
+joining-is : {x : Control} {c : Code} {d : Do} {ds : List Do} → x ≡ joining c d ds → statusOf x ≡ EXECUTING
+unfolding statusOf
+joining-is q = ap statusOf q
+
+over-is : {x : Control} → x ≡ over → statusOf x ≡ FINISHED
+unfolding statusOf
+over-is q = ap statusOf q
+
+-- what is left of an item that is not split
+busy-left : {x : Control} {c : Code} {ms : List ℕ} → UnsplitAt x → x ≡ busy c ms → MoreToMake c ms
+unfolding UnsplitAt
+busy-left h q = subst (λ (x : Control). UnsplitAt x) q h
+
+-- the row that a joining command needs
+room-for :
+    {L : ℕ} (s : Lent) {S : State} {v : ℕ} {c : Code} {ds : List Do} (d : Do) → S .control v ≡ joining c d ds
+    → ((S' : State) → Move L S v an-edge S' → s .held < edgeRows (s .edges)) → Room s d
+unfolding Room eventOf
+room-for s (link a b) q edge-room = edge-room _ (acts q)
+room-for s (hand h) q edge-room = tt
+room-for s (free m) q edge-room = tt
+
+module _
+    (bytes : List ℕ) (t : Body) (s : Lent) (S : State) (v : ℕ) (reads : reading bytes ≡ program t) (shape : Shape S) (ranks : Ranks S)
+    (roads : Roads S) (coded : Coded (locate 0 t) S) (unsplit : Unsplit S) (F : Follows (locate 0 t) (length bytes - 1) s S)
+    (limit : s .steps < stepLimit)
+  where
+    abbrev p : Code
+    p = locate 0 t
+
+    abbrev L : ℕ
+    L = length bytes - 1
+
+    abbrev Result : Type 0
+    Result = Followed p L s S v (step bytes s v)
+
+    ok : steppable s ≡ true
+    ok = steppable-of s (F .sound-is) limit
+
+    is-made : v < S .count → v < s .made
+    is-made lt = subst (λ (k : ℕ). v < k) (sym (F .made-is)) lt
+
+    -- refusals
+    refuses-absent : S .count ≤ v → Result
+    refuses-absent le = refused no-such-vertex (absent le) (step-is bytes s v (due-absent bytes s v ok (rw (F .made-is) le)))
+
+    refuses-new : isNew (S .control v) ≡ true → Result
+    refuses-new q =
+        let (made, new) = stands shape F v NEW (new-is (S .control v) q) (omega arith) in
+        refused vertex-is-new (is-new q) (step-is bytes s v (due-new bytes s v ok made new))
+
+    refuses-over : v < S .count → S .control v ≡ over → Result
+    refuses-over lt q =
+        refused vertex-is-finished (is-over lt q)
+        (step-is bytes s v (due-over bytes s v ok (is-made lt) (follows-status s S v F lt ∙ over-is q)))
+
+    -- a released vertex starts, unless an edge leads in
+    step-ready : (c : Code) → S .control v ≡ ready c → Result
+    step-ready c q =
+        let (made, released) = stands shape F v RELEASED (ready-is q) (omega arith) in
+        ⊎-elim
+        (λ h.
+        let (u, held) = into-from (s .edges) (s .held) v h in
+        refused edge-leads-in (blocked q u (sym (F .edges-are u v) ∙ held)) (blocked-step bytes s v ok made released h))
+        (λ h.
+        let taken = takes-start shape F v (ready-is q) h in
+        by-command (Start v) (ownOf s v) a-start _ F (step-is bytes s v (due-released bytes s v ok made released)) taken
+        (begins q (λ u. sym (F .edges-are u v) ∙ none-into (s .edges) (s .held) v .0 h u))
+        (rw (leaves-stored (Start v) s v made) (start-done F v c q taken))
+        says-start
+        (omega arith))
+        (decide (leadsInto (s .edges) (s .held) v))
+
+    -- a joining command
+    step-acts :
+        (c : Code) (d : Do) (ds : List Do) → S .control v ≡ joining c d ds → v < s .made → Acting p L (S .scope v) (wordsOf s v) d ds c
+        → Joined p L s S v d → Result
+    step-acts c d ds q made a j =
+        by-command (asked v d) _ (eventOf d) _ F
+        (step-is bytes s v
+        (due-command bytes t s v reads ok made (a .k) (a .is-row) (a .stands) (a .item) (a .command) (a .next-is)
+        ∙ joins-due s v (a .item .number) (a .item .spot) _ (a .ms) (a .is-row) (a .does)))
+        (j .is-taken)
+        (acts q)
+        (acts-follows F v c d ds a j made)
+        (j .answers)
+        (j .held-le)
+
+    step-joining :
+        (c : Code) (d : Do) (ds : List Do) → S .control v ≡ joining c d ds
+        → ((S' : State) → Move L S v an-edge S' → s .held < edgeRows (s .edges)) → Result
+    step-joining c d ds q edge-room =
+        let made = stands shape F v EXECUTING (joining-is q) (omega arith) .0 in
+        step-acts c d ds q made (acting (shown-as F v (joining c d ds) made q))
+        (joined shape ranks roads F v d (joining-is q) (first-task S v q) (room-for s d q edge-room))
+
+    -- what a busy vertex shows
+    module _ (c : Code) (ms : List ℕ) (q : S .control v ≡ busy c ms) where
+      busy-made : v < s .made
+      busy-made = stands shape F v EXECUTING (busy-is q) (omega arith) .0
+
+      busy-shown : wordsOf s v ≡ busyRow c (S .scope v) ms
+      busy-shown = busy-row (shown-as F v (busy c ms) busy-made q)
+
+      busy-stands : codeAt p (startOf c) ≡ some c
+      busy-stands = coded v c (busy-code q)
+
+      -- it makes a vertex: S' is what the tables follow then
+      step-makes :
+          (k : Code) (a : Name) (m : Making L c ms k a) (S' : State) → Move L S v a-new S' → s .made < vertexRows (s .vertices)
+          → (Taken (NewTd v (startOf k) (resolved (S .scope v) ms a)) s
+          → Follows p L
+          (withOwn (leaves (NewTd v (startOf k) (resolved (S .scope v) ms a)) s) v
+          (movedOn (rowOf (m .item)) (m .item .spot) (newTd (m .spot-of) a) (length ms) (s .made) (ownOf s v)))
+          S')
+          → Result
+      step-makes k a m S' move room follows =
+          by-command (NewTd v (startOf k) σ) _ a-new S' F
+          (step-is bytes s v
+          (due-command bytes t s v reads ok busy-made c busy-shown busy-stands (m .item) (newTd (m .spot-of) a) (m .next-is)
+          ∙ new-due s v (m .item .number) (m .item .spot) _ ms (m .spot-of) a busy-shown (m .spot-is)))
+          taken
+          move
+          (follows taken)
+          (subst (λ (n : ℕ). Answers S v a-new (StepSaid.new n)) (sym (F .made-is)) says-new)
+          (new-held s v (startOf k) σ _)
+        where
+          σ : ℕ
+          σ = resolved (S .scope v) ms a
+
+          taken : Taken (NewTd v (startOf k) σ) s
+          taken = (runs shape F v (busy-is q), room)
+
+    -- an end byte
+    step-stop : (o : ℕ) → S .control v ≡ busy (end-at o) [] → Result
+    step-stop o q =
+        let taken = runs shape F v (busy-is q) in
+        let made = busy-made (end-at o) [] q in
+        by-command (Stop v) (ownOf s v) a-stop _ F
+        (step-is bytes s v (due-end bytes t s v reads ok made o (busy-shown (end-at o) [] q) (busy-stands (end-at o) [] q)))
+        taken
+        (stops q)
+        (rw (leaves-stored (Stop v) s v made) (stop-done F v taken))
+        says-stop
+        (stop-held s v _)
+
+    -- a job
+    step-job : (o n : ℕ) (r : Code) → S .control v ≡ busy (job-at o n r) [] → Result
+    step-job o n r q =
+        subst (λ (o : Outcome). Followed p L s S v o) (sym is-step)
+        (moved (a-job o) _ (performs q)
+        (count-follows (performs-follows F v o n r shown within))
+        (subst (λ (z : ℕ). Answers S v (a-job o) (StepSaid.job n z)) (sym at-o) (says-job q))
+        (record { steps-are = refl; held-le = omega arith; vertex-length = length-stored (s .vertices) v after; edge-length = refl }))
+      where
+        made : v < s .made
+        made = busy-made (job-at o n r) [] q
+
+        shown : wordsOf s v ≡ busyRow (job-at o n r) (S .scope v) []
+        shown = busy-shown (job-at o n r) [] q
+
+        within : v < vertexRows (s .vertices)
+        within = omega (arith, made, sound-fits s (F .sound-is) .vertices-fit)
+
+        at-o : words.place s v ≡ o
+        at-o = unfold startOf in row-place s v shown
+
+        after : Own
+        after = movedOn (rowOf (job-item L o n r)) (job-item L o n r .spot) perform 0 (s .made) (ownOf s v)
+
+        is-step : step bytes s v ≡ record { answer = StepSaid.job n (words.place s v); after = oneStep (withOwn s v after) }
+        is-step =
+            unfold filledIn job-item in
+            step-is bytes s v
+            (due-command bytes t s v reads ok made (job-at o n r) shown (busy-stands (job-at o n r) [] q) (job-item L o n r) perform
+            (job-next L o n r))
+
+    -- a busy vertex
+    step-busy :
+        (c : Code) (ms : List ℕ) → S .control v ≡ busy c ms → ((S' : State) → Move L S v a-new S' → s .made < vertexRows (s .vertices))
+        → Busy L c ms → Result
+    step-busy c ms q room (at-end o) = step-stop o q
+    step-busy c ms q room (at-job o n r) = step-job o n r q
+    step-busy c ms q room (making k a next more left m) =
+        step-makes c ms q k a m _ (makes q left) (room _ (makes q left))
+        (makes-follows F v c ms k a m (busy c (ms ++ (S .count ∷ []))) (draft k) (resolved (S .scope v) ms a) (shows-draft refl)
+        (λ w h. shows-busy h)
+        (busy-shown c ms q)
+        (busy-made c ms q))
+    step-busy c ms q room (splitting k a left m behind) =
+        step-makes c ms q k a m _ (splits q left) (room _ (splits q left))
+        (makes-follows (woken-follows S ms F) v c ms k a m _ (fresh k) (resolved (S .scope v) ms a) (shows-fresh refl)
+        (λ w h. behind p (S .scope v) (S .count) w h (busy-stands c ms q))
+        (busy-shown c ms q)
+        (busy-made c ms q))
+
+    -- by what v is at
+    module _
+        (new-room : (S' : State) → Move L S v a-new S' → s .made < vertexRows (s .vertices))
+        (edge-room : (S' : State) → Move L S v an-edge S' → s .held < edgeRows (s .edges))
+      where
+        step-at : (x : Control) → v < S .count → S .control v ≡ x → Result
+        step-at (draft c) lt q = refuses-new (draft-new q)
+        step-at (fresh c) lt q = refuses-new (fresh-new q)
+        step-at (ready c) lt q = step-ready c q
+        step-at (busy c ms) lt q = step-busy c ms q new-room (busy-cases L c ms (busy-left (unsplit v) q))
+        step-at (joining c d ds) lt q = step-joining c d ds q edge-room
+        step-at over lt q = refuses-over lt q
+
+        step-any : Result
+        step-any =
+            ⊎-elim
+            (λ h. step-at (S .control v) (ltb-true v (S .count) h) refl)
+            (λ h. refuses-absent (ltb-false v (S .count) h))
+            (decide (ltb v (S .count)))
+
+-- A step of the lent tables is a move of the ghost machine.
+pub step-follows :
+    (bytes : List ℕ) (t : Body) (s : Lent) (S : State) (v : ℕ) → reading bytes ≡ program t → Shape S → Ranks S → Roads S
+    → Coded (locate 0 t) S → Unsplit S → Follows (locate 0 t) (length bytes - 1) s S → s .steps < stepLimit
+    → ((S' : State) → Move (length bytes - 1) S v a-new S' → s .made < vertexRows (s .vertices))
+    → ((S' : State) → Move (length bytes - 1) S v an-edge S' → s .held < edgeRows (s .edges))
+    → Followed (locate 0 t) (length bytes - 1) s S v (step bytes s v)
+step-follows = step-any

@@ -1,0 +1,199 @@
+-- What is due at a step, by the row of its vertex: a refusal, a start, or the next command of the item at its place. What stands at the
+-- place is told by the vertex's code (`ItemOf`).
+use Prim.Native.Nat.{ℕ, _-_, _<_, _≤_}
+use mathlib.Core.Path.{_≡_, refl, _∙_, ap}
+use mathlib.Core.Bool.{Bool, true, false, cond}
+use mathlib.Core.List.{List}
+use mathlib.Core.Option.{Option, some}
+use native.Mathlib.Omega.{arith}
+use lib.ListN.{length, getD}
+use borrow.Author.Tests.{lt-ltb, le-ltb, eq-eqb, ne-eqb}
+use Rattle.graph.specs.Tables.{Lent, NEW, RELEASED, EXECUTING, FINISHED, status}
+use Rattle.refusal.specs.Refusals.{no-such-vertex, vertex-is-new, vertex-is-finished}
+use Rattle.graph.specs.Sound.{sound}
+use Rattle.graph.specs.Commands.{hasStatus}
+use Rattle.graph.specs.declared.Command.the-variants.{Start, Stop}
+use Rattle.graph.proofs.TestLaws.{true-false, both-true, not-of-false, not-of-true}
+use Rattle.program.specs.Trees.{Kind, jobs, asyncs, finishes, forks, Body}
+use Rattle.program.specs.Encodings.{Name, own-scope, made-1, made-2, made-3, Spot, Command, Row, firstEdition}
+use Rattle.program.specs.Answers.{Stands}
+use Rattle.program.specs.Reader.{program, reading}
+use Rattle.program.specs.Located.{Code, end-at, job-at, async-at, finish-at, fork-at, locate, codeAt, head, itemAt}
+use Rattle.program.specs.Located as code
+use Rattle.program.proofs.LocatedLaws.{item-stands}
+use Rattle.machine.specs.Stepping.{stepLimit, steppable, place, phase, named, Task, item, spots, task, nth, ownOf, movedOn, Due}
+use Rattle.machine.specs.Stepping.{refusal-due, command-due, filledIn, nextOf, nextAt, due, doDue, step}
+use Rattle.machine.proofs.GhostMachine.Ghost.{kindOf, goes, resolved}
+use Rattle.machine.proofs.GhostMachine.Invariant.{isItem}
+use Rattle.machine.proofs.TablesFollow.Follows.{row, wordsOf}
+use Rattle.machine.proofs.TablesFollow.AnswerLaws.{if-pass, if-stop}
+
+-- sound tables with steps to go
+pub steppable-of : (s : Lent) → sound s ≡ true → s .steps < stepLimit → steppable s ≡ true
+unfolding steppable
+steppable-of s known lt = both-true known (lt-ltb (s .steps) stepLimit lt)
+
+-- a step does what is due
+pub step-is : (bytes : List ℕ) (s : Lent) (v : ℕ) {d : Due} → due bytes s v ≡ d → step bytes s v ≡ doDue s v d
+unfolding step
+step-is bytes s v e = ap (doDue s v) e
+
+-- by the status
+module _ (bytes : List ℕ) (s : Lent) (v : ℕ) (ok : steppable s ≡ true) where
+  pub due-absent : s .made ≤ v → due bytes s v ≡ refusal-due no-such-vertex
+  unfolding due
+  due-absent le = if-pass _ _ ok ∙ if-stop _ _ (le-ltb v (s .made) le)
+
+  module _ (made : v < s .made) where
+    pub due-new : status (s .vertices) v ≡ NEW → due bytes s v ≡ refusal-due vertex-is-new
+    unfolding due
+    due-new q =
+        if-pass _ _ ok
+        ∙ if-pass _ _ (lt-ltb v (s .made) made)
+        ∙ if-stop _ _ (not-of-true (eq-eqb (status (s .vertices) v) NEW q))
+
+    pub due-over : status (s .vertices) v ≡ FINISHED → due bytes s v ≡ refusal-due vertex-is-finished
+    unfolding due
+    due-over q =
+        if-pass _ _ ok
+        ∙ if-pass _ _ (lt-ltb v (s .made) made)
+        ∙ if-pass _ _ (not-of-false (ne-eqb (status (s .vertices) v) NEW (omega arith)))
+        ∙ if-stop _ _ (not-of-true (eq-eqb (status (s .vertices) v) FINISHED q))
+
+    -- one that is neither new nor finished
+    due-live :
+        (status (s .vertices) v ≡ NEW → ⊥) → (status (s .vertices) v ≡ FINISHED → ⊥) → (b : Bool) → hasStatus s v RELEASED ≡ b
+        → due bytes s v
+        ≡ cond b (command-due (Start v) (ownOf s v)) (nextAt s v (task (length bytes - 1) (itemAt bytes (place s v))))
+    unfolding due
+    due-live new over b q =
+        if-pass _ _ ok
+        ∙ if-pass _ _ (lt-ltb v (s .made) made)
+        ∙ if-pass _ _ (not-of-false (ne-eqb (status (s .vertices) v) NEW new))
+        ∙ if-pass _ _ (not-of-false (ne-eqb (status (s .vertices) v) FINISHED over))
+        ∙ rw q refl
+
+    -- a released one is started
+    pub due-released : status (s .vertices) v ≡ RELEASED → due bytes s v ≡ command-due (Start v) (ownOf s v)
+    due-released q = due-live (omega arith) (omega arith) true (eq-eqb (status (s .vertices) v) RELEASED q)
+
+    -- an executing one looks for its item
+    pub due-executing :
+        status (s .vertices) v ≡ EXECUTING → due bytes s v ≡ nextAt s v (task (length bytes - 1) (itemAt bytes (place s v)))
+    due-executing q = due-live (omega arith) (omega arith) false (ne-eqb (status (s .vertices) v) RELEASED (omega arith))
+
+-- words of a row
+module _ (s : Lent) (v : ℕ) {st pl sc ph a b c : ℕ} (h : wordsOf s v ≡ row st pl sc ph a b c) where
+  row-status : status (s .vertices) v ≡ st
+  unfolding wordsOf
+  row-status = cc
+
+  pub row-place : place s v ≡ pl
+  unfolding wordsOf
+  row-place = cc
+
+  row-phase : phase s v ≡ ph
+  unfolding wordsOf
+  row-phase = cc
+
+-- names stand for what the row has
+pub named-is :
+    (s : Lent) (v : ℕ) {st pl σ ph : ℕ} (ms : List ℕ) → wordsOf s v ≡ row st pl σ ph (getD ms 0 0) (getD ms 1 0) (getD ms 2 0)
+    → (a : Name) → named s v a ≡ resolved σ ms a
+unfolding named resolved wordsOf
+named-is s v ms h own-scope = cc
+named-is s v ms h made-1 = cc
+named-is s v ms h made-2 = cc
+named-is s v ms h made-3 = cc
+
+-- The item that code begins with, as the step finds it.
+pub record ItemOf (L : ℕ) (c : Code) : Type 0 where
+  pub kind : Kind
+  pub number : ℕ
+  pub spot : Spot → ℕ
+  pub is-kind : kindOf c ≡ some kind
+  pub stands : task L (head c) ≡ item (firstEdition kind) number spot
+  pub goes-on : spot (firstEdition kind .next) ≡ code.startOf (goes L c)
+
+-- the table's row for it
+abbrev pub rowOf : {L : ℕ} {c : Code} → ItemOf L c → Row
+rowOf i = firstEdition (i .kind)
+
+-- a job
+unfoldable pub job-item : (L o n : ℕ) (r : Code) → ItemOf L (job-at o n r)
+unfolding kindOf head task spots goes firstEdition
+job-item L o n r =
+    record {
+      kind = jobs;
+      number = n;
+      spot = spots (code.startOf r) (code.startOf r) (code.startOf r) L;
+      is-kind = refl;
+      stands = refl;
+      goes-on = refl;
+    }
+
+-- any item
+unfoldable pub item-of : (L : ℕ) (c : Code) → isItem c ≡ true → ItemOf L c
+unfolding isItem kindOf head task spots goes firstEdition code.startOf
+item-of L (end-at o) h = true-false h refl
+item-of L (job-at o n r) h = job-item L o n r
+item-of L (async-at o b r) h =
+    record {
+      kind = asyncs;
+      number = 0;
+      spot = spots (code.startOf b) (code.startOf b) (code.startOf r) L;
+      is-kind = refl;
+      stands = refl;
+      goes-on = refl;
+    }
+item-of L (finish-at o b r) h =
+    record {
+      kind = finishes;
+      number = 0;
+      spot = spots (code.startOf b) (code.startOf b) (code.startOf r) L;
+      is-kind = refl;
+      stands = refl;
+      goes-on = refl;
+    }
+item-of L (fork-at o b c r) h =
+    record {
+      kind = forks;
+      number = 0;
+      spot = spots (code.startOf b) (code.startOf c) (code.startOf r) L;
+      is-kind = refl;
+      stands = refl;
+      goes-on = refl;
+    }
+
+-- what is due at the step of a vertex v that executes, with the place of c and the phase φ in its row
+module _
+    (bytes : List ℕ) (t : Body) (s : Lent) (v : ℕ) (reads : reading bytes ≡ program t) (ok : steppable s ≡ true) (made : v < s .made)
+  where
+    module _
+        (c : Code) {σ φ x y z : ℕ} (h : wordsOf s v ≡ row EXECUTING (code.startOf c) σ φ x y z)
+        (at : codeAt (locate 0 t) (code.startOf c) ≡ some c)
+      where
+        due-task : due bytes s v ≡ nextAt s v (task (length bytes - 1) (head c))
+        due-task =
+            due-executing bytes s v ok made (row-status s v h)
+            ∙ ap (λ (q : ℕ). nextAt s v (task (length bytes - 1) (itemAt bytes q))) (row-place s v h)
+            ∙ ap (λ (q : Stands). nextAt s v (task (length bytes - 1) q)) (item-stands bytes t (code.startOf c) reads at)
+
+        -- an item's next command
+        pub due-command :
+            (i : ItemOf (length bytes - 1) c) (d : Command) → nth (rowOf i .commands) φ ≡ some d
+            → due bytes s v ≡ filledIn s v (i .number) (i .spot) (movedOn (rowOf i) (i .spot) d φ (s .made) (ownOf s v)) d
+        unfolding nextAt nextOf
+        due-command i d q =
+            due-task
+            ∙ ap (λ (k : Task). nextAt s v k) (i .stands)
+            ∙ ap (λ (n : ℕ). nextOf s v (rowOf i) (i .number) (i .spot) (nth (rowOf i .commands) n)) (row-phase s v h)
+            ∙ ap (λ (o : Option Command). nextOf s v (rowOf i) (i .number) (i .spot) o) q
+            ∙ ap (λ (n : ℕ). filledIn s v (i .number) (i .spot) (movedOn (rowOf i) (i .spot) d n (s .made) (ownOf s v)) d) (row-phase s v h)
+
+    -- an end byte
+    pub due-end :
+        (o : ℕ) {σ x y z : ℕ} → wordsOf s v ≡ row EXECUTING (code.startOf (end-at o)) σ 0 x y z
+        → codeAt (locate 0 t) (code.startOf (end-at o)) ≡ some (end-at o) → due bytes s v ≡ command-due (Stop v) (ownOf s v)
+    unfolding nextAt task head
+    due-end o h at = due-task (end-at o) h at ∙ if-pass _ _ (eq-eqb (phase s v) 0 (row-phase s v h))
