@@ -24,7 +24,7 @@ fn nested(openers: u32, length: usize) {
 fn openers(count: u32) {
     let mut bytes = [0u8; 4097];
     fill(&mut bytes, 0, count, 1, 2);
-    show::number(b"openers ", count);
+    number(b"openers ", count);
     part(&bytes, count as usize);
 }
 
