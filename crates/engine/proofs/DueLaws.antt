@@ -31,12 +31,15 @@ unfolding ownOf
 own-place s v w h = cc
 
 -- what is due at an item is due at the place where it stands
-pub next-item : (bytes : List ℕ) (v σ : ℕ) (w : Own) (made : ℕ) {item : Stands} {d : Due} → item ≡ itemAt bytes (w .place) → NextAt (length bytes - 1) v σ (ownWords w) made item d → Next bytes v σ (ownWords w) made d
+pub next-item :
+    (bytes : List ℕ) (v σ : ℕ) (w : Own) (made : ℕ) {item : Stands} {d : Due} → item ≡ itemAt bytes (w .place)
+    → NextAt (length bytes - 1) v σ (ownWords w) made item d → Next bytes v σ (ownWords w) made d
 next-item bytes v σ w made {item} {d} e h s p q r =
     h s p q r ∙ ap (λ (x : Stands). nextAt s v (task (length bytes - 1) x)) (e ∙ ap (itemAt bytes) (sym (own-place s v w p)))
 
 -- where nothing starts
-pub next-nothing : (bytes : List ℕ) (v σ : ℕ) (w : Own) (made : ℕ) {n q : ℕ} → Stands.refused n q ≡ itemAt bytes (w .place) → Next bytes v σ (ownWords w) made (refusal-due 13)
+pub next-nothing :
+    (bytes : List ℕ) (v σ : ℕ) (w : Own) (made : ℕ) {n q : ℕ} → Stands.refused n q ≡ itemAt bytes (w .place) → Next bytes v σ (ownWords w) made (refusal-due 13)
 unfolding task nextAt
 next-nothing bytes v σ w made e = next-item bytes v σ w made e (λ s p q r. refl)
 
@@ -48,7 +51,8 @@ mark-is : (b : Bool) → eqb (cond b 1 0) 1 ≡ b
 mark-is true = refl
 mark-is false = refl
 
-pub marked-starts : (bytes marks : List ℕ) (p : ℕ) {r : Bool} → MarksStarts bytes marks → length marks ≡ programBytes → r ≡ eqb (getD marks p 0) 1 → r ≡ startsAt bytes p
+pub marked-starts :
+    (bytes marks : List ℕ) (p : ℕ) {r : Bool} → MarksStarts bytes marks → length marks ≡ programBytes → r ≡ eqb (getD marks p 0) 1 → r ≡ startsAt bytes p
 marked-starts bytes marks p marked full e =
     e
     ∙ ⊎-elim
@@ -78,25 +82,47 @@ other-of first {rest = rest} p q = q ∙ ap (λ (x : Bool). cond x first rest) (
 pub row-there : (v e : List ℕ) (t : Tally) (k : ℕ) {r : Bool} → r ≡ sound (lent v e t) → not r ≡ false → k < t .made → vertexWords * k + vertexWords ≤ length v
 row-there v e t k p q lt = omega (arith, sound-rows (lent v e t) (answered-yes p q))
 
-pub word-there : (v e : List ℕ) (t : Tally) (k w : ℕ) {r : Bool} → w < vertexWords → r ≡ sound (lent v e t) → not r ≡ false → k < t .made → vertexWords * k + w < length v
+pub word-there :
+    (v e : List ℕ) (t : Tally) (k w : ℕ) {r : Bool} → w < vertexWords → r ≡ sound (lent v e t) → not r ≡ false → k < t .made → vertexWords * k + w < length v
 word-there v e t k w l p q lt = omega (arith, row-there v e t k p q lt)
 
-pub ruleset dues = (passed, halted, both-true, both-false-left, both-false-right, not-of-true, not-of-false, lt-ltb, le-ltb, eq-eqb, ne-eqb, answered-yes, answered-no, refl)
+pub ruleset dues = (
+  passed,
+  halted,
+  both-true,
+  both-false-left,
+  both-false-right,
+  not-of-true,
+  not-of-false,
+  lt-ltb,
+  le-ltb,
+  eq-eqb,
+  ne-eqb,
+  answered-yes,
+  answered-no,
+  refl,
+)
 
 -- a vertex's own words, word by word
-pub own-there : (t : List ℕ) (k : ℕ) → OwnIn t k (machine.own (vertexWord t k placeWord) (vertexWord t k phaseWord) (vertexWord t k madeWord) (vertexWord t k (madeWord + 1)) (vertexWord t k (madeWord + 2)))
+pub own-there :
+    (t : List ℕ) (k : ℕ)
+    → OwnIn t k
+    (machine.own (vertexWord t k placeWord) (vertexWord t k phaseWord) (vertexWord t k madeWord) (vertexWord t k (madeWord + 1))
+    (vertexWord t k (madeWord + 2)))
 unfolding ownOf
 own-there t k s e = cc
 
 -- what is due at the step of a vertex that is released, and of one that executes
-pub there-start : (bytes t : List ℕ) (made k : ℕ) (w : Own) → OwnIn t k (ownWords w) → status t k ≡ RELEASED → DueThere bytes t made k (command-due (Start k) (ownWords w))
+pub there-start :
+    (bytes t : List ℕ) (made k : ℕ) (w : Own) → OwnIn t k (ownWords w) → status t k ≡ RELEASED → DueThere bytes t made k (command-due (Start k) (ownWords w))
 there-start bytes t made k w own is s e m = ap (command-due (Start k)) (own s e) ∙ first-of _ (eq-eqb _ _ (ap (λ (x : List ℕ). status x k) e ∙ is))
 
 pub there-executing :
     (bytes t : List ℕ) (made k : ℕ) (w : Own) {d : Due} → OwnIn t k (ownWords w) → (status t k ≡ RELEASED → ⊥)
     → Next bytes k (vertexWord t k scopeWord) (ownWords w) made d → DueThere bytes t made k d
 there-executing bytes t made k w own unlike next s e m =
-    other-of _ (ne-eqb _ _ (λ is. unlike (sym (ap (λ (x : List ℕ). status x k) e) ∙ is))) (next s (sym (own s e)) (ap (λ (x : List ℕ). vertexWord x k scopeWord) e) m)
+    other-of _ (ne-eqb _ _ (λ is. unlike (sym (ap (λ (x : List ℕ). status x k) e) ∙ is)))
+    (next s (sym (own s e)) (ap (λ (x : List ℕ). vertexWord x k scopeWord) e) m)
 
 -- behind all tests
 pub due-there :
@@ -104,4 +130,5 @@ pub due-there :
     → (status v k ≡ NEW → ⊥) → (status v k ≡ FINISHED → ⊥) → DueThere bytes v (t .made) k d → d ≡ due bytes (lent v e t) k
 unfolding due steppable
 due-there bytes v e t k fine few lt a b h =
-    passed _ (both-true fine (lt-ltb _ _ few)) (passed _ (lt-ltb _ _ lt) (passed _ (not-of-false (ne-eqb _ _ a)) (passed _ (not-of-false (ne-eqb _ _ b)) (h (lent v e t) refl refl))))
+    passed _ (both-true fine (lt-ltb _ _ few))
+    (passed _ (lt-ltb _ _ lt) (passed _ (not-of-false (ne-eqb _ _ a)) (passed _ (not-of-false (ne-eqb _ _ b)) (h (lent v e t) refl refl))))

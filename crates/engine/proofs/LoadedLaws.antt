@@ -6,7 +6,8 @@ use native.Mathlib.Omega.{arith}
 use lib.ListN.{length, set, length-set}
 use Rattle.graph.specs.declared.Tally.{Tally}
 use Rattle.graph.specs.declared.OpenDone.{OpenDone}
-use Rattle.graph.specs.Tables.{Lent, lent, RELEASED, vertexWords, statusWord, placeWord, scopeWord, edgeWords, vertexRows, edgeRows, setVertexWord, setStatus, clear}
+use Rattle.graph.specs.Tables.{Lent, lent, RELEASED, vertexWords, statusWord, placeWord, scopeWord, edgeWords, vertexRows, edgeRows}
+use Rattle.graph.specs.Tables.{setVertexWord, setStatus, clear}
 use Rattle.graph.specs.Answers.{OpeningOutcome, openingOutcome}
 use Rattle.graph.specs.Commands.{openedTables, opening, appended}
 use Rattle.graph.proofs.CallLaws.{opening-opens}
@@ -56,7 +57,8 @@ read-is bytes (program b) e h = record { tree = b; is-read = e; counted = cc }
 read-is bytes (refusal n p) e h = absurd (let z : _≡_ {A = ℕ} 0 1 = cc in omega arith)
 
 -- a refusal
-refusing : (bytes : List ℕ) (s : Lent) {a : LoadingSaid} {after : Lent} (n p : ℕ) → Unloaded bytes s n p → a ≡ loading-refused n p → after ≡ s → Loaded bytes s a after
+refusing :
+    (bytes : List ℕ) (s : Lent) {a : LoadingSaid} {after : Lent} (n p : ℕ) → Unloaded bytes s n p → a ≡ loading-refused n p → after ≡ s → Loaded bytes s a after
 refusing bytes s n p u h k =
     let o : load bytes s .answer ≡ loading-refused n p = load-refused bytes s n p .1 u in
     record { says = h ∙ sym o; leaves = k ∙ sym (load-keeps bytes s (ap isLoaded o)) }
@@ -83,7 +85,9 @@ enough : {r r' n n' : ℕ} → r ≡ r' → n ≡ n' → n ≤ r → n' ≤ r'
 enough p q h = omega arith
 
 -- what opening leaves, where there are rows
-opened : (v e : List ℕ) (t : Tally) (r : OpenDone) (v' e' : List ℕ) → openingOutcome r v' e' ≡ opening (lent v e t) → 2 ≤ vertexRows v → (v' ≡ setStatus (clear v 0 (vertexWords * vertexRows v)) 0 RELEASED) × (e' ≡ clear e 0 (edgeWords * edgeRows e))
+opened :
+    (v e : List ℕ) (t : Tally) (r : OpenDone) (v' e' : List ℕ) → openingOutcome r v' e' ≡ opening (lent v e t) → 2 ≤ vertexRows v
+    → (v' ≡ setStatus (clear v 0 (vertexWords * vertexRows v)) 0 RELEASED) × (e' ≡ clear e 0 (edgeWords * edgeRows e))
 unfolding opening openedTables
 opened v e t r v' e' h two =
     let s : Lent = lent v e t in
@@ -92,22 +96,29 @@ opened v e t r v' e' h two =
     (ap (λ (x : OpeningOutcome). x .after .vertices) o, ap (λ (x : OpeningOutcome). x .after .edges) o)
 
 placed-again : (x : List ℕ) (k p : ℕ) → placed (setStatus x k RELEASED) k p ≡ placed x k p
-placed-again x k p = ap (λ (y : List ℕ). setVertexWord (setVertexWord y k placeWord p) k scopeWord 1) (set-set x (vertexWords * k + statusWord) RELEASED RELEASED)
+placed-again x k p =
+    ap (λ (y : List ℕ). setVertexWord (setVertexWord y k placeWord p) k scopeWord 1) (set-set x (vertexWords * k + statusWord) RELEASED RELEASED)
 
-module _ (bytes v e : List ℕ) (t : Tally) (c : ItemCounts) (is : loads (itemCounts c) ≡ told (reading bytes)) {vr vn : ℕ} (rows : vr ≡ vertexRows v) (need : vn ≡ vertexFormula (itemCounts c)) where
+module _ (bytes v e : List ℕ) (t : Tally) (c : ItemCounts) (is : loads (itemCounts c) ≡ told (reading bytes)) {vr vn : ℕ} (rows : vr ≡ vertexRows v)
+    (need : vn ≡ vertexFormula (itemCounts c)) where
   found : Read bytes (itemCounts c)
   found = read-is bytes (reading bytes) refl is
 
   pub load-few-vertices : {a : LoadingSaid} {t' : Tally} → vr < vn → (a ≡ loading-refused 10 0) × (t' ≡ t) → Loaded bytes (lent v e t) a (lent v e t')
   load-few-vertices lt h =
-      refusing bytes (lent v e t) 10 0 (few-vertex-rows (found .tree) (found .is-read) (below rows (needs-vertices (found .tree) (found .counted) need) lt)) (h .0) (refused-lent v e (h .1))
+      refusing bytes (lent v e t) 10 0
+      (few-vertex-rows (found .tree) (found .is-read) (below rows (needs-vertices (found .tree) (found .counted) need) lt)) (h .0) (refused-lent v e (h .1))
 
   there : vn ≤ vr → needs.verticesMade firstEdition (found .tree) ≤ vertexRows v
   there le = enough rows (needs-vertices (found .tree) (found .counted) need) le
 
-  pub load-few-edges : {a : LoadingSaid} {t' : Tally} {er en : ℕ} → vn ≤ vr → er ≡ edgeRows e → en ≡ edgeRowFormula (itemCounts c) → er < en → (a ≡ loading-refused 11 0) × (t' ≡ t) → Loaded bytes (lent v e t) a (lent v e t')
+  pub load-few-edges :
+      {a : LoadingSaid} {t' : Tally} {er en : ℕ} → vn ≤ vr → er ≡ edgeRows e → en ≡ edgeRowFormula (itemCounts c) → er < en
+      → (a ≡ loading-refused 11 0) × (t' ≡ t) → Loaded bytes (lent v e t) a (lent v e t')
   load-few-edges le erows eneed lt h =
-      refusing bytes (lent v e t) 11 0 (few-edge-rows (found .tree) (found .is-read) (there le) (below erows (needs-edges (found .tree) (found .counted) eneed) lt)) (h .0) (refused-lent v e (h .1))
+      refusing bytes (lent v e t) 11 0
+      (few-edge-rows (found .tree) (found .is-read) (there le) (below erows (needs-edges (found .tree) (found .counted) eneed) lt)) (h .0)
+      (refused-lent v e (h .1))
 
   two-rows : vn ≤ vr → 2 ≤ vertexRows v
   two-rows le = omega arith
@@ -126,7 +137,8 @@ module _ (bytes v e : List ℕ) (t : Tally) (c : ItemCounts) (is : loads (itemCo
     -- what placing the first two vertices asks for
     pub first-two : (2 ≤ vertexRows v') × (1 ≤ length bytes) × (length bytes ≤ programBytes)
     first-two =
-        let same : length v' ≡ length v = ap length (as-opened .0) ∙ length-set (clear v 0 (vertexWords * vertexRows v)) 0 RELEASED ∙ clear-length v 0 (vertexWords * vertexRows v) in
+        let same : length v' ≡ length v =
+        ap length (as-opened .0) ∙ length-set (clear v 0 (vertexWords * vertexRows v)) 0 RELEASED ∙ clear-length v 0 (vertexWords * vertexRows v) in
         let two : 2 ≤ vertexRows v = two-rows le in
         let rows-there : 2 ≤ vertexRows v' = omega arith in
         (rows-there, loaded-length .0, loaded-length .1)
@@ -137,18 +149,27 @@ module _ (bytes v e : List ℕ) (t : Tally) (c : ItemCounts) (is : loads (itemCo
           let same : length (set e' 0 0) ≡ length e = length-set e' 0 0 ∙ ap length (as-opened .1) ∙ clear-length e 0 (edgeWords * edgeRows e) in
           omega arith
 
-      tables : {v'' : List ℕ} → v'' ≡ placed (placed v' 0 0) 1 (length bytes - 1) → _≡_ {A = Lent} (record { vertices = v''; edges = set (set e' 0 0) 1 1; made = 2; held = 1; steps = 0 }) (loadedTables bytes (lent v e t))
+      tables :
+          {v'' : List ℕ} → v'' ≡ placed (placed v' 0 0) 1 (length bytes - 1)
+          → _≡_ {A = Lent} (record { vertices = v''; edges = set (set e' 0 0) 1 1; made = 2; held = 1; steps = 0 }) (loadedTables bytes (lent v e t))
       unfolding loadedTables appended
       tables placing =
           λ i. record {
-            vertices = (placing ∙ ap (λ (x : List ℕ). placed (placed x 0 0) 1 (length bytes - 1)) (as-opened .0) ∙ ap (λ (x : List ℕ). placed x 1 (length bytes - 1)) (placed-again (clear v 0 (vertexWords * vertexRows v)) 0 0)) i;
+            vertices =
+                (placing ∙ ap (λ (x : List ℕ). placed (placed x 0 0) 1 (length bytes - 1)) (as-opened .0)
+                ∙ ap (λ (x : List ℕ). placed x 1 (length bytes - 1)) (placed-again (clear v 0 (vertexWords * vertexRows v)) 0 0))
+                i;
             edges = ap (λ (x : List ℕ). set (set x 0 0) 1 1) (as-opened .1) i;
             made = 2;
             held = 1;
             steps = 0;
           }
 
-      pub load-accepted : {v'' : List ℕ} → v'' ≡ placed (placed v' 0 0) 1 (length bytes - 1) → Loaded bytes (lent v e t) loaded (record { vertices = v''; edges = set (set e' 0 0) 1 1; made = 2; held = 1; steps = 0 })
+      pub load-accepted :
+          {v'' : List ℕ} → v'' ≡ placed (placed v' 0 0) 1 (length bytes - 1)
+          → Loaded bytes (lent v e t) loaded (record { vertices = v''; edges = set (set e' 0 0) 1 1; made = 2; held = 1; steps = 0 })
       load-accepted placing =
-          let o = load-taken bytes (lent v e t) (found .tree) (found .is-read) (record { vertex-rows = there le; edge-rows = enough erows (needs-edges (found .tree) (found .counted) eneed) enough-edges }) in
+          let o =
+          load-taken bytes (lent v e t) (found .tree) (found .is-read)
+          (record { vertex-rows = there le; edge-rows = enough erows (needs-edges (found .tree) (found .counted) eneed) enough-edges }) in
           record { says = ap (λ (x : LoadingOutcome). x .answer) (sym o); leaves = tables placing ∙ ap (λ (x : LoadingOutcome). x .after) (sym o) }

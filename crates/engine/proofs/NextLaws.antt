@@ -12,7 +12,8 @@ use Rattle.graph.specs.Tables.{Lent}
 use Rattle.graph.specs.declared.Command as single
 use Rattle.graph.specs.declared.Command.the-variants.{NewTd, NewEdge, Release, Transfer, Stop}
 use Rattle.program.specs.Trees.{jobs, asyncs, finishes, forks}
-use Rattle.program.specs.Encodings.{Name, own-scope, made-1, made-2, made-3, Spot, Command, perform, newTd, newEdge, transfer, release, Row, firstEdition, weight, makes}
+use Rattle.program.specs.Encodings.{Name, own-scope, made-1, made-2, made-3, Spot, Command, perform, newTd, newEdge, transfer, release, Row}
+use Rattle.program.specs.Encodings.{firstEdition, weight, makes}
 use Rattle.program.specs.Answers.{Stands}
 use Rattle.refusal.specs.Refusals.{nothing-starts}
 use Rattle.machine.specs.Stepping.{scope, named, Task, item, ends, nothing, spots, task, nth, Own, own, ownOf, withMade, withKept}

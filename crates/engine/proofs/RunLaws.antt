@@ -32,7 +32,8 @@ use Rattle.graph.proofs.SoundChecks.{sound-rows}
 use Rattle.refusal.specs.Refusals.{unsound-tables}
 use Rattle.machine.specs.Answers.{StepSaid, accepted}
 use Rattle.machine.specs.Stepping.{stepLimit, steppable, Due, due, step}
-use Rattle.machine.specs.Running.{canStep, lowest, chosen, choose, no-choice, choice-refused, Ending, spent, refused, allFinished, RunOutcome, ended, runOn, run}
+use Rattle.machine.specs.Running.{canStep, lowest, chosen, choose, no-choice, choice-refused, Ending, spent, refused, allFinished}
+use Rattle.machine.specs.Running.{RunOutcome, ended, runOn, run}
 use Rattle.machine.specs.Traces.{Stepped, Ran}
 use Rattle.machine.proofs.LookLaws.{step-sound, idle-cannot, lowest-none, lowest-is, run-turned, run-goes, rests, used-up, goes-on}
 use Rattle.machine.proofs.GhostMachine.GhostLaws.{clash}

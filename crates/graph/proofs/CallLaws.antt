@@ -25,7 +25,9 @@ use Rattle.graph.proofs.TestLaws.{both-true, both-false-left, both-fals
 use Rattle.graph.proofs.TakenLaws.{Runs, taken, taken-caller, unsound}
 use Rattle.graph.proofs.RefusalLaws.{unless-pass, unless-stop, decided-is}
 
-due : (s : Lent) (k : ℕ) (a : CommandSaid) (s' : Lent) → (k ≡ 0 → ⊥) → _≡_ {A = Outcome} (record { answer = CommandSaid.refused k 0; after = s }) (decided s k a s')
+due :
+    (s : Lent) (k : ℕ) (a : CommandSaid) (s' : Lent) → (k ≡ 0 → ⊥)
+    → _≡_ {A = Outcome} (record { answer = CommandSaid.refused k 0; after = s }) (decided s k a s')
 unfolding decided
 due s zero a s' z = absurd (z refl)
 due s (suc k) a s' z = refl
@@ -38,7 +40,8 @@ refused-outcome r v e t {m} {n} a s' p q h =
     (λ i. record { answer = h .0 i; after = lent v e (h .1 i) }) ∙ due (lent v e t) m a s' q ∙ ap (λ (k : ℕ). decided (lent v e t) k a s') p
 
 -- an accepted one
-pub accepted-outcome : {o : Outcome} (s : Lent) {m n : ℕ} (a : CommandSaid) (s' : Lent) → m ≡ n → m ≡ 0 → o ≡ record { answer = a; after = s' } → o ≡ decided s n a s'
+pub accepted-outcome :
+    {o : Outcome} (s : Lent) {m n : ℕ} (a : CommandSaid) (s' : Lent) → m ≡ n → m ≡ 0 → o ≡ record { answer = a; after = s' } → o ≡ decided s n a s'
 accepted-outcome s {n = n} a s' p q h = h ∙ sym (decided-is s n a s' (sym p ∙ q))
 
 -- A chain of tests, test by test: one that passes hands over to the rest, one that does not answers its number. A `cond` answers

@@ -9,8 +9,10 @@ use Rattle.graph.specs.declared.Command.the-variants.{NewTd, NewEdge, Re
 use Rattle.graph.specs.Tests.{both, either, any}
 use Rattle.graph.specs.Tables.{Lent, NEW, RELEASED, EXECUTING, FINISHED, vertexWords, edgeWords, placeWord, scopeWord, sourceWord}
 use Rattle.graph.specs.Tables.{targetWord, vertexRows, edgeRows, status, setStatus, setVertexWord, setEdgeWord, source, target, clear}
-use Rattle.refusal.specs.Refusals.{too-few-vertex-rows, unsound-tables, no-such-vertex, edge-leads-in, vertex-is-new, vertex-is-finished, vertex-is-executing, caller-not-executing}
-use Rattle.refusal.specs.Refusals.{no-vertex-row, no-edge-row, target-not-waiting, edge-held, closes-cycle, release-not-new, transfer-not-new, transfer-has-edge-out}
+use Rattle.refusal.specs.Refusals.{too-few-vertex-rows, unsound-tables, no-such-vertex, edge-leads-in, vertex-is-new, vertex-is-finished}
+use Rattle.refusal.specs.Refusals.{vertex-is-executing, caller-not-executing}
+use Rattle.refusal.specs.Refusals.{no-vertex-row, no-edge-row, target-not-waiting, edge-held, closes-cycle, release-not-new}
+use Rattle.refusal.specs.Refusals.{transfer-not-new, transfer-has-edge-out}
 use Rattle.graph.specs.Answers.{CommandSaid, Outcome, OpeningOutcome, opened, opening-refused, unless, decided}
 use Rattle.graph.specs.Sound.{sound}
 use Rattle.graph.specs.Paths.{holds, leadsInto, leadsOutOf, reaches}

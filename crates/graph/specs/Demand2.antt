@@ -12,7 +12,8 @@ use Rattle.graph.specs.declared.Command.{Command}
 use Rattle.graph.specs.declared.Command.the-variants.{NewTd, NewEdge, Release, Transfer, Start, Stop}
 use Rattle.graph.specs.Tables.{Lent, NEW, EXECUTING, FINISHED, vertexWords, edgeWords, statusWord, placeWord, scopeWord, sourceWord}
 use Rattle.graph.specs.Tables.{vertexRows, edgeRows, vertexWord, status, source, target}
-use Rattle.refusal.specs.Refusals.{unsound-tables, no-such-vertex, edge-leads-in, vertex-is-new, vertex-is-finished, vertex-is-executing, caller-not-executing, no-vertex-row}
+use Rattle.refusal.specs.Refusals.{unsound-tables, no-such-vertex, edge-leads-in, vertex-is-new, vertex-is-finished, vertex-is-executing}
+use Rattle.refusal.specs.Refusals.{caller-not-executing, no-vertex-row}
 use Rattle.refusal.specs.Refusals.{no-edge-row, target-not-waiting, edge-held, closes-cycle, release-not-new, transfer-not-new, transfer-has-edge-out}
 use Rattle.graph.specs.Paths.{Leads, holds}
 use Rattle.graph.specs.Rules.{Graph, Unguarded}

@@ -1,6 +1,5 @@
-// The refusals: their numbers, and for each command on sound tables the first one that is due. Unsound ones are refused at the door
-// (`commands::command_by_value`, or a step). `specs/Answers.antt` has the same list of numbers for the definitions; the contracts hold the
-// two together.
+// Which refusal is due first, for each command on sound tables. Unsound ones are refused at the door (`commands::command_by_value`, or a
+// step).
 use crate::Tally;
 use crate::edges::is_held;
 use crate::edges::leads;

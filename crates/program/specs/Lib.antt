@@ -7,8 +7,7 @@
 --     Located     a tree laid out from an offset on, what stands at a place, and where something starts
 --     Answers     what reading a program and reading an item answer
 --     Claims      the words in which the reader's theorems are stated
--- Nobody has to believe this, which the contracts of private functions cite:
---     Internal
+-- Nobody has to believe what stands in Internal: contracts of private functions cite it.
 pub mod Limits
 pub mod Trees
 pub mod Bytes

@@ -1,5 +1,5 @@
-// The format of programs: bytes, limits and the numbers of its refusals. `specs/Limits.antt`, `Bytes.antt` and `Reader.antt` have the
-// same for the definitions; the contracts hold the two together.
+// The format of programs: bytes and limits. `specs/Limits.antt` and `Bytes.antt` have the same for the definitions; the contracts hold the
+// two together.
 pub const END: u8 = 0;
 
 pub const JOB: u8 = 1;

@@ -1,4 +1,4 @@
--- What is due at a step, from a vertex's own words. Nobody has to believe this file: contracts of private functions cite it.
+-- A step and a run under way: what is due, from a vertex's own words, and which vertex is looked at.
 use Prim.Native.Nat.{ℕ, _+_, _-_, _<_, _≤_}
 use mathlib.Core.Path.{_≡_}
 use mathlib.Core.Bool.{Bool, true, false, cond}

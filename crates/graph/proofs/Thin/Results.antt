@@ -1,8 +1,12 @@
--- The types of a thin entry's results, so that the law holds of any: the record that the core returns, a struct of two fields, the answer and the tally; and the answer, which the entry returns.
---     answerTy, answerVal      the answer's MIR type, and the machine value of an answer.        answer-typed, answer-makes      that value is of that type;  what an answer owns is had for nothing
---     doneName             the record's name in MIR.        done-typed, done-tells       a value of the record is of its MIR type, and is the struct of the answer's and the tally's
+-- The types of a thin entry's results, so that the law holds of any: the record that the core returns, a struct of two fields, the answer and
+-- the tally; and the answer, which the entry returns.
+--     answerTy, answerVal      the answer's MIR type, and the machine value of an answer.
+--     answer-typed, answer-makes  that value is of that type;  what an answer owns is had for nothing
+--     doneName             the record's name in MIR.
+--     done-typed, done-tells  a value of the record is of its MIR type, and is the struct of the answer's and the tally's
 --     answer-is, tally-is      whoever holds the record has its parts' relations
---     resultsOf            a `Results`, of what `rattle check` makes of the two types, whether the answer is an enum or a struct. A crate cites it for each record that its cores return (`proofs/Results.antt`).
+--     resultsOf            a `Results`, of what `rattle check` makes of the two types, whether the answer is an enum or a struct. A crate cites it for
+--                          each record that its cores return (`proofs/Results.antt`).
 -- Assumes nothing: these are definitions.
 use mathlib.Core.Path.{_≡_, subst}
 use mathlib.Core.List.{List, [], _∷_, _++_}
@@ -31,13 +35,17 @@ pub record Results : Type 2 where
   pub Answer : RattleType
   pub answerTy : Ty
   pub answerVal : Answer .Denot → Val
-  pub answer-typed : {M : Type 1} (𝓤 : URA M) (H : Heap 𝓤) (A : Atoms 𝓤) → Given 𝓤 H A → (x : Answer .Denot) → Is Answer x (answerVal x ∷ []) → Typed (answerTy ∷ []) (answerVal x ∷ [])
+  pub answer-typed :
+      {M : Type 1} (𝓤 : URA M) (H : Heap 𝓤) (A : Atoms 𝓤) → Given 𝓤 H A → (x : Answer .Denot) → Is Answer x (answerVal x ∷ [])
+      → Typed (answerTy ∷ []) (answerVal x ∷ [])
   pub answer-makes : {M : Type 1} (𝓤 : URA M) (H : Heap 𝓤) (A : Atoms 𝓤) → Makes 𝓤 H A Answer (Is Answer)
   pub Done : RattleType
   pub doneName : Sym
   pub answer : Done .Denot → Answer .Denot
   pub tally : Done .Denot → Tally
-  pub done-typed : {M : Type 1} (𝓤 : URA M) (H : Heap 𝓤) (A : Atoms 𝓤) → Given 𝓤 H A → (r : Done .Denot) (w : Val) → Is Done r (w ∷ []) → Typed (tyStruct doneName (tcons answerTy (tcons T′.mir tnil)) ∷ []) (w ∷ [])
+  pub done-typed :
+      {M : Type 1} (𝓤 : URA M) (H : Heap 𝓤) (A : Atoms 𝓤) → Given 𝓤 H A → (r : Done .Denot) (w : Val) → Is Done r (w ∷ [])
+      → Typed (tyStruct doneName (tcons answerTy (tcons T′.mir tnil)) ∷ []) (w ∷ [])
   pub done-tells : (r : Done .Denot) (vs : List Val) → Is Done r vs → vs ≡ vstruct (vcons (answerVal (answer r)) (vcons (tallyVal (tally r)) vnil)) ∷ []
   pub answer-is : (r : Done .Denot) (vs : List Val) → Is Done r vs → Is Answer (answer r) (answerVal (answer r) ∷ [])
   pub tally-is : (r : Done .Denot) (vs : List Val) → Is Done r vs → Is T.the-row (tally r) (tallyVal (tally r) ∷ [])
@@ -45,7 +53,8 @@ pub record Results : Type 2 where
 abbrev pub doneTy : Results → Ty
 doneTy ρ = tyStruct (ρ .doneName) (tcons (ρ .answerTy) (tcons T′.mir tnil))
 
--- A `Results` of the answer, as a field of the record: its laws, that it owns only facts, and its MIR type, which is one; and of the record: its name, its two fields, and that it is no more than these.
+-- A `Results` of the answer, as a field of the record: its laws, that it owns only facts, and its MIR type, which is one; and of the record:
+-- its name, its two fields, and that it is no more than these.
 module _ (F : Field) (L : LL.FLaws F) (pure : LL.Plain F) (ty : Ty) (one : F .row .mir ≡ ty ∷ []) (name : Sym) where
   abbrev Words : Type 0
   Words = F .row .Denot × (T.the-field .row .Denot × Unit {0})

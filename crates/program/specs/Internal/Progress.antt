@@ -1,5 +1,4 @@
--- A reading under way. Nobody has to believe this file: contracts of private functions cite it, and that of the item reader, which is
--- public for the engine alone.
+-- A reading under way. The item reader, which is public for the engine alone, is described by it too.
 use Prim.Native.Nat.{ℕ, zero, suc, _+_, _-_, _<_, _≤_}
 use mathlib.Core.Path.{_≡_}
 use mathlib.Core.Bool.{Bool, true, false, cond}

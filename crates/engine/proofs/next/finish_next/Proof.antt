@@ -26,4 +26,5 @@ finish-next-spec =
     (λ c κs. search needs)
     (λ c κs. search needs)
     (λ c. finish-5 _ _ _ _ _ _ (c .before .before .if6 .taken) (c .before .idle .ensures) (c .release2 .ensures))
-    (λ c. finish-beyond _ _ _ _ _ _ (c .before .before .before .before .before .if1 .left) (c .before .before .before .before .if2 .left) (c .before .before .before .if3 .left) (c .before .before .if4 .left) (c .before .if5 .left) (c .if6 .left)))
+    (λ c. finish-beyond _ _ _ _ _ _ (c .before .before .before .before .before .if1 .left) (c .before .before .before .before .if2 .left)
+    (c .before .before .before .if3 .left) (c .before .before .if4 .left) (c .before .if5 .left) (c .if6 .left)))

@@ -16,4 +16,5 @@ fork-makes-spec =
     (λ c. fork-1 _ _ _ _ _ _ (c .before .before .if2 .taken) (c .before .keeping2 .ensures) (c .new-td2 .ensures))
     (λ c κs. search needs)
     (λ c κs. search needs)
-    (λ c. fork-2 _ _ _ _ _ _ (two (c .before .before .before .before .pre) (c .before .before .before .if1 .left) (c .before .before .if2 .left)) (c .before .keeping3 .ensures) (c .new-td3 .ensures)))
+    (λ c. fork-2 _ _ _ _ _ _ (two (c .before .before .before .before .pre) (c .before .before .before .if1 .left) (c .before .before .if2 .left))
+    (c .before .keeping3 .ensures) (c .new-td3 .ensures)))

@@ -5,13 +5,21 @@ use Rattle.engine.proofs.next.marked_due.Statement.{statement}
 use Rattle.engine.proofs.next.marked_due.Tie as tie
 
 returns : tie.Need-returns
-returns c = there-start (c .before .before .before .before .before .before .args .program .now) (c .before .before .before .before .before .before .args .vertices .now) _ _ _ (c .before .before .own-words .ensures) (c .if1 .taken)
+returns c =
+    there-start (c .before .before .before .before .before .before .args .program .now)
+    (c .before .before .before .before .before .before .args .vertices .now) _ _ _ (c .before .before .own-words .ensures) (c .if1 .taken)
 
 executing-requires : tie.Need-executing-requires
-executing-requires c κs = marked-starts _ (c .before .before .before .before .before .before .before .before .args .marks .now) _ (c .before .before .before .before .before .before .before .before .pre .0) (c .before .before .before .before .before .before .before .before .pre .1) (c .before .is-marked .ensures)
+executing-requires c κs =
+    marked-starts _ (c .before .before .before .before .before .before .before .before .args .marks .now) _
+    (c .before .before .before .before .before .before .before .before .pre .0)
+    (c .before .before .before .before .before .before .before .before .pre .1) (c .before .is-marked .ensures)
 
 returns-2 : tie.Need-returns-2
-returns-2 c = there-executing (c .before .before .before .before .before .before .before .before .before .args .program .now) (c .before .before .before .before .before .before .before .before .before .args .vertices .now) _ _ _ (c .before .before .before .before .before .own-words .ensures) (c .before .before .before .if1 .left) (c .executing .ensures)
+returns-2 c =
+    there-executing (c .before .before .before .before .before .before .before .before .before .args .program .now)
+    (c .before .before .before .before .before .before .before .before .before .args .vertices .now) _ _ _
+    (c .before .before .before .before .before .own-words .ensures) (c .before .before .before .if1 .left) (c .executing .ensures)
 
 pub marked-due-spec : {M : Type 1} → statement M
 marked-due-spec =

@@ -9,28 +9,44 @@ store-requires : tie.Need-store-requires
 store-requires c κs = job-ready _ _ _ _ _ _ _ _ (c .before .before .next2 .given .1) (c .before .before .before .before .before .before .pre) .0
 
 counted-requires : tie.Need-counted-requires
-counted-requires c κs = job-ready _ _ _ _ _ _ _ _ (c .before .before .before .before .before .next2 .given .1) (c .before .before .before .before .before .before .before .before .before .pre) .1
+counted-requires c κs =
+    job-ready _ _ _ _ _ _ _ _ (c .before .before .before .before .before .next2 .given .1)
+    (c .before .before .before .before .before .before .before .before .before .pre) .1
 
 -- a command: sound tables
 command-on-sound-requires : tie.Need-command-on-sound-requires
-command-on-sound-requires c κs = command-ready _ _ _ _ _ _ _ (c .before .before .before .next3 .given .1) (c .before .before .before .before .before .before .before .pre) .2
+command-on-sound-requires c κs =
+    command-ready _ _ _ _ _ _ _ (c .before .before .before .next3 .given .1) (c .before .before .before .before .before .before .before .pre) .2
 
 -- a command that is refused
 returns : tie.Need-returns
 returns c =
-    turned-path _ _ _ _ _ _ _ (c .before .before .before .before .before .before .before .before .before .before .before .before .next3 .given .1) _ _ (c .before .before .before .before .before .before .before .before .command-on-sound .result)
-    (c .before .before .before .before .before .before .before .before .command-on-sound .ensures) _ (c .before .before .command-refused .ensures) _ (c .before .if1 .taken) (c .as-step .ensures)
+    turned-path _ _ _ _ _ _ _
+    (c .before .before .before .before .before .before .before .before .before .before .before .before .next3 .given .1) _ _
+    (c .before .before .before .before .before .before .before .before .command-on-sound .result)
+    (c .before .before .before .before .before .before .before .before .command-on-sound .ensures) _ (c .before .before .command-refused .ensures) _
+    (c .before .if1 .taken) (c .as-step .ensures)
 
 -- a command that is taken
 store-requires-2 : tie.Need-store-requires-2
 store-requires-2 c κs =
-    taken-ready _ _ _ _ _ _ _ (c .before .before .before .before .before .before .before .before .before .before .before .before .next3 .given .1) _ _ (c .before .before .before .before .before .before .before .before .command-on-sound .result)
-    (c .before .before .before .before .before .before .before .before .command-on-sound .ensures) _ (c .before .before .command-refused .ensures) (c .before .before .before .before .before .before .before .before .before .before .before .before .before .before .before .before .pre) (c .before .if1 .left) .0
+    taken-ready _ _ _ _ _ _ _
+    (c .before .before .before .before .before .before .before .before .before .before .before .before .next3 .given .1) _ _
+    (c .before .before .before .before .before .before .before .before .command-on-sound .result)
+    (c .before .before .before .before .before .before .before .before .command-on-sound .ensures) _ (c .before .before .command-refused .ensures)
+    (c .before .before .before .before .before .before .before .before .before .before .before .before .before .before .before .before .pre)
+    (c .before .if1 .left) .0
 
 counted-requires-2 : tie.Need-counted-requires-2
 counted-requires-2 c κs =
-    taken-ready _ _ _ _ _ _ _ (c .before .before .before .before .before .before .before .before .before .before .before .before .before .before .before .before .next3 .given .1) _ _ (c .before .before .before .before .before .before .before .before .before .before .before .before .command-on-sound .result)
-    (c .before .before .before .before .before .before .before .before .before .before .before .before .command-on-sound .ensures) _ (c .before .before .before .before .before .before .command-refused .ensures) (c .before .before .before .before .before .before .before .before .before .before .before .before .before .before .before .before .before .before .before .before .pre) (c .before .before .before .before .before .if1 .left) .1
+    taken-ready _ _ _ _ _ _ _
+    (c .before .before .before .before .before .before .before .before .before .before .before .before .before .before .before .before .next3 .given .1) _ _
+    (c .before .before .before .before .before .before .before .before .before .before .before .before .command-on-sound .result)
+    (c .before .before .before .before .before .before .before .before .before .before .before .before .command-on-sound .ensures) _
+    (c .before .before .before .before .before .before .command-refused .ensures)
+    (c .before .before .before .before .before .before .before .before .before .before .before .before .before .before .before .before .before
+    .before .before .before .pre)
+    (c .before .before .before .before .before .if1 .left) .1
 
 -- a refusal
 returns-2 : tie.Need-returns-2
@@ -38,13 +54,19 @@ returns-2 c = refused-path _ _ _ _ (c .before .next .given .1)
 
 -- a job
 returns-3 : tie.Need-returns-3
-returns-3 c = job-path _ _ _ _ _ _ _ _ (c .before .before .before .before .before .before .next2 .given .1) _ _ (c .before .before .before .store .ensures) (c .counted .ensures)
+returns-3 c =
+    job-path _ _ _ _ _ _ _ _ (c .before .before .before .before .before .before .next2 .given .1) _ _ (c .before .before .before .store .ensures)
+    (c .counted .ensures)
 
 -- a command
 returns-4 : tie.Need-returns-4
 returns-4 c =
-    taken-path _ _ _ _ _ _ _ (c .before .before .before .before .before .before .before .before .before .before .before .before .before .before .before .before .before .next3 .given .1) _ _ (c .before .before .before .before .before .before .before .before .before .before .before .before .before .command-on-sound .result)
-    (c .before .before .before .before .before .before .before .before .before .before .before .before .before .command-on-sound .ensures) _ (c .before .before .before .before .before .before .before .command-refused .ensures) _ _ _ (c .before .before .before .before .before .before .if1 .left)
+    taken-path _ _ _ _ _ _ _
+    (c .before .before .before .before .before .before .before .before .before .before .before .before .before .before .before .before .before .next3 .given .1)
+    _ _
+    (c .before .before .before .before .before .before .before .before .before .before .before .before .before .command-on-sound .result)
+    (c .before .before .before .before .before .before .before .before .before .before .before .before .before .command-on-sound .ensures) _
+    (c .before .before .before .before .before .before .before .command-refused .ensures) _ _ _ (c .before .before .before .before .before .before .if1 .left)
     (c .before .as-step2 .ensures) (c .before .before .before .before .store2 .ensures) (c .counted2 .ensures)
 
 pub do-due-spec : {M : Type 1} → statement M
