@@ -107,14 +107,14 @@ enum {
     /* the lender */
     KESHTIWOL_TOO_FEW_VERTEX_ROWS = 10,
     KESHTIWOL_TOO_FEW_EDGE_ROWS = 11,
-    KESHTIWOL_UNSOUND_TABLES = 12,  /* tally over the rows, too many steps, an unknown status, or an edge's end that is no vertex */
-    KESHTIWOL_NOTHING_STARTS = 13,  /* at an executing vertex's place no item can be read, or its phase is past the item */
+    KESHTIWOL_UNSOUND_TABLES = 12, /* tally over the rows, too many steps, an unknown status, or an edge's end that is no vertex */
+    KESHTIWOL_NOTHING_STARTS = 13, /* at an executing vertex's place no item can be read, or its phase is past the item */
     /* the host, choosing */
     KESHTIWOL_NO_SUCH_VERTEX = 20,
-    KESHTIWOL_EDGE_LEADS_IN = 21,   /* released, but something must finish first */
+    KESHTIWOL_EDGE_LEADS_IN = 21, /* released, but something must finish first */
     KESHTIWOL_VERTEX_IS_NEW = 22,
     KESHTIWOL_VERTEX_IS_FINISHED = 23,
-    KESHTIWOL_VERTEX_IS_EXECUTING = 39,    /* start of an executing vertex */
+    KESHTIWOL_VERTEX_IS_EXECUTING = 39, /* start of an executing vertex */
     /* the caller of single commands */
     KESHTIWOL_CALLER_NOT_EXECUTING = 30,
     KESHTIWOL_NO_VERTEX_ROW = 31,
@@ -125,7 +125,7 @@ enum {
     KESHTIWOL_RELEASE_NOT_NEW = 36,
     KESHTIWOL_TRANSFER_NOT_NEW = 37,
     KESHTIWOL_TRANSFER_HAS_EDGE_OUT = 38,
-    KESHTIWOL_NO_SUCH_COMMAND = 99     /* keshtiwol_command: a number that no command has */
+    KESHTIWOL_NO_SUCH_COMMAND = 99 /* keshtiwol_command: a number that no command has */
 };
 
 /* Loads a program: clears the usable rows and the tally, and sets the first two vertices and the edge between them.

@@ -22,7 +22,6 @@ use refusal::UNSOUND_TABLES;
 use refusal::VERTEX_IS_FINISHED;
 use refusal::VERTEX_IS_NEW;
 ghost use mathlib.Core.Path.{_≡_};
-ghost use mathlib.Core.Bool.{true};
 ghost use Prim.Native.Nat.{_+_, _*_, _<_, _≤_};
 ghost use lib.Dec.{eqb};
 ghost use lib.ListN.{length, getD};

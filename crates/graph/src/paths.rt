@@ -8,9 +8,9 @@ use crate::rows::SOURCE;
 use crate::rows::TARGET;
 use crate::rows::USABLE_LIMIT;
 ghost use mathlib.Core.Path.{_≡_};
-ghost use Prim.Native.Nat.{_*_, _≤_, _<_};
+ghost use Prim.Native.Nat.{_*_, _<_};
 ghost use lib.ListN.{length};
-ghost use Rattle.graph.specs.Tables.{edgeWords, usableLimit};
+ghost use Rattle.graph.specs.Tables.{usableLimit};
 ghost use Rattle.graph.specs.Paths.{reaches};
 ghost use Rattle.graph.specs.Internal.Search.{Rows, Searchable, Chained, blank, Chain, Room, Scanned};
 

@@ -26,7 +26,7 @@ use Rattle.program.specs.Trees.{Body}
 use Rattle.program.specs.Bytes.{encode}
 use Rattle.program.specs.Encodings as needs
 use Rattle.program.specs.Encodings.{firstEdition}
-use Rattle.program.specs.Reader.{body, Reading, program, refusal, reading}
+use Rattle.program.specs.Reader.{Reading, program, refusal, reading}
 use Rattle.program.specs.Claims.{Loadable, BadNumber, too-long, not-shortest, too-large, Offends, unknown, opener, misnumbered, no-byte}
 use Rattle.program.proofs.CodeLaws.{cond-yes, cond-no}
 use Rattle.program.proofs.Exactness.{reading-sound, reading-complete}

@@ -5,7 +5,6 @@
 --     idle-cannot     a vertex that does not execute can step only if it is released, with no edge into it
 --     lowest-none     a look finds none where none can step
 --     lowest-is       it finds the one that can, below which none can
---     lowest-can      what it finds can step
 --     late-none       it finds none once the steps are used up
 --     finished-none   nor once all vertices are finished
 --     run-turned      a run on tables that take no step is refused by 12
@@ -141,10 +140,6 @@ lowest-is bytes s v made can lower = go (lowest bytes s) (lowest-finds bytes s)
         (λ ge. true-false can (f .1 v (let le : v ≤ u = ltb-false u v ge in omega arith)))
         (decide (ltb u v)))
         (equal? u v)
-
--- What it finds can step.
-pub lowest-can : (bytes : List ℕ) (s : Lent) (v : ℕ) → lowest bytes s ≡ some v → canStep bytes s v ≡ true
-lowest-can bytes s v h = subst (λ (x : Option ℕ). Finds (canStep bytes s) (s .made) x) h (lowest-finds bytes s) .0
 
 -- It finds none once the steps are used up,
 pub late-none : (bytes : List ℕ) (s : Lent) → stepLimit ≤ s .steps → lowest bytes s ≡ none

@@ -7,7 +7,7 @@ use mathlib.Core.Logic.{_⊎_}
 use mathlib.Core.Bool.{true, false}
 use mathlib.Core.List.{List}
 use mathlib.Core.Option.{Option, none, some}
-use Rattle.graph.specs.Tables.{Lent, FINISHED, vertexWords, edgeWords, placeWord, phaseWord, madeWord, vertexRows, edgeRows, status}
+use Rattle.graph.specs.Tables.{Lent, FINISHED, vertexWords, placeWord, phaseWord, madeWord, vertexRows, edgeRows, status}
 use Rattle.refusal.specs.Refusals.{no-such-vertex, vertex-is-new, vertex-is-finished, number-malformed, job-too-large}
 use Rattle.refusal.specs.Refusals.{too-few-vertex-rows, too-few-edge-rows, unsound-tables, nothing-starts}
 use Rattle.graph.specs.Answers as of-graph

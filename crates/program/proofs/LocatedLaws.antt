@@ -1,25 +1,20 @@
 -- Located trees: the laws of code laid out in a program, and of what starts at a place of it, so that proofs above need not look at
 -- bytes. They hold of any laid code m, and `laid-locate` says that a tree laid out from an offset is laid.
 --
---     place-locate   place (locate o b) ≡ o
+--     place-locate   startOf (locate o b) ≡ o
 --     last-locate    suc (last (locate o b)) ≡ o + size b
 --     laid-locate    Laid (locate o b)
---     laid-le        Laid m → place m ≤ last m
+--     laid-le        Laid m → startOf m ≤ last m
 --
---     code-here      codeAt m (place m) ≡ some m
+--     code-here      codeAt m (startOf m) ≡ some m
 --     code-end       codeAt m (last m) ≡ some (end-at (last m))
 -- and with h : codeAt m p ≡ some c, in laid code m
---     code-place     place c ≡ p (this needs no Laid m)
+--     code-place     startOf c ≡ p (this needs no Laid m)
 --     code-laid      Laid c
---     code-range     place m ≤ p, p ≤ last c, last c ≤ last m
---     code-inner     codeAt m (place d) ≡ some d, where Inner c d: d is a body of c's first item (async-body, finish-body, fork-left,
+--     code-range     startOf m ≤ p, p ≤ last c, last c ≤ last m
+--     code-inner     codeAt m (startOf d) ≡ some d, where Inner c d: d is a body of c's first item (async-body, finish-body, fork-left,
 --                    fork-right), or what is behind this item (job-rest, async-rest, finish-rest, fork-rest)
---     code-last      codeAt m (last c) ≡ some (end-at (last c))
 --     code-missing   codeAt m p ≡ none, where p is outside of m
---     job-order      where c is job-at o n r: o < place r ≤ last r
---     async-order    where c is async-at o b r: place b ≡ suc o, place b ≤ last b, suc (last b) ≡ place r, place r ≤ last r
---     finish-order   where c is finish-at o b r: the same
---     fork-order     where c is fork-at o b d r: the same of b and d, and of d and r
 --     item-stands    itemAt bytes p ≡ head c, where reading bytes ≡ program t and m is locate 0 t
 --
 -- `Part m c`, c is m or is anywhere inside, is what these have in common: a search finds parts (code-part), and in laid code it finds
@@ -329,27 +324,6 @@ last-part (fork-at o b c r) = inside fork-rest (last-part r)
 pub code-end : (m : Code) → Laid m → codeAt m (last m) ≡ some (end-at (last m))
 unfolding startOf
 code-end m l = part-code (last-part m) l
-
-pub code-last : (m : Code) (p : ℕ) {c : Code} → Laid m → codeAt m p ≡ some c → codeAt m (last c) ≡ some (end-at (last c))
-unfolding startOf
-code-last m p {c} l h = part-code (join (code-part m p h) (last-part c)) l
-
--- where the parts of an item stand
-pub job-order : (m : Code) (p : ℕ) {o n : ℕ} {r : Code} → Laid m → codeAt m p ≡ some (job-at o n r) → Behind o r
-unfolding Laid
-job-order m p l h = code-laid m p l h .0
-
-pub async-order : (m : Code) (p : ℕ) {o : ℕ} {b r : Code} → Laid m → codeAt m p ≡ some (async-at o b r) → OneBody o b r
-unfolding Laid
-async-order m p l h = code-laid m p l h .0
-
-pub finish-order : (m : Code) (p : ℕ) {o : ℕ} {b r : Code} → Laid m → codeAt m p ≡ some (finish-at o b r) → OneBody o b r
-unfolding Laid
-finish-order m p l h = code-laid m p l h .0
-
-pub fork-order : (m : Code) (p : ℕ) {o : ℕ} {b c r : Code} → Laid m → codeAt m p ≡ some (fork-at o b c r) → TwoBodies o b c r
-unfolding Laid
-fork-order m p l h = code-laid m p l h .0
 
 -- what stands at a place of a program
 pub item-stands :

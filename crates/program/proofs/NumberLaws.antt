@@ -14,7 +14,7 @@ use Rattle.program.specs.Bytes.{topBit, groupBytes, encodeNumber}
 use Rattle.refusal.specs.Refusals.{number-malformed, byte-unknown, bytes-run-out, job-too-large}
 use Rattle.program.specs.Reader.{Read, took, refused, andThen, takeIf, groups, number}
 use Rattle.program.specs.Claims.{TopBits, BadNumber, too-long, not-shortest, too-large}
-use Rattle.program.proofs.ReadLaws.{Outcome, was-took, was-refused, took-bytes, took-fits, behind-shorter, guarded}
+use Rattle.program.proofs.ReadLaws.{Outcome, was-took, was-refused, behind-shorter, guarded}
 
 -- the largest number has room
 limit-in-room : jobLimit < topBit ^ numberBytes
@@ -296,12 +296,6 @@ within-limit xs (refused k left) (halted h) = was-refused (halt-left true number
 pub number-outcome : (xs : List ℕ) → Outcome encodeNumber Small xs (number xs)
 unfolding number
 number-outcome xs = within-limit xs (groups xs true numberBytes xs) (groups-are xs true numberBytes xs)
-
--- A number that is read stands at the start of the bytes, in its shortest form, and is within the limit.
-pub number-sound : (xs : List ℕ) (n : ℕ) (rest : List ℕ) → number xs ≡ took n rest → (xs ≡ encodeNumber n ++ rest) × (n ≤ jobLimit)
-number-sound xs n rest e =
-    let h : Outcome encodeNumber Small xs (took n rest) = rw e at (number-outcome xs) in
-    (took-bytes h, took-fits h)
 
 -- A number within the limit is read back from its bytes.
 pub number-complete : (n : ℕ) (rest : List ℕ) → n ≤ jobLimit → number (encodeNumber n ++ rest) ≡ took n rest

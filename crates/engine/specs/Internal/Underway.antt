@@ -1,5 +1,5 @@
 -- A step and a run under way: what is due, from a vertex's own words, and which vertex is looked at.
-use Prim.Native.Nat.{ℕ, _+_, _-_, _<_, _≤_}
+use Prim.Native.Nat.{ℕ, _-_, _<_, _≤_}
 use mathlib.Core.Path.{_≡_}
 use mathlib.Core.Bool.{Bool, true, false, cond}
 use mathlib.Core.List.{List}
@@ -13,7 +13,7 @@ use Rattle.graph.specs.declared.Command.the-variants.{Start}
 use Rattle.program.specs.Answers.{Stands}
 use Rattle.program.specs.Located.{itemAt}
 use Rattle.machine.specs.Answers.{StepSaid}
-use Rattle.machine.specs.Stepping.{scope, place, task, Own, own, ownOf, Due, refusal-due, job-due, command-due, nextAt, due}
+use Rattle.machine.specs.Stepping.{scope, place, task, Own, ownOf, Due, refusal-due, job-due, command-due, nextAt, due}
 use Rattle.machine.specs.Running.{canStep, lowest, allFinished, Ending, done, stuck, spent}
 use Rattle.machine.specs.Traces.{Stepped}
 use Rattle.engine.specs.declared.Attempt.{Attempt}

@@ -3,11 +3,11 @@
 --     ins-job          InS c p → Job c p
 --     pre-job          Pre c p q → Job c p × Job c q
 -- and in laid code
---     job-range        Job c p → place c ≤ p, p < last c
+--     job-range        Job c p → startOf c ≤ p, p < last c
 --     job-before       a job stands before the jobs behind it; async-before, finish-before, left-before, right-before: so do the jobs of a
 --                      body before those behind its item; fork-before: and the jobs of a fork's left body before those of its right one
 --     pre-less         Pre c p q → p < q
---     pre-not-first    Pre c p (place c) → ⊥
+--     pre-not-first    Pre c p (startOf c) → ⊥
 -- and in any code
 --     code-job         Job c p → Job m p, where codeAt m o ≡ some c
 --     written-job      Written t p n → Job (locate 0 t) p
