@@ -12,24 +12,24 @@ use lib.Seq.{getD-set-same, getD-set-other}
 use borrow.Author.Tests.{eq-eqb, ne-eqb, ltb-true}
 use Rattle.graph.specs.Tables.{usableLimit, source, target}
 use Rattle.graph.specs.Sound.{endsMade, edgesMade}
-use Rattle.graph.specs.Internal.Search.{Rows, last, Chained, Chain, blank}
+use Rattle.graph.specs.Internal.Search.{Rows, lastInto, Chained, Chain, blank}
 use Rattle.graph.proofs.TestLaws.{equal?, below-suc, both-left, both-right, every-at, every-all}
 
 module _ (e : List ℕ) (v : ℕ) where
-  last-here : (n : ℕ) → target e n ≡ v → last e v (suc n) ≡ suc n
-  unfolding last
-  last-here n h = ap (λ (b : Bool). cond b (suc n) (last e v n)) (eq-eqb _ _ h)
+  last-here : (n : ℕ) → target e n ≡ v → lastInto e v (suc n) ≡ suc n
+  unfolding lastInto
+  last-here n h = ap (λ (b : Bool). cond b (suc n) (lastInto e v n)) (eq-eqb _ _ h)
 
-  last-other : (n : ℕ) → (target e n ≡ v → ⊥) → last e v (suc n) ≡ last e v n
-  unfolding last
-  last-other n h = ap (λ (b : Bool). cond b (suc n) (last e v n)) (ne-eqb _ _ h)
+  last-other : (n : ℕ) → (target e n ≡ v → ⊥) → lastInto e v (suc n) ≡ lastInto e v n
+  unfolding lastInto
+  last-other n h = ap (λ (b : Bool). cond b (suc n) (lastInto e v n)) (ne-eqb _ _ h)
 
-  last-none : last e v 0 ≡ 0
-  unfolding last
+  last-none : lastInto e v 0 ≡ 0
+  unfolding lastInto
   last-none = refl
 
   -- it is a row into v
-  pub last-row : (n i : ℕ) → last e v n ≡ suc i → (i < n) × (target e i ≡ v)
+  pub last-row : (n i : ℕ) → lastInto e v n ≡ suc i → (i < n) × (target e i ≡ v)
   last-row zero i h = absurd (let z : _≡_ {A = ℕ} 0 (suc i) = sym last-none ∙ h in omega arith)
   last-row (suc n) i h =
       ⊎-elim
@@ -41,17 +41,17 @@ module _ (e : List ℕ) (v : ℕ) where
       (equal? (target e n) v)
 
   -- and none below n comes after it
-  pub below-last : (n i : ℕ) → i < n → target e i ≡ v → i < last e v n
+  pub below-last : (n i : ℕ) → i < n → target e i ≡ v → i < lastInto e v n
   below-last zero i lt h = absurd (omega arith)
   below-last (suc n) i lt h =
       ⊎-elim
       (λ q. omega (arith, last-here n q))
       (λ q.
-      let r = ⊎-elim {C = i < last e v n} (λ s. absurd (q (subst (λ (k : ℕ). target e k ≡ v) s h))) (λ l. below-last n i l h) (below-suc lt) in
+      let r = ⊎-elim {C = i < lastInto e v n} (λ s. absurd (q (subst (λ (k : ℕ). target e k ≡ v) s h))) (λ l. below-last n i l h) (below-suc lt) in
       omega (arith, last-other n q))
       (equal? (target e n) v)
 
-  last-below : (n : ℕ) → last e v n ≤ n
+  last-below : (n : ℕ) → lastInto e v n ≤ n
   last-below zero = omega (arith, last-none)
   last-below (suc n) = ⊎-elim (λ q. omega (arith, last-here n q)) (λ q. omega (arith, last-other n q, last-below n)) (equal? (target e n) v)
 
@@ -79,7 +79,7 @@ chain-more e i first next h lt in-next =
           λ v l.
           ⊎-elim
           (λ q.
-          subst (λ (x : ℕ). getD (set first (target e i) (suc i)) x 0 ≡ last e x (suc i)) q
+          subst (λ (x : ℕ). getD (set first (target e i) (suc i)) x 0 ≡ lastInto e x (suc i)) q
           (getD-set-same first (target e i) (suc i) 0 (omega arith) ∙ sym (last-here e (target e i) i refl)))
           (λ q. getD-set-other first (target e i) v (suc i) 0 (λ r. q (sym r)) ∙ (h .starts v l ∙ sym (last-other e v i q)))
           (equal? (target e i) v);
@@ -87,7 +87,7 @@ chain-more e i first next h lt in-next =
           λ k l.
           ⊎-elim
           (λ q.
-          subst (λ (x : ℕ). getD (set next i (getD first (target e i) 0)) x 0 ≡ last e (target e x) x) (sym q)
+          subst (λ (x : ℕ). getD (set next i (getD first (target e i) 0)) x 0 ≡ lastInto e (target e x) x) (sym q)
           (getD-set-same next i _ 0 in-next ∙ h .starts (target e i) lt))
           (λ q. getD-set-other next i k _ 0 (λ r. omega arith) ∙ h .links k q)
           (below-suc l);

@@ -14,7 +14,7 @@ use lib.ListN.{length, getD, set, replicate, length-set}
 use lib.Seq.{getD-set-same, getD-set-other}
 use Rattle.graph.specs.Tables.{usableLimit, source, target}
 use Rattle.graph.specs.Paths.{Leads, one, more, holds, reaches}
-use Rattle.graph.specs.Internal.Search.{last, blank, zeros, Room, IsMarked, Sought, Covered, Frontier}
+use Rattle.graph.specs.Internal.Search.{lastInto, blank, zeros, Room, IsMarked, Sought, Covered, Frontier}
 use Rattle.graph.proofs.TestLaws.{true-false, equal?, below-suc}
 use Rattle.graph.proofs.PathLaws.{go-on, holds-at, held-row, reaches-is}
 use Rattle.graph.proofs.Chains.{last-row, below-last, blank-long}
@@ -77,7 +77,7 @@ module _ (m : List ℕ) (s : ℕ) (lt : s < length m) where
   mark-was x h = ⊎-elim (λ e. inl e) (λ e. inr (omega (arith, getD-set-other m s x 1 0 e))) (equal? x s)
 
 -- ---- the steps
-pub start : {e : List ℕ} {n to c : ℕ} {m q : List ℕ} → m ≡ blank → c ≡ last e to n → Frontier e n to to 0 c m q 0
+pub start : {e : List ℕ} {n to c : ℕ} {m q : List ℕ} → m ≡ blank → c ≡ lastInto e to n → Frontier e n to to 0 c m q 0
 start {e} {n} {to} none h =
     record {
       ordered = omega arith;
@@ -100,10 +100,10 @@ module _ {e : List ℕ} {n to v head c : ℕ} {m q : List ℕ} {tail : ℕ} (f :
   answer-yes a h = reaches-is e n a to true (λ r. f .leads a h) (λ p. refl)
 
   -- row i is followed, and its source is marked
-  pub seen : (i d : ℕ) → c ≡ suc i → d ≡ last e (target e i) i → IsMarked m (source e i) → Frontier e n to v head d m q tail
+  pub seen : (i d : ℕ) → c ≡ suc i → d ≡ lastInto e (target e i) i → IsMarked m (source e i) → Frontier e n to v head d m q tail
   seen i d p h marked =
       let (held, here) = f .row i p in
-      let h′ : d ≡ last e v i = h ∙ ap (λ (x : ℕ). last e x i) here in
+      let h′ : d ≡ lastInto e v i = h ∙ ap (λ (x : ℕ). lastInto e x i) here in
       record {
         ordered = f .ordered;
         queued = f .queued;
@@ -175,13 +175,13 @@ module _ {e : List ℕ} {n to v head c : ℕ} {m q : List ℕ} {tail : ℕ} (f :
 -- row i is followed, and its source is marked now
 pub found :
     {e : List ℕ} {n to v head c : ℕ} {m q : List ℕ} {tail : ℕ} → Frontier e n to v head c m q tail → (i d : ℕ) → c ≡ suc i
-    → d ≡ last e (target e i) i → source e i < length m → tail < length q → Frontier e n to v head d (set m (source e i) 1) (set q tail (source e i)) (tail + 1)
+    → d ≡ lastInto e (target e i) i → source e i < length m → tail < length q → Frontier e n to v head d (set m (source e i) 1) (set q tail (source e i)) (tail + 1)
 found {e} {m = m} f i d p h lt room = seen (grown f i (source e i) p refl lt room) i d p h (mark-new m (source e i) lt)
 
 -- where no row of v is left
 module _ {e : List ℕ} {n to v head : ℕ} {m q : List ℕ} {tail : ℕ} (f : Frontier e n to v head 0 m q tail) where
   -- the next vertex of the queue is looked at, from its row c on
-  pub turn : (c : ℕ) → head < tail → c ≡ last e (getD q head 0) n → Frontier e n to (getD q head 0) (head + 1) c m q tail
+  pub turn : (c : ℕ) → head < tail → c ≡ lastInto e (getD q head 0) n → Frontier e n to (getD q head 0) (head + 1) c m q tail
   turn c lt h =
       record {
         ordered = omega arith;

@@ -12,7 +12,7 @@ use Rattle.program.specs.Trees.{Counts}
 use Rattle.program.specs.Bytes.{jobByte, asyncByte, finishByte, forkByte}
 use Rattle.refusal.specs.Refusals.{number-malformed, job-too-large}
 use Rattle.program.specs.Answers.{itemCounts}
-use Rattle.program.specs.Internal.Progress.{NumberProgress, value, ended, plus, oneOf}
+use Rattle.program.specs.Internal.Progress.{NumberProgress, value, numberEnded, plus, oneOf}
 
 -- what a test that holds chooses
 pub cond-yes : {A : Type 0} {b : Bool} (x y : A) → b ≡ true → x ≡ cond b x y
@@ -41,24 +41,24 @@ shortest others last came only more =
 
 -- a number that is not shortest
 pub not-shortest : (place : ℕ) (seen : Counts) (n last others : ℕ) → last ≡ 0 → (others ≡ 0 → ⊥)
-    → NumberProgress.stopped number-malformed place ≡ ended place seen n last others
-unfolding ended
+    → NumberProgress.stopped number-malformed place ≡ numberEnded place seen n last others
+unfolding numberEnded
 not-shortest place seen n last others p q =
     cond-no _ _ (sym (cond-no true (ltb 0 last) (ne-eqb others 0 q)) ∙ le-ltb 0 last (omega arith))
 
 -- a number above the limit
 pub too-large : (place : ℕ) (seen : Counts) (n last others : ℕ) {P Q : Type 0} → P ⊎ Q → (P → others ≡ 0) → (Q → last ≡ 0 → ⊥)
     → jobLimit < n
-    → NumberProgress.stopped job-too-large place ≡ ended place seen n last others
-unfolding ended
+    → NumberProgress.stopped job-too-large place ≡ numberEnded place seen n last others
+unfolding numberEnded
 too-large place seen n last others came only more lt = cond-no _ _ (lt-leb n jobLimit lt)
     ∙ cond-yes _ _ (shortest others last came only more)
 
 -- a number within the limit
 pub within-limit : (place : ℕ) (seen : ItemCounts) (n last others past : ℕ) (after : ItemCounts) {P Q : Type 0}
     → P ⊎ Q → (P → others ≡ 0) → (Q → last ≡ 0 → ⊥) → n ≤ jobLimit → (past ≡ place + (others + 1)) × (after ≡ seen)
-    → value n past (itemCounts after) ≡ ended place (itemCounts seen) n last others
-unfolding ended
+    → value n past (itemCounts after) ≡ numberEnded place (itemCounts seen) n last others
+unfolding numberEnded
 within-limit place seen n last others past after came only more le h =
     (λ i. value n (h .0 i) (itemCounts (h .1 i)))
     ∙ cond-yes _ _ (le-leb n jobLimit le)

@@ -17,7 +17,7 @@ use Rattle.program.specs.Trees.{Counts}
 use Rattle.program.specs.Bytes.{topBit}
 use Rattle.refusal.specs.Refusals.{number-malformed, bytes-run-out, job-too-large}
 use Rattle.program.specs.Reader.{Read, took, refused, andThen, takeIf, groups, number}
-use Rattle.program.specs.Internal.Progress.{NumberProgress, value, numberProgress, ended}
+use Rattle.program.specs.Internal.Progress.{NumberProgress, value, numberProgress, numberEnded}
 use Rattle.program.proofs.NumberLaws.{groups-last, groups-more}
 
 -- what is read behind groups of this value, where the next has this weight
@@ -191,8 +191,8 @@ form-test false seen len place past v w x start left p q = ap (NumberProgress.st
 -- its last byte is found
 pub found : (place : ℕ) (seen : Counts) (start : List ℕ) (i v w : ℕ) → After start i v w → i < numberBytes → i < length start
     → getD start i 0 < topBit
-    → ended place seen (v + w * getD start i 0) (getD start i 0) i ≡ numberProgress (place + length start) seen (number start)
-unfolding ended
+    → numberEnded place seen (v + w * getD start i 0) (getD start i 0) i ≡ numberProgress (place + length start) seen (number start)
+unfolding numberEnded
 found place seen start i v w h room lt last =
     form-test (cond (eqb i 0) true (ltb 0 (getD start i 0))) seen (place + length start) place (place + (i + 1)) v w
     (getD start i 0) start (drop (suc i) start)

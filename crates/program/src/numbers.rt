@@ -14,7 +14,7 @@ ghost use lib.ListN.{length};
 ghost use Rattle.program.specs.Limits.{programBytes};
 ghost use Rattle.program.specs.Reader.{number};
 ghost use Rattle.program.specs.Answers.{itemCounts};
-ghost use Rattle.program.specs.Internal.Progress.{reachedNumber, numberProgress, numberEnd, ended};
+ghost use Rattle.program.specs.Internal.Progress.{reachedNumber, numberProgress, numberEnd, numberEnded};
 
 impl Reader {
     // The same reader, so many bytes further.
@@ -59,7 +59,7 @@ impl Reader {
     // The number at this reader's place, of this value, where its last group stands behind so many others.
     fn number_ended(self, value: u64, last: u8, others: u32) -> NumberRead
         requires { ⌜ self .place + others + 1 ≤ programBytes ⌝ }
-        ensures { λ r. ⌜ reachedNumber r ≡ ended (self .place) (itemCounts (self .seen)) value last others ⌝ }
+        ensures { λ r. ⌜ reachedNumber r ≡ numberEnded (self .place) (itemCounts (self .seen)) value last others ⌝ }
     {
         if last == 0 {
             if others != 0 {

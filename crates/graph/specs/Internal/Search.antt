@@ -28,18 +28,18 @@ pub record Searchable (e : List ℕ) (n from to : ℕ) : Type 0 where
   pub to-usable : to < usableLimit
 
 -- Of the rows below n the last that leads into v, counted from 1, or 0 where there is none.
-unfoldable pub last : List ℕ → ℕ → ℕ → ℕ
-last e v zero = zero
-last e v (suc n) = cond (eqb (target e n) v) (suc n) (last e v n)
+unfoldable pub lastInto : List ℕ → ℕ → ℕ → ℕ
+lastInto e v zero = zero
+lastInto e v (suc n) = cond (eqb (target e n) v) (suc n) (lastInto e v n)
 
 -- The first n rows are chained by their targets: `first` has the last row into each vertex, and `next` has for each row the one
 -- before it that leads into the same vertex.
 abbrev pub Linked : List ℕ → ℕ → List ℕ → Type 0
-Linked e n next = (i : ℕ) → i < n → getD next i 0 ≡ last e (target e i) i
+Linked e n next = (i : ℕ) → i < n → getD next i 0 ≡ lastInto e (target e i) i
 
 pub record Chained (e : List ℕ) (n : ℕ) (first next : List ℕ) : Type 0 where
   pub long : length first ≡ usableLimit
-  pub starts : (v : ℕ) → v < usableLimit → getD first v 0 ≡ last e v n
+  pub starts : (v : ℕ) → v < usableLimit → getD first v 0 ≡ lastInto e v n
   pub links : Linked e n next
 
 -- an array of which nothing is written

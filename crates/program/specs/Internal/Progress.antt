@@ -55,8 +55,8 @@ numberProgress len seen (took n rest) = value n (len - length rest) seen
 numberProgress len seen (refused n left) = NumberProgress.stopped n (len - length left)
 
 -- what a number at a place comes to that has this value, and this last group behind so many others
-unfoldable pub ended : ℕ → Counts → ℕ → ℕ → ℕ → NumberProgress
-ended place seen n lastGroup others =
+unfoldable pub numberEnded : ℕ → Counts → ℕ → ℕ → ℕ → NumberProgress
+numberEnded place seen n lastGroup others =
     cond (cond (eqb others 0) true (ltb 0 lastGroup))
     (cond (leb n jobLimit) (value n (place + (others + 1)) seen) (NumberProgress.stopped job-too-large place))
     (NumberProgress.stopped number-malformed place)
