@@ -13,9 +13,10 @@ use Rattle.graph.specs.declared.Tally.{Tally}
 use Rattle.graph.specs.Tables.{lent, NEW, RELEASED, EXECUTING, FINISHED, status}
 use Rattle.graph.specs.Sound.{sound}
 use Rattle.graph.specs.Paths.{leadsInto}
+use Rattle.graph.specs.Answers.{Outcome}
 use Rattle.graph.proofs.TestLaws.{both-left, either-cases, either-false-left, either-false-right}
 use Rattle.graph.proofs.SoundChecks.{sound-rows}
-use Rattle.machine.specs.Answers.{Outcome, accepted}
+use Rattle.machine.specs.Answers.{accepted, StepSaid}
 use Rattle.machine.specs.Stepping.{stepLimit, Due, refusal-due, job-due, command-due, due}
 use Rattle.machine.specs.Running.{canStep}
 use Rattle.machine.proofs.TablesFollow.StepLaws.{step-is}
@@ -69,6 +70,6 @@ candidate-due bytes v e marks t k known few lt p q h =
 -- a vertex can step exactly where what is due would be accepted
 pub can-takes : (bytes v e : List ℕ) (t : Tally) (k : ℕ) {d : Due} → d ≡ due bytes (lent v e t) k → canStep bytes (lent v e t) k ≡ takes (lent v e t) d
 unfolding takes
-can-takes bytes v e t k {d = refusal-due n} h = ap (λ (o : Outcome). accepted (o .answer)) (step-is bytes (lent v e t) k (sym h))
-can-takes bytes v e t k {d = job-due n o w} h = ap (λ (o : Outcome). accepted (o .answer)) (step-is bytes (lent v e t) k (sym h))
+can-takes bytes v e t k {d = refusal-due n} h = ap (λ (o : Outcome StepSaid). accepted (o .answer)) (step-is bytes (lent v e t) k (sym h))
+can-takes bytes v e t k {d = job-due n o w} h = ap (λ (o : Outcome StepSaid). accepted (o .answer)) (step-is bytes (lent v e t) k (sym h))
 can-takes bytes v e t k {d = command-due c w} h = command-step bytes (lent v e t) k c w (sym h)

@@ -8,7 +8,7 @@ use Rattle.graph.specs.declared.Tally.{Tally}
 use Rattle.graph.specs.declared.OpenDone.{OpenDone}
 use Rattle.graph.specs.Tables.{Lent, lent, RELEASED, vertexWords, statusWord, placeWord, scopeWord, edgeWords, vertexRows, edgeRows}
 use Rattle.graph.specs.Tables.{setVertexWord, setStatus, clear}
-use Rattle.graph.specs.Answers.{OpeningOutcome, openingOutcome}
+use Rattle.graph.specs.Answers.{openingOutcome, Outcome, OpeningSaid}
 use Rattle.graph.specs.Commands.{openedTables, opening, appended}
 use Rattle.graph.proofs.CallLaws.{opening-opens}
 use Rattle.program.specs.declared.ItemCounts.{ItemCounts}
@@ -23,7 +23,7 @@ use Rattle.program.specs.Answers as of-program
 use Rattle.program.proofs.Formulas.{vertices-formula, edgeRows-formula}
 use Rattle.program.proofs.ReadingLaws.{encode-positive}
 use Rattle.program.proofs.Exactness.{reading-sound}
-use Rattle.machine.specs.Answers.{LoadingSaid, loaded, loading-refused, isLoaded, LoadingOutcome}
+use Rattle.machine.specs.Answers.{LoadingSaid, loaded, loading-refused, isLoaded}
 use Rattle.machine.specs.Loading.{placed, loadedTables, load}
 use Rattle.machine.specs.Demand2.{Unloaded, unread, few-vertex-rows, few-edge-rows}
 use Rattle.machine.specs.Traces.{Loaded}
@@ -93,7 +93,7 @@ opened v e t r v' e' h two =
     let s : Lent = lent v e t in
     let some-rows : vertexRows v ≡ 0 → ⊥ = omega arith in
     let o = h ∙ sym (opening-opens s refl some-rows) in
-    (ap (λ (x : OpeningOutcome). x .after .vertices) o, ap (λ (x : OpeningOutcome). x .after .edges) o)
+    (ap (λ (x : Outcome OpeningSaid). x .after .vertices) o, ap (λ (x : Outcome OpeningSaid). x .after .edges) o)
 
 placed-again : (x : List ℕ) (k p : ℕ) → placed (setStatus x k RELEASED) k p ≡ placed x k p
 placed-again x k p =
@@ -172,4 +172,4 @@ module _ (bytes v e : List ℕ) (t : Tally) (c : ItemCounts) (is : loads (itemCo
           let o =
           load-taken bytes (lent v e t) (found .tree) (found .is-read)
           (record { vertex-rows = there le; edge-rows = enough erows (needs-edges (found .tree) (found .counted) eneed) enough-edges }) in
-          record { says = ap (λ (x : LoadingOutcome). x .answer) (sym o); leaves = tables placing ∙ ap (λ (x : LoadingOutcome). x .after) (sym o) }
+          record { says = ap (λ (x : Outcome LoadingSaid). x .answer) (sym o); leaves = tables placing ∙ ap (λ (x : Outcome LoadingSaid). x .after) (sym o) }

@@ -18,8 +18,9 @@ use Rattle.graph.specs.Commands.{command}
 use Rattle.graph.specs.declared.Tally.{Tally}
 use Rattle.graph.specs.declared.Done.{Done}
 use Rattle.graph.specs.declared.Command.{Command}
+use Rattle.graph.specs.Answers.{Outcome}
 use Rattle.graph.proofs.Demand2.{refused-keeps, effect}
-use Rattle.machine.specs.Answers.{StepSaid, Outcome, oneStep, saidAs}
+use Rattle.machine.specs.Answers.{StepSaid, oneStep, saidAs}
 use Rattle.machine.specs.Stepping as machine
 use Rattle.machine.specs.Stepping.{stepLimit, Due, due, stored, withOwn, doDue}
 use Rattle.machine.specs.Traces.{Stepped}
@@ -37,8 +38,8 @@ stepped :
     → after ≡ doDue s k d .after → Stepped bytes s k a after
 stepped bytes s k e p q =
     record {
-      says = p ∙ sym (ap (λ (o : Outcome). o .answer) (step-is bytes s k e));
-      leaves = q ∙ sym (ap (λ (o : Outcome). o .after) (step-is bytes s k e));
+      says = p ∙ sym (ap (λ (o : Outcome StepSaid). o .answer) (step-is bytes s k e));
+      leaves = q ∙ sym (ap (λ (o : Outcome StepSaid). o .after) (step-is bytes s k e));
     }
 
 -- own words stored, and a step counted
@@ -80,10 +81,10 @@ module _ (v e : List ℕ) (t : Tally) (k : ℕ) (c : Command) (w : Own) (d : cod
     (done : Done) (left : of-graph.outcome done v' e' ≡ command c (lent v e t)) (b : Bool)
     (told : b ≡ not (of-graph.accepted (of-graph.said (done .answer)))) where
   says : of-graph.said (done .answer) ≡ command c (lent v e t) .answer
-  says = ap (λ (o : of-graph.Outcome). o .answer) left
+  says = ap (λ (o : Outcome of-graph.CommandSaid). o .answer) left
 
   leaves : lent v' e' (done .tally) ≡ command c (lent v e t) .after
-  leaves = ap (λ (o : of-graph.Outcome). o .after) left
+  leaves = ap (λ (o : Outcome of-graph.CommandSaid). o .after) left
 
   -- it is refused
   pub turned-path :

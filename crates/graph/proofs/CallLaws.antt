@@ -27,7 +27,7 @@ use Rattle.graph.proofs.RefusalLaws.{unless-pass, unless-stop, decided-
 
 due :
     (s : Lent) (k : ℕ) (a : CommandSaid) (s' : Lent) → (k ≡ 0 → ⊥)
-    → _≡_ {A = Outcome} (record { answer = CommandSaid.refused k 0; after = s }) (decided s k a s')
+    → _≡_ {A = Outcome CommandSaid} (record { answer = CommandSaid.refused k 0; after = s }) (decided s k a s')
 unfolding decided
 due s zero a s' z = absurd (z refl)
 due s (suc k) a s' z = refl
@@ -41,7 +41,7 @@ refused-outcome r v e t {m} {n} a s' p q h =
 
 -- an accepted one
 pub accepted-outcome :
-    {o : Outcome} (s : Lent) {m n : ℕ} (a : CommandSaid) (s' : Lent) → m ≡ n → m ≡ 0 → o ≡ record { answer = a; after = s' } → o ≡ decided s n a s'
+    {o : Outcome CommandSaid} (s : Lent) {m n : ℕ} (a : CommandSaid) (s' : Lent) → m ≡ n → m ≡ 0 → o ≡ record { answer = a; after = s' } → o ≡ decided s n a s'
 accepted-outcome s {n = n} a s' p q h = h ∙ sym (decided-is s n a s' (sym p ∙ q))
 
 -- A chain of tests, test by test: one that passes hands over to the rest, one that does not answers its number. A `cond` answers
@@ -210,7 +210,7 @@ unfolding openedTables
 opened-is s p q h h' k = rw (h', h, k, p, q) refl
 
 -- a command by its case
-pub command-case : {o : Outcome} (s : Lent) {given c : Command} → given ≡ c → o ≡ command c s → o ≡ command given s
+pub command-case : {o : Outcome CommandSaid} (s : Lent) {given c : Command} → given ≡ c → o ≡ command c s → o ≡ command given s
 command-case s p h = h ∙ ap (λ (x : Command). command x s) (sym p)
 
 -- a command that is refused at the door

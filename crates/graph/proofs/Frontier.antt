@@ -175,7 +175,8 @@ module _ {e : List ℕ} {n to v head c : ℕ} {m q : List ℕ} {tail : ℕ} (f :
 -- row i is followed, and its source is marked now
 pub found :
     {e : List ℕ} {n to v head c : ℕ} {m q : List ℕ} {tail : ℕ} → Frontier e n to v head c m q tail → (i d : ℕ) → c ≡ suc i
-    → d ≡ lastInto e (target e i) i → source e i < length m → tail < length q → Frontier e n to v head d (set m (source e i) 1) (set q tail (source e i)) (tail + 1)
+    → d ≡ lastInto e (target e i) i → source e i < length m → tail < length q
+    → Frontier e n to v head d (set m (source e i) 1) (set q tail (source e i)) (tail + 1)
 found {e} {m = m} f i d p h lt room = seen (grown f i (source e i) p refl lt room) i d p h (mark-new m (source e i) lt)
 
 -- where no row of v is left

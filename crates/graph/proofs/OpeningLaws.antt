@@ -13,22 +13,22 @@ use lib.ListN.{length-set}
 use lib.Seq.{getD-set-other}
 use Rattle.graph.specs.Tables.{Lent, RELEASED, vertexWords, edgeWords, statusWord, vertexRows, edgeRows, setStatus, clear}
 use Rattle.refusal.specs.Refusals.{too-few-vertex-rows}
-use Rattle.graph.specs.Answers.{OpeningOutcome, opened, opening-refused}
+use Rattle.graph.specs.Answers.{opened, opening-refused, Outcome, OpeningSaid}
 use Rattle.graph.specs.Commands.{openedTables, opening}
 use Rattle.graph.specs.Demand2.{SameBut, UsableOnly}
 use Rattle.graph.proofs.TestLaws.{equal?}
 use Rattle.graph.proofs.TableLaws.{length-clear, clear-out}
 use Rattle.graph.proofs.CallLaws.{opening-stops, opening-opens}
 
-pub data Opens (s : Lent) : OpeningOutcome → Type 0 where
+pub data Opens (s : Lent) : Outcome OpeningSaid → Type 0 where
   opens : 0 < vertexRows (s .vertices) → Opens s (record { answer = opened; after = openedTables s })
   stops : vertexRows (s .vertices) ≡ 0 → Opens s (record { answer = opening-refused too-few-vertex-rows 0; after = s })
 
 pub opening-comes : (s : Lent) → Opens s (opening s)
 opening-comes s =
     ⊎-elim
-    (λ none. subst (λ (o : OpeningOutcome). Opens s o) (opening-stops s refl none) (stops none))
-    (λ some. subst (λ (o : OpeningOutcome). Opens s o) (opening-opens s refl some) (opens (omega arith)))
+    (λ none. subst (λ (o : Outcome OpeningSaid). Opens s o) (opening-stops s refl none) (stops none))
+    (λ some. subst (λ (o : Outcome OpeningSaid). Opens s o) (opening-opens s refl some) (opens (omega arith)))
     (equal? (vertexRows (s .vertices)) 0)
 
 -- "Opening: 10", "bare machine: none"; its place is 0.
@@ -38,19 +38,19 @@ pub opening-is-refused :
 opening-is-refused s n p = (there (opening-comes s), back)
   where
     there :
-        {o : OpeningOutcome} → Opens s o → o .answer ≡ opening-refused n p
+        {o : Outcome OpeningSaid} → Opens s o → o .answer ≡ opening-refused n p
         → (n ≡ too-few-vertex-rows) × (p ≡ 0) × (vertexRows (s .vertices) ≡ 0)
     there (opens lt) h = let z : _≡_ {A = ℕ} 0 1 = cc in absurd (omega arith)
     there (stops none) h = (cc, cc, none)
 
     back : (n ≡ too-few-vertex-rows) × (p ≡ 0) × (vertexRows (s .vertices) ≡ 0) → opening s .answer ≡ opening-refused n p
-    back (e, f, none) = ap (λ (o : OpeningOutcome). o .answer) (sym (opening-stops s refl none)) ∙ sym (λ i. opening-refused (e i) (f i))
+    back (e, f, none) = ap (λ (o : Outcome OpeningSaid). o .answer) (sym (opening-stops s refl none)) ∙ sym (λ i. opening-refused (e i) (f i))
 
 -- "A refusal gives its number and place, and every lent table and the tally hold what they held."
 pub opening-keeps : (s : Lent) (n p : ℕ) → opening s .answer ≡ opening-refused n p → opening s .after ≡ s
 opening-keeps s n p h = there (opening-comes s) h
   where
-    there : {o : OpeningOutcome} → Opens s o → o .answer ≡ opening-refused n p → o .after ≡ s
+    there : {o : Outcome OpeningSaid} → Opens s o → o .answer ≡ opening-refused n p → o .after ≡ s
     there (opens lt) h = let z : _≡_ {A = ℕ} 0 1 = cc in absurd (omega arith)
     there (stops none) h = refl
 
@@ -78,6 +78,6 @@ opened-usable s lt =
 pub opening-usable : (s : Lent) → UsableOnly s (opening s .after)
 opening-usable s = there (opening-comes s)
   where
-    there : {o : OpeningOutcome} → Opens s o → UsableOnly s (o .after)
+    there : {o : Outcome OpeningSaid} → Opens s o → UsableOnly s (o .after)
     there (opens lt) = opened-usable s lt
     there (stops none) = record { vertex-words = (refl, λ i f. refl); edge-words = (refl, λ i f. refl) }

@@ -40,16 +40,17 @@ accepted (transfer v) = true
 accepted stop = true
 accepted (refused n p) = false
 
-pub record Outcome : Type 0 where
-  pub answer : CommandSaid
+-- what a call says, and what is lent afterwards
+pub record Outcome (Says : Type 0) : Type 0 where
+  pub answer : Says
   pub after : Lent
 
 -- the outcome that the code gives: its answer, and the tables and the tally at exit
-abbrev pub answered : Answer → List ℕ → List ℕ → Tally → Outcome
+abbrev pub answered : Answer → List ℕ → List ℕ → Tally → Outcome CommandSaid
 answered a v e t = record { answer = said a; after = lent v e t }
 
 -- the same of a core, which returns the tally with its answer
-abbrev pub outcome : Done → List ℕ → List ℕ → Outcome
+abbrev pub outcome : Done → List ℕ → List ℕ → Outcome CommandSaid
 outcome r v e = answered (r .answer) v e (r .tally)
 
 -- What the opening says, and its outcome: the same, for an answer of its own.
@@ -61,14 +62,10 @@ abbrev pub openingSaid : Opening → OpeningSaid
 openingSaid of-opening.Opened = opened
 openingSaid (of-opening.Refused r) = opening-refused (r .number) (r .place)
 
-pub record OpeningOutcome : Type 0 where
-  pub answer : OpeningSaid
-  pub after : Lent
-
-abbrev pub answeredOpening : Opening → List ℕ → List ℕ → Tally → OpeningOutcome
+abbrev pub answeredOpening : Opening → List ℕ → List ℕ → Tally → Outcome OpeningSaid
 answeredOpening a v e t = record { answer = openingSaid a; after = lent v e t }
 
-abbrev pub openingOutcome : OpenDone → List ℕ → List ℕ → OpeningOutcome
+abbrev pub openingOutcome : OpenDone → List ℕ → List ℕ → Outcome OpeningSaid
 openingOutcome r v e = answeredOpening (r .answer) v e (r .tally)
 
 -- The first refusal of a chain of tests, 0 where none is due: n where the test fails, else what the later tests give.
@@ -78,6 +75,6 @@ unless false n rest = n
 
 -- "A refusal gives its number and place, and every lent table and the tally hold what they held." With no refusal due
 -- the call says `answer` and leaves `after`. The refusals of commands have the place 0.
-unfoldable pub decided : Lent → ℕ → CommandSaid → Lent → Outcome
+unfoldable pub decided : Lent → ℕ → CommandSaid → Lent → Outcome CommandSaid
 decided s zero answer after = record { answer = answer; after = after }
 decided s (suc n) answer after = record { answer = refused (suc n) 0; after = s }

@@ -13,7 +13,7 @@ use Rattle.refusal.specs.Refusals.{too-few-vertex-rows, unsound-tables, no-such
 use Rattle.refusal.specs.Refusals.{vertex-is-executing, caller-not-executing}
 use Rattle.refusal.specs.Refusals.{no-vertex-row, no-edge-row, target-not-waiting, edge-held, closes-cycle, release-not-new}
 use Rattle.refusal.specs.Refusals.{transfer-not-new, transfer-has-edge-out}
-use Rattle.graph.specs.Answers.{CommandSaid, Outcome, OpeningOutcome, opened, opening-refused, unless, decided}
+use Rattle.graph.specs.Answers.{CommandSaid, Outcome, opened, opening-refused, unless, decided, OpeningSaid}
 use Rattle.graph.specs.Sound.{sound}
 use Rattle.graph.specs.Paths.{holds, leadsInto, leadsOutOf, reaches}
 
@@ -38,7 +38,7 @@ openedTables s =
       steps = 0;
     }
 
-unfoldable pub opening : Lent → OpeningOutcome
+unfoldable pub opening : Lent → Outcome OpeningSaid
 opening s =
     cond (ltb 0 (vertexRows (s .vertices)))
     (record { answer = opened; after = openedTables s })
@@ -74,7 +74,7 @@ withVertex s place scope =
       steps = s .steps;
     }
 
-unfoldable pub newTd : Lent → ℕ → ℕ → ℕ → Outcome
+unfoldable pub newTd : Lent → ℕ → ℕ → ℕ → Outcome CommandSaid
 newTd s t place scope = decided s (newTdRefusal s t) (CommandSaid.new (s .made)) (withVertex s place scope)
 
 -- "newEdge t1 to t2: t2 is new or released. A finished t1 adds nothing and is accepted. Otherwise the edge must not be held
@@ -101,7 +101,7 @@ withEdge s t1 t2 =
       steps = s .steps;
     }
 
-unfoldable pub newEdge : Lent → ℕ → ℕ → ℕ → Outcome
+unfoldable pub newEdge : Lent → ℕ → ℕ → ℕ → Outcome CommandSaid
 newEdge s t t1 t2 =
     decided s (newEdgeRefusal s t t1 t2) (CommandSaid.edge t1 t2) (cond (hasStatus s t1 FINISHED) s (withEdge s t1 t2))
 
@@ -109,7 +109,7 @@ newEdge s t t1 t2 =
 unfoldable pub releaseRefusal : Lent → ℕ → ℕ → ℕ
 releaseRefusal s t t' = callerRefusal s t t' t' (unless (hasStatus s t' NEW) release-not-new 0)
 
-unfoldable pub release : Lent → ℕ → ℕ → Outcome
+unfoldable pub release : Lent → ℕ → ℕ → Outcome CommandSaid
 release s t t' = decided s (releaseRefusal s t t') (CommandSaid.release t') (withStatus s t' RELEASED)
 
 -- "Cycle for transfer: some target of t is t' or reaches t'."
@@ -143,7 +143,7 @@ withMoved s t t' =
       steps = s .steps;
     }
 
-unfoldable pub transfer : Lent → ℕ → ℕ → Outcome
+unfoldable pub transfer : Lent → ℕ → ℕ → Outcome CommandSaid
 transfer s t t' = decided s (transferRefusal s t t') (CommandSaid.transfer t') (withMoved s t t')
 
 -- "start turns a released vertex with no edge into it executing."
@@ -156,7 +156,7 @@ startRefusal s t =
     (unless (not (hasStatus s t FINISHED)) vertex-is-finished
     (unless (not (leadsInto (s .edges) (s .held) t)) edge-leads-in 0)))))
 
-unfoldable pub start : Lent → ℕ → Outcome
+unfoldable pub start : Lent → ℕ → Outcome CommandSaid
 start s t = decided s (startRefusal s t) CommandSaid.start (withStatus s t EXECUTING)
 
 -- "stop finishes t and drops its edges out."
@@ -187,11 +187,11 @@ stopped s t =
       steps = s .steps;
     }
 
-unfoldable pub stop : Lent → ℕ → Outcome
+unfoldable pub stop : Lent → ℕ → Outcome CommandSaid
 stop s t = decided s (stopRefusal s t) CommandSaid.stop (stopped s t)
 
 -- the six commands as one
-unfoldable pub command : Command → Lent → Outcome
+unfoldable pub command : Command → Lent → Outcome CommandSaid
 command (NewTd t place scope) s = newTd s t place scope
 command (NewEdge t t1 t2) s = newEdge s t t1 t2
 command (Release t t') s = release s t t'

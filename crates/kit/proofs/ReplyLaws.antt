@@ -61,12 +61,12 @@ replied-as f r v e t p q h = (h .0 ∙ ap f p, ap (λ (t : Tally). lent v e t) (
 
 -- of a command
 pub commanded-as :
-    (d : Done) (r : ReplyDone) (v e : List ℕ) {o : of-graph.Outcome} → of-graph.outcome d v e ≡ o
+    (d : Done) (r : ReplyDone) (v e : List ℕ) {o : of-graph.Outcome of-graph.CommandSaid} → of-graph.outcome d v e ≡ o
     → (replyNumbers (r .answer) ≡ saidNumbers (saidAs (of-graph.said (d .answer)))) × (r .tally ≡ d .tally)
     → Commanded o (r .answer) (lent v e (r .tally))
 commanded-as d r v e p h =
-    replied-as (λ (a : of-graph.CommandSaid). saidNumbers (saidAs a)) r v e (d .tally) (ap (λ (o : of-graph.Outcome). o .answer) p)
-    (ap (λ (o : of-graph.Outcome). o .after) p) h
+    replied-as (λ (a : of-graph.CommandSaid). saidNumbers (saidAs a)) r v e (d .tally) (ap (λ (o : of-graph.Outcome of-graph.CommandSaid). o .answer) p)
+    (ap (λ (o : of-graph.Outcome of-graph.CommandSaid). o .after) p) h
 
 pub ran-as :
     (d : RunDone) (ending last : Reply) (v e : List ℕ) (bytes : List ℕ) (s : Lent) (budget : ℕ)

@@ -11,7 +11,8 @@ use Rattle.graph.specs.declared.Command.the-variants.{NewTd, NewEdge, Release, 
 use Rattle.graph.specs.Tables.{Lent}
 use Rattle.graph.specs.Answers as of-graph
 use Rattle.graph.specs.Commands.{command}
-use Rattle.machine.specs.Answers.{StepSaid, Outcome, saidAs, LoadingSaid, loaded, loading-refused, LoadingOutcome}
+use Rattle.graph.specs.Answers.{Outcome}
+use Rattle.machine.specs.Answers.{StepSaid, saidAs, LoadingSaid, loaded, loading-refused}
 use Rattle.machine.specs.Running.{Ending, done, stuck, spent, refused, RunOutcome, Choice, choose, no-choice, choice-refused, choice}
 use Rattle.kit.specs.declared.Reply.{Reply}
 use Rattle.kit.specs.declared.RunReply.{RunReply}
@@ -81,25 +82,25 @@ askedOf (of-asked.Known c) = some c
 askedOf of-asked.Unknown = none
 
 -- "99 no such command", the kit's own refusal
-unfoldable pub ifKnown : Option Command → Lent → of-graph.Outcome
+unfoldable pub ifKnown : Option Command → Lent → Outcome of-graph.CommandSaid
 ifKnown (some c) s = command c s
 ifKnown none s = record { answer = of-graph.refused 99 0; after = s }
 
-abbrev pub byNumbers : ℕ → ℕ → ℕ → ℕ → Lent → of-graph.Outcome
+abbrev pub byNumbers : ℕ → ℕ → ℕ → ℕ → Lent → Outcome of-graph.CommandSaid
 byNumbers k t a b s = ifKnown (commandOf k t a b) s
 
 -- CALLS
 -- the reply tells what the definition answers, and what is lent afterwards is what it leaves
-abbrev pub OpenReplied : of-graph.OpeningOutcome → Reply → Lent → Type 0
+abbrev pub OpenReplied : Outcome of-graph.OpeningSaid → Reply → Lent → Type 0
 OpenReplied o r after = (replyNumbers r ≡ openingNumbers (o .answer)) × (after ≡ o .after)
 
-abbrev pub Commanded : of-graph.Outcome → Reply → Lent → Type 0
+abbrev pub Commanded : Outcome of-graph.CommandSaid → Reply → Lent → Type 0
 Commanded o r after = (replyNumbers r ≡ saidNumbers (saidAs (o .answer))) × (after ≡ o .after)
 
-abbrev pub LoadReplied : LoadingOutcome → Reply → Lent → Type 0
+abbrev pub LoadReplied : Outcome LoadingSaid → Reply → Lent → Type 0
 LoadReplied o r after = (replyNumbers r ≡ loadingNumbers (o .answer)) × (after ≡ o .after)
 
-abbrev pub Replied : Outcome → Reply → Lent → Type 0
+abbrev pub Replied : Outcome StepSaid → Reply → Lent → Type 0
 Replied o r after = (replyNumbers r ≡ saidNumbers (o .answer)) × (after ≡ o .after)
 
 abbrev pub RunReplied : RunOutcome → RunReply → Lent → Type 0

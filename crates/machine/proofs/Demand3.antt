@@ -12,6 +12,7 @@ use lib.ListN.{length}
 use borrow.Author.Tests.{lt-ltb, ltb-true, ltb-false}
 use Rattle.graph.specs.Tables.{Lent}
 use Rattle.graph.specs.Paths.{CycleFree, more, holds}
+use Rattle.graph.specs.Answers.{Outcome}
 use Rattle.graph.proofs.TestLaws.{true-false, both-true}
 use Rattle.program.specs.Trees.{Body, counts}
 use Rattle.program.specs.Encodings.{stepsTaken, firstEdition, stepFormula}
@@ -20,7 +21,7 @@ use Rattle.program.specs.Located.{Code, job-at, locate}
 use Rattle.program.proofs.LocatedLaws.{laid-locate}
 use Rattle.program.proofs.Exactness.{reading-complete}
 use Rattle.program.proofs.Formulas.{steps-formula}
-use Rattle.machine.specs.Answers.{StepSaid, Outcome, accepted}
+use Rattle.machine.specs.Answers.{StepSaid, accepted}
 use Rattle.machine.specs.Answers as said
 use Rattle.machine.specs.Ahead.{Ahead}
 use Rattle.machine.specs.Stepping.{steppable, stepLimit, step}
@@ -117,9 +118,9 @@ module _ (bytes : List ℕ) (t : Body) {s₀ : Lent} {answers : List StepSaid} {
     one-left v h = go (step bytes s v) h (seen v)
       where
         go :
-            (o : Outcome) → accepted (o .answer) ≡ true → Followed (locate 0 t) (length bytes - 1) s (T .state) v o
+            (o : Outcome StepSaid) → accepted (o .answer) ≡ true → Followed (locate 0 t) (length bytes - 1) s (T .state) v o
             → acceptedIn answers < stepFormula (counts t)
-        go o p (refused n why e) = true-false p (ap (λ (x : Outcome). accepted (x .answer)) e)
+        go o p (refused n why e) = true-false p (ap (λ (x : Outcome StepSaid). accepted (x .answer)) e)
         go o p (moved e S' m f says tally) =
             let b : length (e ∷ T .events) ≤ stepsTaken firstEdition t = steps-bound 0 t (length bytes - 1) (and-then (T .runs) m) in
             omega (arith, b, T .accepted-are, steps-formula t)
@@ -128,7 +129,7 @@ module _ (bytes : List ℕ) (t : Body) {s₀ : Lent} {answers : List StepSaid} {
     pub free-steps : (v : ℕ) → Free (T .state) v → canStep bytes s v ≡ true
     free-steps v f = go (step bytes s v) (seen v)
       where
-        go : (o : Outcome) → Followed (locate 0 t) (length bytes - 1) s (T .state) v o → accepted (o .answer) ≡ true
+        go : (o : Outcome StepSaid) → Followed (locate 0 t) (length bytes - 1) s (T .state) v o → accepted (o .answer) ≡ true
         go o (refused n why e) = absurd (free-taken (T .inv .shape) f why)
         go o (moved e S' m f' says tally) = answers-accepted says
 
@@ -153,8 +154,8 @@ module _ (bytes : List ℕ) (t : Body) {s₀ : Lent} {answers : List StepSaid} {
     keeps : (v : ℕ) → accepted (step bytes s v .answer) ≡ false → step bytes s v .after ≡ s
     keeps v h = go (step bytes s v) h (seen v)
       where
-        go : (o : Outcome) → accepted (o .answer) ≡ false → Followed (locate 0 t) (length bytes - 1) s (T .state) v o → o .after ≡ s
-        go o p (refused n why e) = ap (λ (x : Outcome). x .after) e
+        go : (o : Outcome StepSaid) → accepted (o .answer) ≡ false → Followed (locate 0 t) (length bytes - 1) s (T .state) v o → o .after ≡ s
+        go o p (refused n why e) = ap (λ (x : Outcome StepSaid). x .after) e
         go o p (moved e S' m f says tally) = true-false (answers-accepted says) p
 
     -- a job ahead of one that is answered now was answered
@@ -175,8 +176,8 @@ module _ (bytes : List ℕ) (t : Body) {s₀ : Lent} {answers : List StepSaid} {
             let inv = T .inv in
             absurd (in-order (inv .roads) (laid-locate 0 t) (inv .coded) (inv .orders) v o n r' at u p h' before)
 
-        go : (x : Outcome) → x .answer ≡ said.job n o → Followed (locate 0 t) (length bytes - 1) s (T .state) v x → ranIn p answers ≡ 1
-        go x e (refused k why eq) = let g : said.refused k 0 ≡ said.job n o = sym (ap (λ (y : Outcome). y .answer) eq) ∙ e in clash cc
+        go : (x : Outcome StepSaid) → x .answer ≡ said.job n o → Followed (locate 0 t) (length bytes - 1) s (T .state) v x → ranIn p answers ≡ 1
+        go x e (refused k why eq) = let g : said.refused k 0 ≡ said.job n o = sym (ap (λ (y : Outcome StepSaid). y .answer) eq) ∙ e in clash cc
         go x e (moved ev S' m f says tally) = now (answers-at says e) (nothing-or-held (T .state) p (T .inv .shape))
 
     -- at the full count each written job was answered once

@@ -20,6 +20,7 @@ use Rattle.graph.specs.Tables.{Lent, RELEASED, vertexWords, edgeWords, statusWo
 use Rattle.graph.specs.Tables.{edgeRows, clear}
 use Rattle.graph.specs.Commands.{appended}
 use Rattle.graph.specs.Demand2.{SameBut, UsableOnly}
+use Rattle.graph.specs.Answers.{Outcome}
 use Rattle.graph.proofs.TestLaws.{decide, true-false}
 use Rattle.graph.proofs.TableLaws.{length-clear, clear-out}
 use Rattle.program.specs.Trees.{Body}
@@ -33,12 +34,12 @@ use Rattle.program.proofs.Exactness.{reading-sound, reading-complete}
 use Rattle.program.proofs.StopLaws.{ItemStop, ran-out, offended, Stop, stop, main-stop}
 use Rattle.program.proofs.ReadingLaws as read
 use Rattle.refusal.specs.Refusals.{too-few-vertex-rows, too-few-edge-rows}
-use Rattle.machine.specs.Answers.{LoadingOutcome, loaded, loading-refused, isLoaded, refuseLoading}
+use Rattle.machine.specs.Answers.{loaded, loading-refused, isLoaded, refuseLoading, LoadingSaid}
 use Rattle.machine.specs.Loading.{placed, loadedTables, loadRead, load}
 use Rattle.machine.specs.Demand2.{Lends, Unloaded, unread, few-vertex-rows, few-edge-rows, HasPlace}
 
 -- a program for which the rows are lent is loaded
-abbrev pub loadedOutcome : List ℕ → Lent → LoadingOutcome
+abbrev pub loadedOutcome : List ℕ → Lent → Outcome LoadingSaid
 loadedOutcome bytes s = record { answer = loaded; after = loadedTables bytes s }
 
 -- the tests of the rows
@@ -62,7 +63,7 @@ unfolding load
 load-taken bytes s b r h = rw r (enough-rows bytes s b h)
 
 -- what loading comes to: loaded, or refused for one of its reasons
-data Comes (bytes : List ℕ) (s : Lent) (o : LoadingOutcome) : Type 0 where
+data Comes (bytes : List ℕ) (s : Lent) (o : Outcome LoadingSaid) : Type 0 where
   loads : (b : Body) → reading bytes ≡ program b → Lends b s → o ≡ loadedOutcome bytes s → Comes bytes s o
   refuses : (n p : ℕ) → Unloaded bytes s n p → o ≡ refuseLoading s n p → Comes bytes s o
 
@@ -97,14 +98,14 @@ pub load-exact :
     → (isLoaded (load bytes s .answer) ≡ true) ↔ ((b : Body) × Loadable b × (bytes ≡ encode b) × Lends b s)
 load-exact bytes s = (
   λ h. there (load-comes bytes s) h,
-  λ (b, h, e, l). ap (λ (o : LoadingOutcome). isLoaded (o .answer)) (load-taken bytes s b (ap reading e ∙ reading-complete b h) l),
+  λ (b, h, e, l). ap (λ (o : Outcome LoadingSaid). isLoaded (o .answer)) (load-taken bytes s b (ap reading e ∙ reading-complete b h) l),
 )
   where
     there :
-        {o : LoadingOutcome} → Comes bytes s o → isLoaded (o .answer) ≡ true
+        {o : Outcome LoadingSaid} → Comes bytes s o → isLoaded (o .answer) ≡ true
         → (b : Body) × Loadable b × (bytes ≡ encode b) × Lends b s
     there (loads b r l e) h = let (p, q) = reading-sound bytes b r in (b, q, p, l)
-    there (refuses n p u e) h = true-false h (ap (λ (o : LoadingOutcome). isLoaded (o .answer)) e)
+    there (refuses n p u e) h = true-false h (ap (λ (o : Outcome LoadingSaid). isLoaded (o .answer)) e)
 
 -- It is refused as reading is, or by 10 or 11 where rows are wanting.
 load-refuses : (bytes : List ℕ) (s : Lent) {n p : ℕ} → Unloaded bytes s n p → load bytes s ≡ refuseLoading s n p
@@ -114,12 +115,12 @@ load-refuses bytes s (few-vertex-rows b r lt) = rw r (vertex-rows-wanting bytes 
 load-refuses bytes s (few-edge-rows b r le lt) = rw r (edge-rows-wanting bytes s b le lt)
 
 pub load-refused : (bytes : List ℕ) (s : Lent) (n p : ℕ) → (load bytes s .answer ≡ loading-refused n p) ↔ Unloaded bytes s n p
-load-refused bytes s n p = (λ h. there (load-comes bytes s) h, λ u. ap (λ (o : LoadingOutcome). o .answer) (load-refuses bytes s u))
+load-refused bytes s n p = (λ h. there (load-comes bytes s) h, λ u. ap (λ (o : Outcome LoadingSaid). o .answer) (load-refuses bytes s u))
   where
-    there : {o : LoadingOutcome} → Comes bytes s o → o .answer ≡ loading-refused n p → Unloaded bytes s n p
-    there (loads b r l e) h = true-false (ap (λ (o : LoadingOutcome). isLoaded (o .answer)) e) (ap isLoaded h)
+    there : {o : Outcome LoadingSaid} → Comes bytes s o → o .answer ≡ loading-refused n p → Unloaded bytes s n p
+    there (loads b r l e) h = true-false (ap (λ (o : Outcome LoadingSaid). isLoaded (o .answer)) e) (ap isLoaded h)
     there (refuses n' p' u e) h =
-        let q : loading-refused n p ≡ loading-refused n' p' = sym h ∙ ap (λ (o : LoadingOutcome). o .answer) e in
+        let q : loading-refused n p ≡ loading-refused n' p' = sym h ∙ ap (λ (o : Outcome LoadingSaid). o .answer) e in
         let qn : n' ≡ n = cc in
         let qp : p' ≡ p = cc in
         subst (λ (x : ℕ). Unloaded bytes s x p) qn (subst (λ (x : ℕ). Unloaded bytes s n' x) qp u)
@@ -128,9 +129,9 @@ load-refused bytes s n p = (λ h. there (load-comes bytes s) h, λ u. ap (λ (o 
 pub load-keeps : (bytes : List ℕ) (s : Lent) → isLoaded (load bytes s .answer) ≡ false → load bytes s .after ≡ s
 load-keeps bytes s = keeps (load-comes bytes s)
   where
-    keeps : {o : LoadingOutcome} → Comes bytes s o → isLoaded (o .answer) ≡ false → o .after ≡ s
-    keeps (loads b r l e) h = true-false (ap (λ (o : LoadingOutcome). isLoaded (o .answer)) e) h
-    keeps (refuses n p u e) h = ap (λ (o : LoadingOutcome). o .after) e
+    keeps : {o : Outcome LoadingSaid} → Comes bytes s o → isLoaded (o .answer) ≡ false → o .after ≡ s
+    keeps (loads b r l e) h = true-false (ap (λ (o : Outcome LoadingSaid). isLoaded (o .answer)) e) h
+    keeps (refuses n p u e) h = ap (λ (o : Outcome LoadingSaid). o .after) e
 
 -- The tables that an accepted loading leaves, and that the rows were lent.
 pub load-accepted :
@@ -138,11 +139,11 @@ pub load-accepted :
     → Lends t s × (load bytes s .after ≡ loadedTables bytes s)
 load-accepted bytes s t r = there (load-comes bytes s)
   where
-    there : {o : LoadingOutcome} → Comes bytes s o → isLoaded (o .answer) ≡ true → Lends t s × (o .after ≡ loadedTables bytes s)
+    there : {o : Outcome LoadingSaid} → Comes bytes s o → isLoaded (o .answer) ≡ true → Lends t s × (o .after ≡ loadedTables bytes s)
     there (loads b q l e) h =
         let same : b ≡ t = cc in
-        (subst (λ (x : Body). Lends x s) same l, ap (λ (o : LoadingOutcome). o .after) e)
-    there (refuses n p u e) h = true-false h (ap (λ (o : LoadingOutcome). isLoaded (o .answer)) e)
+        (subst (λ (x : Body). Lends x s) same l, ap (λ (o : Outcome LoadingSaid). o .after) e)
+    there (refuses n p u e) h = true-false h (ap (λ (o : Outcome LoadingSaid). isLoaded (o .answer)) e)
 
 -- a program needs two vertex rows and one edge row
 pub two-rows : (t : Body) (s : Lent) → Lends t s → 2 ≤ vertexRows (s .vertices)
@@ -193,10 +194,10 @@ loaded-usable bytes s t h =
 pub load-usable : (bytes : List ℕ) (s : Lent) → UsableOnly s (load bytes s .after)
 load-usable bytes s = there (load-comes bytes s)
   where
-    there : {o : LoadingOutcome} → Comes bytes s o → UsableOnly s (o .after)
-    there (loads b r l e) = subst (λ (o : LoadingOutcome). UsableOnly s (o .after)) (sym e) (loaded-usable bytes s b l)
+    there : {o : Outcome LoadingSaid} → Comes bytes s o → UsableOnly s (o .after)
+    there (loads b r l e) = subst (λ (o : Outcome LoadingSaid). UsableOnly s (o .after)) (sym e) (loaded-usable bytes s b l)
     there (refuses n p u e) =
-        subst (λ (o : LoadingOutcome). UsableOnly s (o .after)) (sym e)
+        subst (λ (o : Outcome LoadingSaid). UsableOnly s (o .after)) (sym e)
         (record { vertex-words = (refl, λ i out. refl); edge-words = (refl, λ i out. refl) })
 
 -- bytes that offend have a place, and so have bytes that run out

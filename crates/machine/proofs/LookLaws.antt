@@ -25,11 +25,12 @@ use Rattle.graph.specs.Tables.{Lent, NEW, RELEASED, EXECUTING, FINISHED, vertex
 use Rattle.graph.specs.Sound.{sound}
 use Rattle.graph.specs.Paths.{holds, leadsInto}
 use Rattle.graph.specs.Commands.{command}
+use Rattle.graph.specs.Answers.{Outcome}
 use Rattle.graph.proofs.TestLaws.{true-false, decide, not-so, equal?, both-right}
 use Rattle.graph.proofs.SoundLaws.{Known, sound-fits, fits-sound}
 use Rattle.graph.proofs.Demand2.{stays-sound}
 use Rattle.refusal.specs.Refusals.{unsound-tables}
-use Rattle.machine.specs.Answers.{StepSaid, Outcome, accepted}
+use Rattle.machine.specs.Answers.{StepSaid, accepted}
 use Rattle.machine.specs.Stepping.{stepLimit, steppable, Own, Due, refusal-due, job-due, command-due, due, step}
 use Rattle.machine.specs.Running.{canStep, lowest, allFinished, done, stuck, spent, refused, RunOutcome, ended, look, runOn, run}
 use Rattle.machine.specs.Demand2.{Adds, Does}
@@ -61,8 +62,8 @@ adds-sound v w left after a known =
     })
 
 -- so what is due leaves them sound
-does-sound : (s : Lent) (v : ℕ) (o : Outcome) (d : Due) → Does s v o d → sound s ≡ true → sound (o .after) ≡ true
-does-sound s v o (refusal-due n) does known = subst (λ (o' : Outcome). sound (o' .after) ≡ true) (sym does) known
+does-sound : (s : Lent) (v : ℕ) (o : Outcome StepSaid) (d : Due) → Does s v o d → sound s ≡ true → sound (o .after) ≡ true
+does-sound s v o (refusal-due n) does known = subst (λ (o' : Outcome StepSaid). sound (o' .after) ≡ true) (sym does) known
 does-sound s v o (job-due n p w) does known = adds-sound v w s (o .after) (does .1) known
 does-sound s v o (command-due c w) does known =
     ⊎-elim (λ h. adds-sound v w (command c s .after) (o .after) (does .taken-adds h) (stays-sound c s known))
@@ -87,13 +88,13 @@ can-early bytes s v h = ltb-true (s .steps) stepLimit (both-right _ _ (can-stepp
 finished-cannot : (bytes : List ℕ) (s : Lent) (v : ℕ) → v < s .made → status (s .vertices) v ≡ FINISHED → canStep bytes s v ≡ false
 finished-cannot bytes s v made over =
     not-so (canStep bytes s v)
-    (λ h. true-false h (ap (λ (o : Outcome). accepted (o .answer)) (step-is bytes s v (due-over bytes s v (can-steppable bytes s v h) made over))))
+    (λ h. true-false h (ap (λ (o : Outcome StepSaid). accepted (o .answer)) (step-is bytes s v (due-over bytes s v (can-steppable bytes s v h) made over))))
 
 -- nor can a new one
 new-cannot : (bytes : List ℕ) (s : Lent) (v : ℕ) → v < s .made → status (s .vertices) v ≡ NEW → canStep bytes s v ≡ false
 new-cannot bytes s v made new =
     not-so (canStep bytes s v)
-    (λ h. true-false h (ap (λ (o : Outcome). accepted (o .answer)) (step-is bytes s v (due-new bytes s v (can-steppable bytes s v h) made new))))
+    (λ h. true-false h (ap (λ (o : Outcome StepSaid). accepted (o .answer)) (step-is bytes s v (due-new bytes s v (can-steppable bytes s v h) made new))))
 
 -- nor a released one with an edge into it
 blocked-cannot :
@@ -101,7 +102,7 @@ blocked-cannot :
     → canStep bytes s v ≡ false
 blocked-cannot bytes s v made released into =
     not-so (canStep bytes s v)
-    (λ h. true-false h (ap (λ (o : Outcome). accepted (o .answer)) (blocked-step bytes s v (can-steppable bytes s v h) made released into)))
+    (λ h. true-false h (ap (λ (o : Outcome StepSaid). accepted (o .answer)) (blocked-step bytes s v (can-steppable bytes s v h) made released into)))
 
 -- A vertex that does not execute can step only if it is released, with no edge into it.
 pub idle-cannot :

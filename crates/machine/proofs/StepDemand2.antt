@@ -25,7 +25,7 @@ use lib.ListN.{length}
 use borrow.Author.Tests.{ltb-true, lt-ltb, ne-eqb}
 use Rattle.graph.specs.Tables.{Lent, NEW, RELEASED, FINISHED, EXECUTING, vertexRows, status}
 use Rattle.refusal.specs.Refusals.{edge-leads-in, nothing-starts}
-use Rattle.graph.specs.Answers.{decided}
+use Rattle.graph.specs.Answers.{decided, Outcome}
 use Rattle.graph.specs.Answers as of-graph
 use Rattle.graph.specs.Sound.{sound}
 use Rattle.graph.specs.Paths.{CycleFree, leadsInto}
@@ -41,7 +41,7 @@ use Rattle.graph.proofs.Reasons.{refused-place}
 use Rattle.graph.proofs.Demand2.{refused-keeps, effect, acceptance}
 use Rattle.program.specs.Encodings.{Spot, Command, perform, newTd, newEdge, transfer, release, Row}
 use Rattle.program.specs.Located.{itemAt}
-use Rattle.machine.specs.Answers.{StepSaid, Outcome, accepted, refuse, saidAs}
+use Rattle.machine.specs.Answers.{StepSaid, accepted, refuse, saidAs}
 use Rattle.machine.specs.Stepping.{stepLimit, steppable, place, phase, Task, item, ends, nothing, task, Own, Due, refusal-due}
 use Rattle.machine.specs.Stepping.{job-due, command-due, dueIf, filledIn, nextOf, nextAt, due, doDue, step}
 use Rattle.machine.specs.Demand2.{IsCommand, Does, Before, Refused, before, by-command}
@@ -111,8 +111,8 @@ unfolding step
 step-does bytes s v = does-due s v (due bytes s v) (ready-due bytes s v)
 
 -- A refused step changes nothing.
-keeps-due : (s : Lent) (v : ℕ) (o : Outcome) (d : Due) → Does s v o d → accepted (o .answer) ≡ false → o .after ≡ s
-keeps-due s v o (refusal-due n) e h = ap (λ (o : Outcome). o .after) e
+keeps-due : (s : Lent) (v : ℕ) (o : Outcome StepSaid) (d : Due) → Does s v o d → accepted (o .answer) ≡ false → o .after ≡ s
+keeps-due s v o (refusal-due n) e h = ap (λ (o : Outcome StepSaid). o .after) e
 keeps-due s v o (job-due n p w) e h = true-false (ap accepted (e .0)) h
 keeps-due s v o (command-due c w) e h = e .refused-keeps h
 
@@ -120,8 +120,8 @@ pub step-keeps : (bytes : List ℕ) (s : Lent) (v : ℕ) → accepted (step byte
 step-keeps bytes s v = keeps-due s v (step bytes s v) (due bytes s v) (step-does bytes s v)
 
 -- An accepted step is one step more.
-counts-due : (s : Lent) (v : ℕ) (o : Outcome) (d : Due) → Does s v o d → accepted (o .answer) ≡ true → o .after .steps ≡ s .steps + 1
-counts-due s v o (refusal-due n) e h = true-false h (ap (λ (o : Outcome). accepted (o .answer)) e)
+counts-due : (s : Lent) (v : ℕ) (o : Outcome StepSaid) (d : Due) → Does s v o d → accepted (o .answer) ≡ true → o .after .steps ≡ s .steps + 1
+counts-due s v o (refusal-due n) e h = true-false h (ap (λ (o : Outcome StepSaid). accepted (o .answer)) e)
 counts-due s v o (job-due n p w) e h = e .1 .one-step
 counts-due s v o (command-due c w) e h =
     e .taken-adds h .one-step
@@ -235,7 +235,7 @@ step-refused bytes s v n p = (there (due bytes s v) refl (step-does bytes s v) (
         (d : Due) → due bytes s v ≡ d → Does s v (step bytes s v) d → OnlyBefore d → step bytes s v .answer ≡ StepSaid.refused n p
         → Refused bytes s v n p
     there (refusal-due m) e does only h =
-        let q : StepSaid.refused n p ≡ StepSaid.refused m 0 = sym h ∙ ap (λ (o : Outcome). o .answer) does in
+        let q : StepSaid.refused n p ≡ StepSaid.refused m 0 = sym h ∙ ap (λ (o : Outcome StepSaid). o .answer) does in
         let qn : m ≡ n = cc in
         let qp : 0 ≡ p = cc in
         subst (λ (y : ℕ). Refused bytes s v n y) qp (subst (λ (x : ℕ). Refused bytes s v x 0) qn (before e only))
@@ -243,7 +243,7 @@ step-refused bytes s v n p = (there (due bytes s v) refl (step-does bytes s v) (
     there (command-due c w) e does only h = by-command c w e (said-refused (command c s .answer) (sym (does .says) ∙ h))
 
     back : {n p : ℕ} → Refused bytes s v n p → step bytes s v .answer ≡ StepSaid.refused n p
-    back (before e b) = ap (λ (o : Outcome). o .answer) (subst (λ (d : Due). Does s v (step bytes s v) d) e (step-does bytes s v))
+    back (before e b) = ap (λ (o : Outcome StepSaid). o .answer) (subst (λ (d : Due). Does s v (step bytes s v) d) e (step-does bytes s v))
     back (by-command c w e h) = is-this bytes s v c w e .says ∙ ap saidAs h
 
 -- a released vertex
@@ -266,7 +266,7 @@ module _ (bytes : List ℕ) (s : Lent) (v : ℕ) (p : steppable s ≡ true) (lt 
   pub released-step : step bytes s v .answer ≡ cond (leadsInto (s .edges) (s .held) v) (StepSaid.refused edge-leads-in 0) StepSaid.start
   unfolding command g.start decided of-graph.unless
   released-step =
-      ap (λ (o : Outcome). o .answer) (step-is bytes s v (due-released bytes s v p lt q))
+      ap (λ (o : Outcome StepSaid). o .answer) (step-is bytes s v (due-released bytes s v p lt q))
       ∙ rw start-refusal (go (leadsInto (s .edges) (s .held) v))
     where
       go :

@@ -3,6 +3,7 @@ use Prim.Native.Nat.{ℕ, _+_}
 use mathlib.Core.Bool.{Bool, true, false}
 use Rattle.graph.specs.Tables.{Lent}
 use Rattle.graph.specs.Answers as of-graph
+use Rattle.graph.specs.Answers.{Outcome}
 
 -- "An accepted step says one of seven things: start, new v, edge a b, release v, transfer v, job (number, offset), stop." A refusal has its
 -- number and place.
@@ -26,12 +27,8 @@ accepted (job n o) = true
 accepted stop = true
 accepted (refused n p) = false
 
-pub record Outcome : Type 0 where
-  pub answer : StepSaid
-  pub after : Lent
-
 -- "A refusal gives its number and place, and every lent table and the tally hold what they held."
-abbrev pub refuse : Lent → ℕ → ℕ → Outcome
+abbrev pub refuse : Lent → ℕ → ℕ → Outcome StepSaid
 refuse s n p = record { answer = refused n p; after = s }
 
 -- Loading says that it loaded, or is refused likewise.
@@ -43,11 +40,7 @@ abbrev pub isLoaded : LoadingSaid → Bool
 isLoaded loaded = true
 isLoaded (loading-refused n p) = false
 
-pub record LoadingOutcome : Type 0 where
-  pub answer : LoadingSaid
-  pub after : Lent
-
-abbrev pub refuseLoading : Lent → ℕ → ℕ → LoadingOutcome
+abbrev pub refuseLoading : Lent → ℕ → ℕ → Outcome LoadingSaid
 refuseLoading s n p = record { answer = loading-refused n p; after = s }
 
 -- "the tally's third number": one step more

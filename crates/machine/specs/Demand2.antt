@@ -14,11 +14,12 @@ use Rattle.graph.specs.Answers as of-graph
 use Rattle.graph.specs.Commands.{command}
 use Rattle.graph.specs.Demand2.{graph, SameBut}
 use Rattle.graph.specs.declared.Command as single
+use Rattle.graph.specs.Answers.{Outcome}
 use Rattle.program.specs.Trees.{Body}
 use Rattle.program.specs.Encodings as needs
 use Rattle.program.specs.Encodings.{firstEdition}
 use Rattle.program.specs.Reader.{program, refusal, reading}
-use Rattle.machine.specs.Answers.{StepSaid, Outcome, accepted, refuse, saidAs}
+use Rattle.machine.specs.Answers.{StepSaid, accepted, refuse, saidAs}
 use Rattle.machine.specs.Stepping.{steppable, Own, ownOf, Due, refusal-due, job-due, command-due, due, step}
 use Rattle.machine.specs.Running.{canStep, Ending, done, stuck, spent, refused, RunOutcome, ended}
 
@@ -60,13 +61,13 @@ pub record Adds (v : ℕ) (w : Own) (left after : Lent) : Type 0 where
   pub one-step : after .steps ≡ left .steps + 1
 
 -- a step of v that is the command c: it says what c says, refused exactly where c is, and leaves what c leaves but for what it adds
-pub record IsCommand (c : single.Command) (w : Own) (s : Lent) (v : ℕ) (o : Outcome) : Type 0 where
+pub record IsCommand (c : single.Command) (w : Own) (s : Lent) (v : ℕ) (o : Outcome StepSaid) : Type 0 where
   pub says : o .answer ≡ saidAs (command c s .answer)
   pub refused-keeps : accepted (o .answer) ≡ false → o .after ≡ s
   pub taken-adds : accepted (o .answer) ≡ true → Adds v w (command c s .after) (o .after)
 
 -- a step of v is what is due
-abbrev pub Does : Lent → ℕ → Outcome → Due → Type 0
+abbrev pub Does : Lent → ℕ → Outcome StepSaid → Due → Type 0
 Does s v o (refusal-due n) = o ≡ refuse s n 0
 Does s v o (job-due n p w) = (o .answer ≡ StepSaid.job n p) × Adds v w s (o .after)
 Does s v o (command-due c w) = IsCommand c w s v o

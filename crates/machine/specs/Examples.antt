@@ -11,7 +11,8 @@ use Rattle.graph.specs.Answers as of-graph
 use Rattle.graph.specs.Commands.{opening, command}
 use Rattle.graph.specs.declared.Command as single
 use Rattle.graph.specs.declared.Command.the-variants.{NewTd, NewEdge, Transfer, Start}
-use Rattle.machine.specs.Answers.{StepSaid, start, new, edge, release, transfer, job, stop, refused, LoadingSaid, loaded, LoadingOutcome, refuseLoading}
+use Rattle.graph.specs.Answers.{Outcome}
+use Rattle.machine.specs.Answers.{StepSaid, start, new, edge, release, transfer, job, stop, refused, LoadingSaid, loaded, refuseLoading}
 use Rattle.machine.specs.Loading.{load}
 use Rattle.machine.specs.Stepping.{step}
 use Rattle.machine.specs.Running.{Ending, done, spent, allFinished, run}
@@ -67,14 +68,14 @@ pub data Result : Type 0 where
   commanded : of-graph.OpeningSaid → List of-graph.CommandSaid → Result
 
 -- a run of a program that was loaded; steps of it; commands after the opening
-unfoldable pub runs : List ℕ → ℕ → LoadingOutcome → Result
+unfoldable pub runs : List ℕ → ℕ → Outcome LoadingSaid → Result
 runs p budget o =
     ran (o .answer) (run p (o .after) budget .ending) (run p (o .after) budget .last) (run p (o .after) budget .taken)
 
-unfoldable pub takesSteps : List ℕ → List ℕ → LoadingOutcome → Result
+unfoldable pub takesSteps : List ℕ → List ℕ → Outcome LoadingSaid → Result
 takesSteps p vs o = stepped (o .answer) (saidBy p (o .after) vs) (allFinished (leftBy p (o .after) vs))
 
-unfoldable pub commands : List single.Command → of-graph.OpeningOutcome → Result
+unfoldable pub commands : List single.Command → Outcome of-graph.OpeningSaid → Result
 commands cs o = commanded (o .answer) (saidBare (o .after) cs)
 
 -- that an example holds is an equation

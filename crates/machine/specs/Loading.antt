@@ -7,11 +7,12 @@ use lib.Dec.{ltb}
 use lib.ListN.{length}
 use Rattle.graph.specs.Tables.{Lent, RELEASED, vertexWords, edgeWords, placeWord, scopeWord, vertexRows, edgeRows, setStatus, setVertexWord, clear}
 use Rattle.graph.specs.Commands.{appended}
+use Rattle.graph.specs.Answers.{Outcome}
 use Rattle.program.specs.Encodings as needs
 use Rattle.program.specs.Encodings.{firstEdition}
 use Rattle.program.specs.Reader.{Reading, program, refusal, reading}
 use Rattle.refusal.specs.Refusals.{too-few-vertex-rows, too-few-edge-rows}
-use Rattle.machine.specs.Answers.{LoadingOutcome, loaded, refuseLoading}
+use Rattle.machine.specs.Answers.{loaded, refuseLoading, LoadingSaid}
 
 -- a vertex as loading sets it
 abbrev pub placed : List ℕ → ℕ → ℕ → List ℕ
@@ -28,12 +29,12 @@ loadedTables bytes s =
     }
 
 -- "Load: 1; the first of 2 to 7 by place, ..; 8; 10; 11."
-unfoldable pub loadRead : List ℕ → Lent → Reading → LoadingOutcome
+unfoldable pub loadRead : List ℕ → Lent → Reading → Outcome LoadingSaid
 loadRead bytes s (refusal n p) = refuseLoading s n p
 loadRead bytes s (program b) =
     cond (ltb (vertexRows (s .vertices)) (needs.verticesMade firstEdition b)) (refuseLoading s too-few-vertex-rows 0)
     (cond (ltb (edgeRows (s .edges)) (needs.edgeRowsNeeded firstEdition b)) (refuseLoading s too-few-edge-rows 0)
     (record { answer = loaded; after = loadedTables bytes s }))
 
-unfoldable pub load : List ℕ → Lent → LoadingOutcome
+unfoldable pub load : List ℕ → Lent → Outcome LoadingSaid
 load bytes s = loadRead bytes s (reading bytes)

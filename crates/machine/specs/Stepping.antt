@@ -14,13 +14,14 @@ use Rattle.graph.specs.Sound.{sound}
 use Rattle.graph.specs.Commands.{isMade, hasStatus, command}
 use Rattle.graph.specs.declared.Command as single
 use Rattle.graph.specs.declared.Command.the-variants.{NewTd, NewEdge, Release, Transfer, Start, Stop}
+use Rattle.graph.specs.Answers.{Outcome}
 use Rattle.program.specs.Trees.{jobs, asyncs, finishes, forks}
 use Rattle.program.specs.Encodings.{Name, own-scope, made-1, made-2, made-3, Spot, first-body, second-body, past-item, last-byte}
 use Rattle.program.specs.Encodings.{Command, perform, newTd, newEdge, transfer, release, Row, firstEdition, weight, makes}
 use Rattle.program.specs.Answers as of-program
 use Rattle.program.specs.Answers.{Stands}
 use Rattle.program.specs.Located.{itemAt}
-use Rattle.machine.specs.Answers.{StepSaid, Outcome, refuse, oneStep, saidAs}
+use Rattle.machine.specs.Answers.{StepSaid, refuse, oneStep, saidAs}
 
 -- "steps 8,192 or more (at a step or run only)"
 abbrev pub stepLimit : ℕ
@@ -167,7 +168,7 @@ withOwn s v w =
 
 -- What is due is done. A refusal changes nothing, and neither does a command that is refused. A job, or a command that is taken, leaves v's
 -- own words besides, and the step is counted.
-abbrev pub doDue : Lent → ℕ → Due → Outcome
+abbrev pub doDue : Lent → ℕ → Due → Outcome StepSaid
 doDue s v (refusal-due n) = refuse s n 0
 doDue s v (job-due n p w) = record { answer = StepSaid.job n p; after = oneStep (withOwn s v w) }
 doDue s v (command-due c w) =
@@ -176,5 +177,5 @@ doDue s v (command-due c w) =
       after = cond (of-graph.accepted (command c s .answer)) (oneStep (withOwn (command c s .after) v w)) s;
     }
 
-unfoldable pub step : List ℕ → Lent → ℕ → Outcome
+unfoldable pub step : List ℕ → Lent → ℕ → Outcome StepSaid
 step bytes s v = doDue s v (due bytes s v)

@@ -10,9 +10,10 @@ use Rattle.graph.specs.Tables.{Lent, NEW, RELEASED, EXECUTING, FINISHED, status
 use Rattle.refusal.specs.Refusals.{no-such-vertex, edge-leads-in, vertex-is-new, vertex-is-finished}
 use Rattle.graph.specs.Sound.{sound}
 use Rattle.graph.specs.Paths.{holds}
+use Rattle.graph.specs.Answers.{Outcome}
 use Rattle.program.specs.Located.{Code, job-at, codeAt}
 use Rattle.program.specs.Located as code
-use Rattle.machine.specs.Answers.{StepSaid, Outcome, refuse}
+use Rattle.machine.specs.Answers.{StepSaid, refuse}
 use Rattle.machine.specs.Stepping as words
 use Rattle.machine.proofs.GhostMachine.Ghost.{Do, Control, draft, fresh, ready, busy, joining, over, State, kids, goes, kindOf, commandsOf, joins}
 use Rattle.machine.proofs.GhostMachine.Ghost.{Event, a-start, a-new, an-edge, a-release, a-transfer, a-job, a-stop, Move}
@@ -78,7 +79,7 @@ pub record Tallied (e : Event) (s s' : Lent) : Type 0 where
   pub edge-length : length (s' .edges) ≡ length (s .edges)
 
 -- A step of v: refused for one of these reasons, or a move.
-pub data Followed (p : Code) (L : ℕ) (s : Lent) (S : State) (v : ℕ) (o : Outcome) : Type 0 where
+pub data Followed (p : Code) (L : ℕ) (s : Lent) (S : State) (v : ℕ) (o : Outcome StepSaid) : Type 0 where
   refused : (n : ℕ) → Refuses S v n → o ≡ refuse s n 0 → Followed p L s S v o
   moved :
       (e : Event) (S' : State) → Move L S v e S' → Follows p L (o .after) S' → Answers S v e (o .answer) → Tallied e s (o .after)

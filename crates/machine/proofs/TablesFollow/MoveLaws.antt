@@ -11,13 +11,13 @@ use Rattle.graph.specs.Sound.{sound}
 use Rattle.graph.specs.Commands.{stopped, withVertex}
 use Rattle.graph.specs.declared.Command as single
 use Rattle.graph.specs.declared.Command.the-variants.{NewTd, Stop}
+use Rattle.graph.specs.Answers.{Outcome}
 use Rattle.graph.proofs.SoundLaws.{sound-fits}
 use Rattle.graph.proofs.TableLaws.{keptRows-le}
 use Rattle.graph.proofs.TakenLaws.{leaves, Taken}
 use Rattle.graph.proofs.WordLaws.{vertex-words-of, edge-words-of, steps-kept-of}
 use Rattle.program.specs.Encodings.{Name, Spot, Command, perform, newTd}
 use Rattle.program.specs.Located.{Code, job-at, startOf, last}
-use Rattle.machine.specs.Answers.{Outcome}
 use Rattle.machine.specs.Stepping.{Own, ownOf, movedOn, command-due, filledIn, withOwn, doDue}
 use Rattle.machine.proofs.GhostMachine.Ghost.{Do, Control, busy, State, put, resolved, onward, done, withControl, grown, Event, Move}
 use Rattle.machine.proofs.GhostMachine.GhostLaws.{put-other}
@@ -30,6 +30,7 @@ use Rattle.machine.proofs.TablesFollow.CommandLaws.{says, called}
 use Rattle.machine.proofs.TablesFollow.DoneLaws.{new-done, asked, Joined}
 use Rattle.machine.proofs.TablesFollow.StepLaws.{rowOf, named-is, job-item}
 use Rattle.machine.proofs.TablesFollow.ItemLaws.{Joins, joins-link, joins-hand, joins-free, Acting, busyRow, Making, job-row}
+use Rattle.machine.specs.Answers.{StepSaid}
 
 -- the command of the calculus that a joining command of an item is, with its names filled in
 pub joins-due :
@@ -55,11 +56,11 @@ row-within s known c v lt = rw (vertex-words-of c s .0) (omega (arith, sound-fit
 
 -- a step by a command that is taken is a move
 pub by-command :
-    {p : Code} {L : ℕ} {s : Lent} {S : State} {v : ℕ} {o : Outcome} (c : single.Command) (w : Own) (e : Event) (S' : State)
+    {p : Code} {L : ℕ} {s : Lent} {S : State} {v : ℕ} {o : Outcome StepSaid} (c : single.Command) (w : Own) (e : Event) (S' : State)
     → Follows p L s S → o ≡ doDue s v (command-due c w) → Taken c s → Move L S v e S' → Follows p L (withOwn (leaves c s) v w) S'
     → Answers S v e (says c s) → leaves c s .held ≤ s .held + links e → Followed p L s S v o
 by-command {p} {L} {s} {S} {v} c w e S' F q taken move follows answers le =
-    subst (λ (o : Outcome). Followed p L s S v o) (sym (q ∙ called c s v w taken))
+    subst (λ (o : Outcome StepSaid). Followed p L s S v o) (sym (q ∙ called c s v w taken))
     (moved e S' move (count-follows follows) answers
     (record {
       steps-are = ap (λ (n : ℕ). n + 1) (steps-kept-of c s);

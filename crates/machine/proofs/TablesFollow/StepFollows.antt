@@ -14,6 +14,7 @@ use Rattle.graph.specs.Tables.{Lent, NEW, RELEASED, EXECUTING, FINISHED, vertex
 use Rattle.refusal.specs.Refusals.{no-such-vertex, edge-leads-in, vertex-is-new, vertex-is-finished}
 use Rattle.graph.specs.Paths.{leadsInto}
 use Rattle.graph.specs.declared.Command.the-variants.{NewTd, Start, Stop}
+use Rattle.graph.specs.Answers.{Outcome}
 use Rattle.graph.proofs.TestLaws.{decide, true-false}
 use Rattle.graph.proofs.SoundLaws.{sound-fits}
 use Rattle.graph.proofs.EdgeLaws.{none-into}
@@ -22,7 +23,7 @@ use Rattle.program.specs.Trees.{Body}
 use Rattle.program.specs.Encodings.{Name, perform, newTd}
 use Rattle.program.specs.Reader.{program, reading}
 use Rattle.program.specs.Located.{Code, end-at, job-at, locate, startOf, codeAt}
-use Rattle.machine.specs.Answers.{StepSaid, Outcome, oneStep}
+use Rattle.machine.specs.Answers.{StepSaid, oneStep}
 use Rattle.machine.specs.Stepping.{stepLimit, steppable, Own, ownOf, movedOn, filledIn, withOwn, step}
 use Rattle.machine.specs.Stepping as words
 use Rattle.machine.proofs.GhostMachine.Ghost.{Do, link, hand, free, Control, draft, fresh, ready, busy, joining, over, State, resolved, a-start}
@@ -215,7 +216,7 @@ module _
     -- a job
     step-job : (o n : ℕ) (r : Code) → S .control v ≡ busy (job-at o n r) [] → Result
     step-job o n r q =
-        subst (λ (o : Outcome). Followed p L s S v o) (sym is-step)
+        subst (λ (o : Outcome StepSaid). Followed p L s S v o) (sym is-step)
         (moved (a-job o) _ (performs q)
         (count-follows (performs-follows F v o n r shown within))
         (subst (λ (z : ℕ). Answers S v (a-job o) (StepSaid.job n z)) (sym at-o) (says-job q))

@@ -10,6 +10,7 @@ use lib.Dec.{ltb}
 use lib.ListN.{length, length-append}
 use Rattle.graph.specs.Tables.{Lent, usableLimit, vertexWords, edgeWords, vertexRows}
 use Rattle.graph.specs.Tables as tables
+use Rattle.graph.specs.Answers.{Outcome}
 use Rattle.program.specs.Limits.{numberBytes, programBytes, vertexLimit}
 use Rattle.program.specs.Trees.{jobs, Body, end, job, async, finish, fork, total, same, counts}
 use Rattle.program.specs.Encodings.{verticesMade, edgeRowsNeeded, stepsTaken, firstEdition}
@@ -20,7 +21,7 @@ use Rattle.program.specs.Claims.{Loadable}
 use Rattle.program.proofs.LocatedLaws.{laid-locate}
 use Rattle.program.proofs.Formulas.{vertices-formula, steps-formula}
 use Rattle.program.proofs.Exactness.{reading-sound}
-use Rattle.machine.specs.Answers.{StepSaid, Outcome, accepted, isLoaded}
+use Rattle.machine.specs.Answers.{StepSaid, accepted, isLoaded}
 use Rattle.machine.specs.Answers as said
 use Rattle.machine.specs.Loading.{load}
 use Rattle.machine.specs.Stepping.{step, stepLimit}
@@ -284,7 +285,7 @@ module _ (bytes : List ℕ) (t : Body) (s₀ : Lent) (r : reading bytes ≡ prog
     tracked-stepped = go (step bytes s v) stepped-as
       where
         go :
-            (o : Outcome) → Followed (locate 0 t) (length bytes - 1) s (T .state) v o
+            (o : Outcome StepSaid) → Followed (locate 0 t) (length bytes - 1) s (T .state) v o
             → Tracked bytes t s₀ (answers ++ (o .answer ∷ [])) (o .after)
         go o (refused n h e) = rw e (refused-tracked n h)
         go o (moved e S' m f says tally) = moved-tracked m f says tally
