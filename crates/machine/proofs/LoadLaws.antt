@@ -16,7 +16,7 @@ use lib.Dec.{ltb}
 use lib.ListN.{length, set, length-set}
 use lib.Seq.{getD-set-other}
 use borrow.Author.Tests.{le-ltb, lt-ltb, ltb-true, ltb-false}
-use Rattle.graph.specs.Tables.{Lent, RELEASED, vertexWords, edgeWords, statusWord, placeWord, scopeWord, sourceWord, targetWord, vertexRows}
+use Rattle.graph.specs.Tables.{Lent, vertexWords, edgeWords, statusWord, placeWord, scopeWord, sourceWord, targetWord, vertexRows}
 use Rattle.graph.specs.Tables.{edgeRows, clear}
 use Rattle.graph.specs.Commands.{appended}
 use Rattle.graph.specs.Demand2.{SameBut, UsableOnly}
@@ -171,8 +171,8 @@ rest-set {l' = l'} i x lt h =
 -- or a vertex is placed among them
 rest-placed : {l l' : List ℕ} {n : ℕ} (k x : ℕ) → vertexWords * k + scopeWord < n → Rest l n l' → Rest l n (placed l' k x)
 rest-placed k x lt h =
-    rest-set (vertexWords * k + scopeWord) 1 lt
-    (rest-set (vertexWords * k + placeWord) x (omega arith) (rest-set (vertexWords * k + statusWord) RELEASED (omega arith) h))
+    rest-set (vertexWords * k + scopeWord) _ lt
+    (rest-set (vertexWords * k + placeWord) x (omega arith) (rest-set (vertexWords * k + statusWord) _ (omega arith) h))
 
 loaded-usable : (bytes : List ℕ) (s : Lent) (t : Body) → Lends t s → UsableOnly s (loadedTables bytes s)
 unfolding loadedTables appended
@@ -185,8 +185,8 @@ loaded-usable bytes s t h =
           (rest-placed 0 0 (omega arith) (rest-cleared (s .vertices) (vertexWords * vertexRows (s .vertices))))
           .stays;
       edge-words =
-          rest-set (edgeWords * 0 + targetWord) 1 (omega arith)
-          (rest-set (edgeWords * 0 + sourceWord) 0 (omega arith) (rest-cleared (s .edges) (edgeWords * edgeRows (s .edges))))
+          rest-set (edgeWords * 0 + targetWord) _ (omega arith)
+          (rest-set (edgeWords * 0 + sourceWord) _ (omega arith) (rest-cleared (s .edges) (edgeWords * edgeRows (s .edges))))
           .stays;
     }
 
