@@ -1,8 +1,9 @@
 /* The task-graph engine: which job of a program may start now.
  *
- * A program is bytes: numbered jobs with async, finish and fork. The engine turns it into vertices and edges of a task graph and
- * moves it one step at a time, in whatever order the host picks. It keeps nothing: everything that it knows stands in the tables and
- * the tally that the host lends.
+ * A program is bytes: numbered jobs with async, finish and fork. A job's number takes one to five bytes and reaches 4,294,967,295, so
+ * that a retune job can carry its frequency in hertz. The engine turns the program into vertices and edges of a task graph and moves it
+ * one step at a time, in whatever order the host picks. It keeps nothing: everything that it knows stands in the tables and the tally
+ * that the host lends.
  *
  * Each call ends in an accepted step or in a numbered refusal that changed nothing, whatever was handed in. That each answer, table and
  * tally is the one that the engine's definitions give is proved; what this file declares, and that the compiler keeps it, is trusted.
@@ -97,12 +98,12 @@ enum {
 enum {
     /* the program's writer */
     KESHTIWOL_LENGTH_OUTSIDE = 1,    /* length 0 or over 4,096 */
-    KESHTIWOL_NUMBER_MALFORMED = 2,  /* a number longer than three bytes or not in its shortest form; place: its first byte */
+    KESHTIWOL_NUMBER_MALFORMED = 2,  /* a number longer than five bytes or not in its shortest form; place: its first byte */
     KESHTIWOL_BYTE_UNKNOWN = 3,      /* an item's first byte above 4; place: that byte */
     KESHTIWOL_LEVEL_TOO_DEEP = 4,    /* a body at level 33; place: its opener */
     KESHTIWOL_BYTES_RUN_OUT = 5,     /* place: the length */
     KESHTIWOL_BYTES_AFTER_END = 6,   /* place: the first byte after the end */
-    KESHTIWOL_JOB_TOO_LARGE = 7,     /* a job above 65,535; place: its number's first byte */
+    KESHTIWOL_JOB_TOO_LARGE = 7,     /* a job above 4,294,967,295; place: its number's first byte */
     KESHTIWOL_TOO_MANY_VERTICES = 8, /* more than 1,024 */
     /* the lender */
     KESHTIWOL_TOO_FEW_VERTEX_ROWS = 10,

@@ -39,11 +39,11 @@ class Text:
     def number(self):
         first, groups = self.at, []
         while not groups or groups[-1] > 127:
-            need(len(groups) < 3, 2, first)
+            need(len(groups) < 5, 2, first)
             groups.append(self.byte())
         need(len(groups) == 1 or groups[-1], 2, first)
         value = sum(group % 128 * 128**i for i, group in enumerate(groups))
-        need(value <= 65535, 7, first)
+        need(value < 2**32, 7, first)
         return value
 
     def body(self, level):
@@ -384,14 +384,23 @@ def draw_program(seed, room):
             kind = "1"
         if kind == "0" and pending == 1 and room - len(program) - pending >= 40:
             kind = "3"
-        if room - len(program) - pending < 4:
+        if room - len(program) - pending < 6:
             kind = "0"
         pending += {"0": -1, "1": 0, "2": 1, "3": 1, "4": 2}[kind]
         program.append(int(kind))
         if kind == "1":
-            number = seed // 65536
-            program += bytes([number % 128] if number % 3 else [128 + number % 100, 1 + number % 7])
+            program += number_bytes(drawn_number(seed))
     return bytes(program)
+
+
+def drawn_number(seed):
+    number = seed * 48271 if seed // 524288 % 8 else -1
+    return number % 2 ** (7, 14, 21, 28, 32)[seed // 65536 % 5]
+
+
+def number_bytes(number):
+    groups = [number >> shift & 127 for shift in range(0, max(number.bit_length(), 1), 7)]
+    return bytes([128 + group for group in groups[:-1]] + groups[-1:])
 
 
 def ways(body, way=()):
@@ -440,15 +449,16 @@ def turns(shop, order, seed):
         if isinstance(answer, Refused):
             refused += 1
         elif answer.startswith("job"):
-            jobs.append(int(answer.split()[2]))
-    print(f"order {order} jobs", *jobs, "refused", refused, left(shop))
-    check(shop.data, shop.steps, jobs)
+            _, number, offset = answer.split()
+            jobs.append((int(offset), int(number)))
+    print(f"order {order} jobs", *[f"{offset}:{number}" for offset, number in jobs], "refused", refused, left(shop))
+    check(shop.data, shop.steps, [offset for offset, _ in jobs])
 
 
 def soak():
     for k in range(30):
         seed = k * 7919 + 11
-        program = draw_program(seed, 120)
+        program = draw_program(seed, 160)
         print("program", program.hex(" "))
         for order in range(5):
             shop = Shop(program, [0] * 300 * VERTEX_WORDS, [0] * 300 * EDGE_WORDS, 0, 0, 0)

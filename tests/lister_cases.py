@@ -3,14 +3,34 @@
 
     tests/lister_cases.py > crates/lister_cases/stdout
 
-A vertex is a generator of its steps: it does a command to the graph and yields the command's text. Numbers have one byte here."""
+A vertex is a generator of its steps: it does a command to the graph and yields the command's text."""
 
 PROGRAMS = ["05", "", "00", "03 00", "02 00 00", "04 02 01 01 00 00 02 01 02 00 01 03 00 02 01 04 00 01 05 00"]
+PROGRAMS += ["02 01 90 81 db 06 00 01 ff ff ff ff 0f 00", "01 80 80 80 80 10 00", "01 80 80 80 80 80 00", "01 80 80 80 80"]
 JOB, ASYNC, FINISH, FORK = 1, 2, 3, 4
 
 
 class Refused(Exception):
     pass
+
+
+def number(data, at):
+    """The number that starts there, and where it ends."""
+    end = at
+    while end < min(len(data), at + 5) and data[end] >= 128:
+        end += 1
+    if end == at + 5:
+        raise Refused(2, at)
+    if end == len(data):
+        raise Refused(5, end)
+    value = 0
+    for group in data[end : at - 1 : -1]:
+        value = value * 128 + group % 128
+    if data[end] == 0 and end > at:
+        raise Refused(2, at)
+    if value >= 2**32:
+        raise Refused(7, at)
+    return value, end + 1
 
 
 def body(data, at):
@@ -26,7 +46,7 @@ def body(data, at):
             raise Refused(3, at - 1)
         contents = []
         for _ in range(2 if kind == FORK else 1):
-            part, at = (data[at], at + 1) if kind == JOB else body(data, at)
+            part, at = number(data, at) if kind == JOB else body(data, at)
             contents.append(part)
         items.append((kind, *contents))
 

@@ -13,7 +13,7 @@ class Refused(Exception):
 def read_number(data, start):
     """The number at `start`, and the place behind it."""
     value = 0
-    for i in range(3):
+    for i in range(5):
         if start + i == len(data):
             raise Refused(5, len(data))
         byte = data[start + i]
@@ -21,7 +21,7 @@ def read_number(data, start):
         if byte < 128:
             if byte == 0 and i > 0:
                 raise Refused(2, start)
-            if value > 65535:
+            if value > 4294967295:
                 raise Refused(7, start)
             return value, start + i + 1
     raise Refused(2, start)
@@ -102,10 +102,25 @@ EXAMPLES = """
 01
 01 80
 01 80 80
-01 80 80 80 01 00
+01 80 80 80
+01 80 80 80 80
+01 80 80 80 80 80
 01 80 80 00 00
-01 FF FF 04 00
+01 80 80 80 00 00
+01 80 80 80 80 00 00
+01 80 80 80 80 80 00
+01 80 80 80 80 80 01 00
+01 FF 7F 00
+01 80 80 01 00
 01 FF FF 7F 00
+01 80 80 80 01 00
+01 FF FF FF 7F 00
+01 80 80 80 80 01 00
+01 FF FF FF FF 0F 00
+01 80 80 80 80 10 00
+01 FF FF FF FF 10 00
+01 FF FF FF FF 7F 00
+02 01 FF FF FF FF 0F 00 01 90 81 DB 06 00
 01 80 01
 02
 04 00
@@ -160,6 +175,8 @@ def main():
     print(alike(b""))
     for first in range(256):
         print(f"{first:02x}" + alike(bytes([first])))
+    for others in (0x80, 0xFF):
+        print(f"01 and four times {others:02x}" + alike(bytes([1] + 4 * [others])))
 
 
 if __name__ == "__main__":

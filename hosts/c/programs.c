@@ -62,14 +62,15 @@ static void most_asyncs(struct program *program)
     end(program);
 }
 
-/* Three bands: retune, then filter and decode eight blocks side by side, then log, which the next band does not wait for. The last job
- * writes the logbook when all of this is over. */
+/* Three bands: retune, a job whose number is the frequency, then filter and decode eight blocks side by side, then log, which the next
+ * band does not wait for. The last job writes the logbook when all of this is over. */
 static void receiver(struct program *program)
 {
-    enum { RETUNE = 100, FILTER = 200, DECODE = 300, LOG = 400, LOGBOOK = 500, BANDS = 3, BLOCKS = 8 };
+    enum { FILTER = 200, DECODE = 300, LOG = 400, LOGBOOK = 500, BANDS = 3, BLOCKS = 8 };
+    static const uint32_t hertz[BANDS] = {14074000, 144174000, 3400100000};
     put(program, FINISH);
     for (uint32_t band = 0; band < BANDS; band++) {
-        put_job(program, RETUNE + band);
+        put_job(program, hertz[band]);
         put(program, FINISH);
         for (uint32_t block = 0; block < BLOCKS; block++) {
             put(program, ASYNC);
@@ -182,7 +183,7 @@ void program_built_in(struct program *program, int which)
     case 1: BYTES(1, 0, 0); break;
     case 2: BYTES(2, 1, 1, 0, 1, 2, 0); break;
     case 3: BYTES(4, 1, 1, 0, 1, 2, 0, 1, 3, 0); break;
-    case 4: BYTES(1, 0xFF, 0xFF, 3, 0); break;
+    case 4: BYTES(1, 0xFF, 0xFF, 0xFF, 0xFF, 0x0F, 0); break;
     case 5: BYTES(3, 2, 1, 5, 0, 0, 1, 6, 0); break;
     case 6: deep_asyncs(program); break;
     case 7: most_asyncs(program); break;
@@ -208,10 +209,11 @@ struct plan {
 
 static void draw_job(struct program *program, struct plan *plan)
 {
-    static const uint32_t sizes[3] = {0x80, 0x4000, 0x10000}; /* numbers of one, two and three bytes */
+    static const uint32_t greatest[5] = {0x7F, 0x3FFF, 0x1FFFFF, 0xFFFFFFF, UINT32_MAX}; /* of one to five bytes */
     if (plan->jobs > 0) {
         plan->jobs--;
-        put_job(program, draw(&plan->dice, sizes[draw(&plan->dice, 3)]));
+        uint32_t most = greatest[draw(&plan->dice, 5)];
+        put_job(program, draw(&plan->dice, 8) == 0 ? most : draw(&plan->dice, most));
     }
 }
 

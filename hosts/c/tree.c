@@ -17,18 +17,19 @@ static bool next_byte(struct reader *reader, uint8_t *byte)
     return true;
 }
 
-/* Groups of seven bits, lowest first; the top bit says that more follow. */
+/* Groups of seven bits, lowest first; the top bit says that more follow. Five groups hold 35 bits, of which a number has 32. */
 static bool read_number(struct reader *reader, uint32_t *number)
 {
-    uint8_t byte;
-    *number = 0;
+    uint64_t value = 0;
     for (int shift = 0; shift < 35; shift += 7) {
+        uint8_t byte;
         if (!next_byte(reader, &byte)) {
             return false;
         }
-        *number |= (uint32_t)(byte & 0x7F) << shift;
+        value |= (uint64_t)(byte & 0x7F) << shift;
         if (byte < 0x80) {
-            return true;
+            *number = (uint32_t)value;
+            return value <= UINT32_MAX && (byte > 0 || shift == 0);
         }
     }
     return false;

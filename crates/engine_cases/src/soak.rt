@@ -1,4 +1,5 @@
-// Drawn programs, each stepped in several orders until it has taken all its steps. The order of its jobs is written down.
+// Drawn programs, each stepped in several orders until it has taken all its steps. The order of its jobs is written down, each as its
+// offset and number.
 use crate::show;
 use crate::turns::ran;
 use cases::number;
@@ -25,7 +26,7 @@ pub(crate) fn all() {
 }
 
 fn one(seed: u64) {
-    let mut program = [0u8; 120];
+    let mut program = [0u8; 160];
     let n = draw(&mut program, seed);
     in_each_order(&program[..n], seed);
 }
@@ -69,7 +70,7 @@ fn draw(program: &mut [u8], seed: u64) -> usize
             at += 1;
             open -= 1;
         } else if kind < 2 {
-            at = job(program, at, drawn / 65536);
+            at = job(program, at, drawn_number(drawn));
         } else if kind < 4 {
             program[at] = kind;
             at += 1;
@@ -83,11 +84,11 @@ fn draw(program: &mut [u8], seed: u64) -> usize
     at
 }
 
-// The kind of the next item, or 0 for an end, and 0 where there is room for less than 4 bytes.
+// The kind of the next item, or 0 for an end, and 0 where there is room for less than 6 bytes.
 fn kind(drawn: u64, open: usize, room: usize) -> u8
-    ensures { λ r. ⌜ 4 ≤ room + 4 * (1 - r) ⌝ }
+    ensures { λ r. ⌜ 6 ≤ room + 6 * (1 - r) ⌝ }
 {
-    if room < 4 {
+    if room < 6 {
         return 0;
     }
     let n = drawn % 10;
@@ -114,19 +115,54 @@ fn closing(open: usize, room: usize) -> u8 {
     if room < 40 { 0 } else { 3 }
 }
 
-// A job with a number of one byte or two.
-fn job(program: &mut [u8], at: usize, drawn: u64) -> usize
-    requires { ⌜ at + 3 ≤ length (now program) ⌝ }
-    ensures { λ r. ⌜ (at < r) × (r ≤ at + 3) ⌝ }
-{
-    program[at] = 1;
-    if drawn % 3 == 0 {
-        program[at + 1] = (128 + drawn % 100) as u8;
-        program[at + 2] = (1 + drawn % 7) as u8;
-        return at + 3;
+// A number of at most so many bytes as are drawn, one to five; once in eight times it is the greatest of them.
+fn drawn_number(drawn: u64) -> u32 {
+    let bytes = drawn / 65536 % 5 + 1;
+    let number = if drawn / 524288 % 8 == 0 {
+        4294967295
+    } else {
+        drawn % 2147483648 * 48271
+    };
+    if bytes == 1 {
+        return (number % 128) as u32;
     }
-    program[at + 1] = (drawn % 128) as u8;
-    at + 2
+    if bytes == 2 {
+        return (number % 16384) as u32;
+    }
+    if bytes == 3 {
+        return (number % 2097152) as u32;
+    }
+    if bytes == 4 {
+        return (number % 268435456) as u32;
+    }
+    (number % 4294967296) as u32
+}
+
+// A job with this number, and where it ends.
+fn job(program: &mut [u8], at: usize, number: u32) -> usize
+    requires { ⌜ at + 6 ≤ length (now program) ⌝ }
+    ensures { λ r. ⌜ (at < r) × (r ≤ at + 6) ⌝ }
+{
+    let end = groups(program, at + 1, number);
+    program[at] = 1;
+    end
+}
+
+// A number in its shortest form, and where it ends.
+fn groups(program: &mut [u8], at: usize, number: u32) -> usize
+    requires { ⌜ at + 5 ≤ length (now program) ⌝ }
+    ensures { λ r. ⌜ (at < r) × (r ≤ at + 5) ⌝ }
+{
+    let mut left = number;
+    for i in 0..5 {
+        if left < 128 {
+            program[at + i] = left as u8;
+            return at + i + 1;
+        }
+        program[at + i] = (128 + left % 128) as u8;
+        left = left / 128;
+    }
+    at + 5
 }
 
 fn in_order(program: &[u8], seed: u64, order: u32, needed: u64) {
@@ -223,7 +259,7 @@ fn lowest(found: Lowest) -> u32 {
     }
 }
 
-// Writes a job's offset; answers 1 for a refusal.
+// Writes a job's offset and number; answers 1 for a refusal.
 fn written(answer: Answer) -> u32
     ensures { λ r. ⌜ r ≤ 1 ⌝ }
 {
@@ -233,8 +269,9 @@ fn written(answer: Answer) -> u32
         Answer::Edge(a, b) => 0,
         Answer::Release(v) => 0,
         Answer::Transfer(v) => 0,
-        Answer::Job { number: _, offset } => {
+        Answer::Job { number: n, offset } => {
             number(b" ", offset);
+            number(b":", n);
             0
         }
         Answer::Stop => 0,

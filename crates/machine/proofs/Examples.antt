@@ -1,4 +1,4 @@
--- The starred examples of document 01 hold: each is evaluated, by unfolding the definitions of the calls.
+-- The examples of the table hold: each is evaluated, by unfolding the definitions of the calls.
 use mathlib.Core.Path.{refl}
 use Rattle.graph.specs.Tables.{clear}
 use Rattle.graph.specs.Tests.{both, either, every, any}
@@ -30,6 +30,14 @@ unfolding anything runs takesSteps commands saidBy leftBy saidBare run runOn loo
     leadsOutOf reaches a.decided a.unless
 examples =
     refl
+    & refl
+    & refl
+    & refl
+    & refl
+    & refl
+    & refl
+    & refl
+    & refl
     & refl
     & refl
     & refl

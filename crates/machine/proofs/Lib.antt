@@ -10,7 +10,7 @@
 --     StepDemand2     demand 2 of a step: it is what is due, taken where its command is
 --     RunDemand2      demand 2 of a run: only such steps, and how it ends
 --     LookLaws        a run turn by turn: which vertex it finds, which cannot step, and what each look comes to
---     Examples        the starred examples of document 01 hold
+--     Examples        the examples of the table hold
 --     AheadIsPre      the paper's order of jobs is the one by recursion on code that the proofs use
 --     AheadUnique     the body that this order looks at is the only one there is, and so the innermost
 --     AheadExamples   this order, on two of document 01's programs

@@ -8,7 +8,7 @@
 --     Reached    what can be reached from a loading, and lists of calls
 --     Demand3    demand 3
 --     Traces     traces of an engine, as the contracts of its calls tie them
---     Examples   the starred bench examples, as one table
+--     Examples   the bench examples that are proved, as one table
 pub mod Answers
 pub mod Loading
 pub mod Stepping

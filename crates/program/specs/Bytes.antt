@@ -33,7 +33,7 @@ unfoldable pub groupBytes : ℕ → ℕ → List ℕ
 groupBytes zero n = []
 groupBytes (suc room) n = cond (ltb n topBit) (n ∷ []) ((topBit + n % topBit) ∷ groupBytes room (n / topBit))
 
--- "one to three bytes"
+-- "one to five bytes"
 unfoldable pub encodeNumber : ℕ → List ℕ
 encodeNumber n = groupBytes numberBytes n
 

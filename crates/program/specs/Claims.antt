@@ -70,7 +70,7 @@ pub data LeadsTo (to : ℕ) : ℕ → List ℕ → Type 0 where
 abbrev pub TopBits : List ℕ → Type 0
 TopBits xs = (i : ℕ) → i < length xs → (topBit ≤ getD xs i 0) × (getD xs i 0 < 2 * topBit)
 
--- The bytes of a number that a refusal is due for: "2 number longer than three bytes or not shortest; .. 7 job above 65,535".
+-- The bytes of a number that a refusal is due for: 2 "longer than five bytes or not shortest" and 7 "above 4,294,967,295".
 pub data BadNumber : ℕ → List ℕ → Type 0 where
   too-long : (number : List ℕ) → length number ≡ numberBytes → TopBits number → BadNumber number-malformed number
   not-shortest : (b : ℕ) (groups : List ℕ) → TopBits (b ∷ groups) → BadNumber number-malformed (b ∷ (groups ++ (0 ∷ [])))

@@ -1,13 +1,14 @@
--- The limits on programs, each named once.
+-- The limits on programs, each named once. The first two are note 1's of document 02: "A number may now take one to five bytes and reach
+-- 4,294,967,295."
 use Prim.Native.Nat.{ℕ}
 
--- "one to three bytes"
+-- "one to five bytes"
 abbrev pub numberBytes : ℕ
-numberBytes = 3
+numberBytes = 5
 
--- "at most 65,535"
+-- "reach 4,294,967,295"
 abbrev pub jobLimit : ℕ
-jobLimit = 65535
+jobLimit = 4294967295
 
 -- "one level deeper, to 32"
 abbrev pub levelLimit : ℕ

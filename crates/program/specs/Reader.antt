@@ -28,8 +28,8 @@ takeIf true n place next = next
 takeIf false n place next = refused n place
 
 -- A number's groups, from the bytes that are left of it; so many bytes it may still have, and `only` tells whether these are all
--- its bytes. "5 bytes run out, in a number before the last byte that it may have"; "2 number longer than three bytes or not
--- shortest": its last group is 0, and it is not its only one. A byte is below 256; what is above that in a list is no byte.
+-- its bytes. "5 bytes run out, in a number before the last byte that it may have"; refusal 2 "longer than five bytes or
+-- not shortest": its last group is 0, and it is not its only one. A byte is below 256; what is above that in a list is no byte.
 unfoldable pub groups : List ℕ → Bool → ℕ → List ℕ → Read ℕ
 groups start only zero left = refused number-malformed start
 groups start only (suc room) [] = refused bytes-run-out []

@@ -13,9 +13,9 @@ pub const FORK: u8 = 4;
 // Set on every byte of a number but its last.
 pub const TOP_BIT: u8 = 128;
 
-pub const NUMBER_BYTES: usize = 3;
+pub const NUMBER_BYTES: usize = 5;
 
-pub const JOB_LIMIT: u64 = 65535;
+pub const JOB_LIMIT: u64 = 4294967295;
 
 pub const LEVEL_LIMIT: u32 = 32;
 

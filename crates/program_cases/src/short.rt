@@ -1,4 +1,4 @@
-// Every program of one and of two bytes. Those that differ in their last byte only and are answered alike stand together, as
+// Every program of one and of two bytes, and every fifth byte of a job's number. Those that differ in their last byte only and are answered alike stand together, as
 // `first-last number place`; an accepted program has the number 0.
 use cases::hex;
 use cases::number;
@@ -11,6 +11,8 @@ pub(crate) fn all() {
     for first in 0..256u32 {
         two_bytes(first);
     }
+    fifth_byte(128);
+    fifth_byte(255);
 }
 
 fn one_byte() {
@@ -22,6 +24,14 @@ fn two_bytes(first: u32) {
     let mut program = [0u8; 2];
     program[0] = (first % 256) as u8;
     hex(b"", (first % 256) as u8);
+    last_bytes(&mut program);
+}
+
+// The last byte is the number's fifth, behind four that are the same.
+fn fifth_byte(others: u8) {
+    let mut program = [others; 6];
+    program[0] = 1;
+    hex(b"01 and four times ", others);
     last_bytes(&mut program);
 }
 

@@ -7,7 +7,7 @@ use Prim.Native.Nat.{ℕ}
 abbrev pub length-outside : ℕ
 length-outside = 1
 
--- "2 number longer than three bytes or not shortest"
+-- 2, of a number: "longer than five bytes or not shortest" (document 02, note 1)
 abbrev pub number-malformed : ℕ
 number-malformed = 2
 
@@ -27,7 +27,7 @@ bytes-run-out = 5
 abbrev pub bytes-after-end : ℕ
 bytes-after-end = 6
 
--- "7 job above 65,535"
+-- 7, of a job: "above 4,294,967,295" (document 02, note 1)
 abbrev pub job-too-large : ℕ
 job-too-large = 7
 

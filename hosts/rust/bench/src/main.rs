@@ -168,6 +168,8 @@ fn main() {
             programs.push((format!("{} {name}", thousands(times)), repeated(item, times)));
         }
     }
+    // Jobs whose numbers have five bytes.
+    programs.push(("682 retunes".into(), repeated(&[1, 0xA0, 0xD1, 0xA5, 0xD5, 0x0C], 682)));
     programs.push(("nesting 31 deep".into(), [[2].repeat(31), [0].repeat(32)].concat()));
     programs.push(("mixed".into(), compare::programs::mixed()));
 

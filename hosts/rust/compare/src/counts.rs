@@ -23,6 +23,10 @@ pub struct Counts {
     taken: u64,
     /// The largest program that loaded: bytes, vertices that it makes, levels, each for itself.
     largest: [usize; 3],
+    /// Jobs that steps named, by the bytes of their numbers, 1 to 5.
+    jobs: [u64; 5],
+    /// The largest of these numbers.
+    largest_job: u32,
 }
 
 impl Counts {
@@ -49,7 +53,11 @@ impl Counts {
                 Answer::Edge(..) => (4, 0),
                 Answer::Release(_) => (5, 0),
                 Answer::Transfer(_) => (6, 0),
-                Answer::Job { .. } => (7, 0),
+                Answer::Job { number, .. } => {
+                    self.jobs[programs::number_bytes(number).len() - 1] += 1;
+                    self.largest_job = number.max(self.largest_job);
+                    (7, 0)
+                }
                 Answer::Stop => (8, 0),
             },
             Said::Lowest(lowest) => match lowest {
@@ -88,6 +96,10 @@ impl Counts {
         }
         self.taken += other.taken;
         self.enlarge(other.largest);
+        for (jobs, more) in self.jobs.iter_mut().zip(other.jobs) {
+            *jobs += more;
+        }
+        self.largest_job = other.largest_job.max(self.largest_job);
     }
 
     pub fn calls(&self) -> u64 {
@@ -107,6 +119,11 @@ impl Counts {
     /// The most bytes, vertices and levels of programs that loaded.
     pub fn largest(&self) -> [usize; 3] {
         self.largest
+    }
+
+    /// How often steps named jobs with numbers of 1 to 5 bytes, and the largest of these numbers.
+    pub fn jobs(&self) -> ([u64; 5], u32) {
+        (self.jobs, self.largest_job)
     }
 }
 
@@ -129,6 +146,7 @@ impl fmt::Display for Counts {
         }
         let [bytes, vertices, levels] = self.largest;
         writeln!(f, "runs took {} steps; programs had up to {bytes} bytes, {vertices} vertices, {levels} levels", self.taken)?;
+        writeln!(f, "steps named jobs with numbers of 1 to 5 bytes {:?} times, the largest {}", self.jobs, self.largest_job)?;
         write!(f, "refusals")?;
         for number in REFUSALS {
             write!(f, " {number}: {}", self.refusals(number))?;

@@ -17,7 +17,7 @@ impl Draw {
 
     /// A number below `bound`, or 0 where that is 0.
     pub fn below(&mut self, bound: u32) -> u32 {
-        ((u64::from(bound) * (self.bits() >> 32)) >> 32) as u32
+        scaled(self.bits(), bound)
     }
 
     pub fn index(&mut self, bound: usize) -> usize {
@@ -27,6 +27,17 @@ impl Draw {
     /// From `low` to `high`, both counted.
     pub fn between(&mut self, low: u32, high: u32) -> u32 {
         low + self.below(high - low + 1)
+    }
+
+    /// The same, but `low` once in eight times, and `high` as often. It takes as many bits as `between`, so that what is drawn
+    /// afterwards does not depend on which of the two is called.
+    pub fn to_the_edges(&mut self, low: u32, high: u32) -> u32 {
+        let bits = self.bits();
+        match bits % 8 {
+            0 => low,
+            1 => high,
+            _ => low + scaled(bits, high - low + 1),
+        }
     }
 
     /// True once in `n` times.
@@ -60,4 +71,9 @@ impl Draw {
             _ => self.pick(&LIMITS),
         }
     }
+}
+
+/// A number below `bound` by the upper half of these bits.
+fn scaled(bits: u64, bound: u32) -> u32 {
+    ((u64::from(bound) * (bits >> 32)) >> 32) as u32
 }

@@ -7,6 +7,10 @@ const ASYNC: u8 = 2;
 const FINISH: u8 = 3;
 const FORK: u8 = 4;
 
+/// The least and the greatest number of one to five bytes.
+const NUMBERS: [(u32, u32); 5] =
+    [(0, 127), (128, 16_383), (16_384, 2_097_151), (2_097_152, 268_435_455), (268_435_456, 4_294_967_295)];
+
 /// What a program may grow to.
 #[derive(Clone, Copy, Debug)]
 pub struct Shape {
@@ -15,8 +19,8 @@ pub struct Shape {
     pub levels: u32,
     /// How often jobs, asyncs, finishes and forks come.
     pub weights: [u32; 4],
-    /// How often job numbers have one, two and three bytes.
-    pub numbers: [u32; 3],
+    /// How often job numbers have one to five bytes.
+    pub numbers: [u32; 5],
     /// An inner body ends after an item once in so many times.
     pub ends: u32,
     /// Whether the main body grows until nothing more fits, or ends as the others do.
@@ -66,17 +70,13 @@ impl Growth<'_> {
         }
         match draw.weighted(&weights) {
             0 => {
-                let longest = (room - 1).min(3);
+                let longest = (room - 1).min(NUMBERS.len());
                 let mut lengths = self.shape.numbers;
                 lengths[longest..].fill(0);
-                let length = if lengths == [0; 3] { 0 } else { draw.weighted(&lengths) };
-                let number = match length {
-                    0 => draw.below(128),
-                    1 => draw.between(128, 16_383),
-                    _ => draw.between(16_384, 65_535),
-                };
+                let length = if lengths == [0; NUMBERS.len()] { 0 } else { draw.weighted(&lengths) };
+                let (least, greatest) = NUMBERS[length];
                 self.bytes.push(JOB);
-                self.bytes.extend(number_bytes(number));
+                self.bytes.extend(number_bytes(draw.to_the_edges(least, greatest)));
             }
             1 => self.open(draw, level, ASYNC, 1, 1),
             2 => self.open(draw, level, FINISH, 1, 2),
@@ -131,7 +131,7 @@ fn shape(draw: &mut Draw, least_bytes: u32, most_bytes: u32, most_vertices: u32)
         vertices: draw.between(2, most_vertices),
         levels: draw.pick(&[2, 3, 5, 32, 32]),
         weights: draw.pick(&WEIGHTS),
-        numbers: draw.pick(&[[1, 0, 0], [3, 1, 1], [1, 1, 1], [0, 0, 1]]),
+        numbers: draw.pick(&[[1, 0, 0, 0, 0], [3, 1, 1, 1, 1], [1, 1, 1, 1, 1], [0, 0, 0, 1, 2]]),
         ends: draw.pick(&[2, 3, 5]),
         full: !draw.one_in(4),
     }
@@ -182,7 +182,7 @@ pub fn needs(program: &[u8]) -> (u32, u32, usize) {
 
 /// The mixed program of the benchmark, the same each time: 4,000 bytes, 1,000 vertices, 32 levels.
 pub fn mixed() -> Vec<u8> {
-    let shape = Shape { bytes: 4000, vertices: 1000, levels: 32, weights: [8, 2, 1, 2], numbers: [1, 1, 1], ends: 3, full: true };
+    let shape = Shape { bytes: 4000, vertices: 1000, levels: 32, weights: [8, 2, 1, 2], numbers: [1, 1, 1, 0, 0], ends: 3, full: true };
     grow(&mut Draw::new(8), &shape)
 }
 
@@ -203,7 +203,7 @@ fn just_over(draw: &mut Draw) -> Vec<u8> {
     let mut shape = large(draw);
     match draw.below(3) {
         0 => {
-            (shape.bytes, shape.numbers) = (4097 + draw.index(5), [1, 0, 0]);
+            (shape.bytes, shape.numbers) = (4097 + draw.index(5), [1, 0, 0, 0, 0]);
             shape.weights[0] += 1;
         }
         1 => {
@@ -231,16 +231,19 @@ fn odd_byte(draw: &mut Draw) -> u8 {
 
 /// Flips, sets, puts in, takes out, cuts or appends bytes, or puts in a job with a number at the edge of what numbers are.
 fn damage(draw: &mut Draw, program: &mut Vec<u8>) {
-    const NUMBERS: [&[u8]; 9] = [
+    const EDGES: [&[u8]; 12] = [
         &[0x80, 0],
-        &[0x80, 0x80, 0],
         &[0xFF, 0],
         &[0x80, 0x80, 0x80, 0],
-        &[0xFF, 0xFF, 0xFF],
-        &[0x80, 0x80, 4],
-        &[0xFF, 0xFF, 0x7F],
-        &[0xFF, 0xFF, 3],
-        &[0x80, 0x80, 1],
+        &[0x80, 0x80, 0x80, 0x80, 0],
+        &[0xFF, 0xFF, 0xFF, 0xFF, 0xFF],
+        &[0x80, 0x80, 0x80, 0x80, 0x80, 0],
+        &[0x80, 0x80, 0x80, 0x80, 0x80, 1],
+        &[0xFF, 0xFF, 0xFF, 0xFF, 0x0F],
+        &[0x80, 0x80, 0x80, 0x80, 0x10],
+        &[0xFF, 0xFF, 0xFF, 0xFF, 0x1F],
+        &[0xFF, 0xFF, 0xFF, 0xFF, 0x7F],
+        &[0x80, 0x80, 0x80, 0x80, 1],
     ];
     if program.is_empty() {
         program.push(odd_byte(draw));
@@ -261,14 +264,14 @@ fn damage(draw: &mut Draw, program: &mut Vec<u8>) {
             }
         }
         6 => {
-            let number = draw.pick(&NUMBERS);
+            let number = draw.pick(&EDGES);
             program.splice(at..at, [&[JOB], number].concat());
         }
         _ => {
             // Cut inside a number.
             program.truncate(at);
             program.push(JOB);
-            program.extend(draw.pick(&NUMBERS));
+            program.extend(draw.pick(&EDGES));
             program.pop();
         }
     }

@@ -16,6 +16,9 @@ fn no_difference() {
         assert!(counts.refusals(number) > 0, "refusal {number} was never seen");
     }
     assert_eq!(counts.largest(), [4096, 1024, 32]);
+    let (jobs, largest) = counts.jobs();
+    assert!(jobs.iter().all(|&jobs| jobs > 500), "jobs with numbers of 1 to 5 bytes: {jobs:?}");
+    assert_eq!(largest, u32::MAX);
 }
 
 /// The generator's valid programs do load, its damaged ones mostly don't, and the mixed one is what the benchmark says of it.

@@ -1,6 +1,7 @@
 //! Safe calls into the task-graph engine: which job of a program may start now.
 //!
-//! A program is bytes: numbered jobs with async, finish and fork. [`Machine`] owns all that the engine needs:
+//! A program is bytes: numbered jobs with async, finish and fork. A job's number takes one to five bytes and reaches 4,294,967,295, so
+//! that a retune job can carry its frequency in hertz. [`Machine`] owns all that the engine needs:
 //!
 //! ```
 //! use keshtiwol::{Answer, Lowest, Machine};

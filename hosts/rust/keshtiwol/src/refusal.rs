@@ -46,12 +46,12 @@ pub struct Refusal {
 pub fn text(number: u32) -> &'static str {
     match number {
         LENGTH_OUTSIDE => "the program has no bytes or more than 4,096",
-        NUMBER_MALFORMED => "a number is longer than three bytes or not in its shortest form",
+        NUMBER_MALFORMED => "a number is longer than five bytes or not in its shortest form",
         BYTE_UNKNOWN => "an item's first byte is above 4",
         LEVEL_TOO_DEEP => "a body is at level 33",
         BYTES_RUN_OUT => "the bytes run out",
         BYTES_AFTER_END => "bytes come after the end",
-        JOB_TOO_LARGE => "a job's number is above 65,535",
+        JOB_TOO_LARGE => "a job's number is above 4,294,967,295",
         TOO_MANY_VERTICES => "the program makes more than 1,024 vertices",
         TOO_FEW_VERTEX_ROWS => "too few vertex rows are lent",
         TOO_FEW_EDGE_ROWS => "too few edge rows are lent",

@@ -64,6 +64,18 @@ fn jobs_lowest_first() {
     assert_eq!(jobs(&[1, 0xFF, 0xFF, 3, 0]), [65_535]);
 }
 
+/// Retune to 14,074,000 Hz, then the least and the greatest number of five bytes.
+#[test]
+fn frequencies() {
+    let program = [1, 0x90, 0x81, 0xDB, 6, 1, 0x80, 0x80, 0x80, 0x80, 1, 1, 0xFF, 0xFF, 0xFF, 0xFF, 0x0F, 0];
+    assert_eq!(jobs(&program), [14_074_000, 268_435_456, u32::MAX]);
+    assert_eq!(
+        listing(&program),
+        "vertices 2 jobs 3 steps 7\n0 start\n0 job 14074000\n0 job 268435456\n0 job 4294967295\n0 stop\n1 start\n1 stop\n"
+    );
+    assert_eq!(jobs(&[1, 0x80, 0x80, 4, 0]), [65_536]);
+}
+
 /// The async's job ahead of the other, which the lowest first would not give.
 #[test]
 fn jobs_in_either_order() {
@@ -100,16 +112,20 @@ fn a_refused_listing() {
 fn refused_programs() {
     let (deep, long) = ([2; 32], [0; 4097]);
     let pairs = [[2, 0].repeat(1023), vec![0]].concat();
-    let refused: [(&[u8], u32, u32); 12] = [
+    let refused: [(&[u8], u32, u32); 16] = [
         (&[], 1, 0),
         (&long, 1, 0),
         (&[5], 3, 0),
         (&[1, 0x80, 0, 0], 2, 1),
-        (&[1, 0x80, 0x80, 0x80, 0, 0], 2, 1),
+        (&[1, 0x80, 0x80, 0x80, 0x80, 0, 0], 2, 1),
+        (&[1, 0x80, 0x80, 0x80, 0x80, 0x80, 0], 2, 1),
+        (&[1, 0x80, 0x80, 0x80, 0x80, 0x80, 1, 0], 2, 1),
         (&[0, 0], 6, 1),
         (&[3, 0], 5, 2),
         (&[1, 0x80], 5, 2),
-        (&[1, 0x80, 0x80, 4, 0], 7, 1),
+        (&[1, 0x80, 0x80, 0x80, 0x80], 5, 5),
+        (&[1, 0x80, 0x80, 0x80, 0x80, 0x10, 0], 7, 1),
+        (&[1, 0xFF, 0xFF, 0xFF, 0xFF, 0x7F, 0], 7, 1),
         (&[0x1, 0xFF, 0xFF, 3], 5, 4),
         (&deep, 4, 31),
         (&pairs, 8, 0),
@@ -127,7 +143,8 @@ fn programs_at_the_limits() {
     let jobs = [[1, 5].repeat(2047), vec![1, 0]].concat();
     assert_eq!(Machine::load(&jobs).unwrap_err(), Refusal { number: 5, place: 4096 });
     let jobs = [[1, 5].repeat(2046), vec![1, 0x80, 1, 0]].concat();
-    for (program, made, count) in [(nested, 33, 159), (pairs, 1024, 5114), (forks, 1024, 5114), (jobs, 2, 2051)] {
+    let retunes = [[1, 0xFF, 0xFF, 0xFF, 0xFF, 0x0F].repeat(682), vec![1, 0x80, 1, 0]].concat();
+    for (program, made, count) in [(nested, 33, 159), (pairs, 1024, 5114), (forks, 1024, 5114), (jobs, 2, 2051), (retunes, 2, 687)] {
         let mut machine = Machine::load(&program).unwrap();
         assert_eq!(machine.run(u32::MAX), Run { ending: Ending::Done, last: Some(Answer::Stop), taken: count });
         assert_eq!(machine.tally().made, made);

@@ -8,10 +8,10 @@ const OPENERS: usize = 31;
 const MOST_VERTICES: u32 = 1024;
 
 /// What starts at a place: an item, or the end byte of a body. The first body of an item starts
-/// one byte after its place. Offsets are at most 4,096 and job numbers at most 65,535.
+/// one byte after its place. Offsets are at most 4,096.
 #[derive(Clone, Copy, PartialEq, Eq, Debug)]
 pub(crate) enum Item {
-    Job { number: u16, past: u16 },
+    Job { number: u32, past: u16 },
     Async { past: u16 },
     Finish { past: u16 },
     Fork { right: u16, past: u16 },
@@ -122,26 +122,28 @@ pub(crate) fn read(program: &[u8], mut found: impl FnMut(usize, Item)) -> Result
 }
 
 /// "A number is in groups of seven bits, lowest group first, the top bit set on every byte but its
-/// last, one to three bytes, shortest form, at most 65,535." Answers it and the place past it.
-fn read_number(program: &[u8], start: usize) -> Result<(u16, usize), Refusal> {
-    let mut value = 0u32;
-    for group in 0..3 {
+/// last, [...] shortest form"; "A number may now take one to five bytes and reach 4,294,967,295."
+/// Answers it and the place past it.
+fn read_number(program: &[u8], start: usize) -> Result<(u32, usize), Refusal> {
+    let mut value = 0u64;
+    for group in 0..5 {
         let at = start + group;
         let Some(&byte) = program.get(at) else {
             return Err((5, program.len() as u32));
         };
-        value |= u32::from(byte & 0x7f) << (7 * group);
+        value |= u64::from(byte & 0x7f) << (7 * group);
         if byte & 0x80 == 0 {
             // "in a number 5, 2, 7"
             if byte == 0 && group > 0 {
                 return Err((2, start as u32));
             }
-            return match u16::try_from(value) {
+            return match u32::try_from(value) {
                 Ok(number) => Ok((number, at + 1)),
+                // "7 reads 'above 4,294,967,295'"
                 Err(_) => Err((7, start as u32)),
             };
         }
     }
-    // "2 number longer than three bytes"
+    // "Refusal 2 reads 'longer than five bytes or not shortest'"
     Err((2, start as u32))
 }

@@ -80,7 +80,7 @@ fn next_command(caller: u32, row: &Row, item: Item, end: u32) -> Option<Due> {
     // An item starts at `place`, so it lies in the program and its first body one byte further.
     let body = place.saturating_add(1);
     let (act, then) = match (item, phase) {
-        (Item::Job { number, past }, 0) => (Act::Job { number: number.into(), offset: place }, Then::Move(past.into())),
+        (Item::Job { number, past }, 0) => (Act::Job { number, offset: place }, Then::Move(past.into())),
         // "async: newTd t' (its body, own scope); newEdge t' to own scope; release t'; then past
         // the item."
         (Item::Async { .. }, 0) => new(0, body, scope),

@@ -147,7 +147,9 @@ fn random_body(dice: &mut Dice, level: usize, room: &mut usize, out: &mut Vec<u8
         match if level < 5 { dice.below(5) } else { 0 } {
             0 | 1 => {
                 out.push(1);
-                let mut number = [dice.below(100), dice.below(20_000), dice.below(65_536)][dice.below(3)];
+                // "one to five bytes and reach 4,294,967,295"
+                let bits = [7, 14, 21, 28, 32][dice.below(5)];
+                let mut number = if dice.one_in(8) { (1 << bits) - 1 } else { dice.below(1 << bits) };
                 while number > 127 {
                     out.push(number as u8 | 0x80);
                     number >>= 7;
@@ -257,16 +259,52 @@ fn bench_examples_are_refused() {
     assert_eq!(load_refusal(&[1, 0x80, 0, 0]), refusal(2, 1));
     assert_eq!(load_refusal(&[0, 0]), refusal(6, 1));
     assert_eq!(load_refusal(&[3, 0]), refusal(5, 2));
-    assert_eq!(load_refusal(&[1, 0x80, 0x80, 4, 0]), refusal(7, 1));
 }
 
+/// "A number may now take one to five bytes and reach 4,294,967,295."
 #[test]
-fn job_65535() {
-    let program = [1, 0xff, 0xff, 3, 0];
-    let mut lent = loaded(&program);
-    assert_eq!(lent.step(&program, 0), Answer::Start);
-    assert_eq!(lent.step(&program, 0), Answer::Job { number: 65_535, offset: 0 });
-    assert_eq!(lent.row(0), row(3, 4, 1));
+fn job_numbers() {
+    let numbers: [(&[u8], u32); 10] = [
+        (&[0], 0),
+        (&[0x7f], 127),
+        (&[0x80, 1], 128),
+        (&[0xff, 0x7f], 16_383),
+        (&[0xff, 0xff, 3], 65_535),
+        (&[0x80, 0x80, 4], 65_536),
+        (&[0xff, 0xff, 0xff, 0x7f], 268_435_455),
+        (&[0x80, 0x80, 0x80, 0x80, 1], 268_435_456),
+        (&[0x90, 0x81, 0xdb, 6], 14_074_000),
+        (&[0xff, 0xff, 0xff, 0xff, 0x0f], u32::MAX),
+    ];
+    for (bytes, number) in numbers {
+        let program = [&[1], bytes, &[0]].concat();
+        let mut lent = loaded(&program);
+        assert_eq!(lent.step(&program, 0), Answer::Start);
+        assert_eq!(lent.step(&program, 0), Answer::Job { number, offset: 0 });
+        assert_eq!(lent.row(0), row(3, 1 + bytes.len() as u32, 1));
+    }
+}
+
+/// "Refusal 2 reads 'longer than five bytes or not shortest' and 7 reads 'above 4,294,967,295'"; "in a number 5, 2, 7".
+#[test]
+fn refused_numbers() {
+    let refused: [(&[u8], (u32, u32)); 12] = [
+        (&[], (5, 1)),
+        (&[0x80], (5, 2)),
+        (&[0x80, 0x80], (5, 3)),
+        (&[0x80, 0x80, 0x80], (5, 4)),
+        (&[0x80, 0x80, 0x80, 0x80], (5, 5)),
+        (&[0x80, 0x80, 0x80, 0x80, 0x80], (2, 1)),
+        (&[0xff, 0xff, 0xff, 0xff, 0x8f, 0], (2, 1)),
+        (&[0x80, 0x80, 0x80, 0x80, 0x80, 1, 0], (2, 1)),
+        (&[0x80, 0x80, 0x80, 0x80, 0, 0], (2, 1)),
+        (&[0x80, 0x80, 0x80, 0, 0], (2, 1)),
+        (&[0x80, 0x80, 0x80, 0x80, 0x10, 9], (7, 1)),
+        (&[0xff, 0xff, 0xff, 0xff, 0x7f], (7, 1)),
+    ];
+    for (bytes, (number, place)) in refused {
+        assert_eq!(load_refusal(&[&[1], bytes].concat()), refusal(number, place), "{bytes:02x?}");
+    }
 }
 
 #[test]
@@ -353,12 +391,6 @@ fn pairs() {
 #[test]
 fn reading_refuses_in_order() {
     assert_eq!(load_refusal(&vec![0; 4097]), refusal(1, 0));
-    assert_eq!(load_refusal(&[1]), refusal(5, 1));
-    assert_eq!(load_refusal(&[1, 0x80]), refusal(5, 2));
-    assert_eq!(load_refusal(&[1, 0x80, 0x80]), refusal(5, 3));
-    assert_eq!(load_refusal(&[1, 0x80, 0x80, 0x80]), refusal(2, 1));
-    assert_eq!(load_refusal(&[1, 0x80, 0x80, 0]), refusal(2, 1));
-    assert_eq!(load_refusal(&[1, 0xff, 0xff, 4, 9]), refusal(7, 1));
     assert_eq!(load_refusal(&[1, 5]), refusal(5, 2));
     assert_eq!(load_refusal(&[2, 4, 0, 0]), refusal(5, 4));
     assert_eq!(load_refusal(&[2, 1, 1, 0, 0x81, 0]), refusal(3, 4));

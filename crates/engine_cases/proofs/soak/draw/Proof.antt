@@ -27,6 +27,7 @@ draw-spec = tie.close (tie.spec Inv-loop
     (λ c. omega arith)
     (λ c. simp length-set (omega arith))
     (λ c. simp length-set (omega arith))
+    (λ c κs. search needs)
     (λ c κs. omega arith)
     (λ c. omega arith)
     (λ c. omega arith)
