@@ -8,8 +8,7 @@ const FINISH: u8 = 3;
 const FORK: u8 = 4;
 
 /// The least and the greatest number of one to five bytes.
-const NUMBERS: [(u32, u32); 5] =
-    [(0, 127), (128, 16_383), (16_384, 2_097_151), (2_097_152, 268_435_455), (268_435_456, 4_294_967_295)];
+const NUMBERS: [(u32, u32); 5] = [(0, 127), (128, 16_383), (16_384, 2_097_151), (2_097_152, 268_435_455), (268_435_456, 4_294_967_295)];
 
 /// What a program may grow to.
 #[derive(Clone, Copy, Debug)]
@@ -186,11 +185,12 @@ pub fn mixed() -> Vec<u8> {
     grow(&mut Draw::new(8), &shape)
 }
 
-/// A program that loading refuses, mostly: just over a limit, changed here and there, or anything.
+/// A program that loading refuses, mostly: just over a limit, with an odd number, changed here and there, or anything.
 pub fn damaged(draw: &mut Draw, size: Size) -> Vec<u8> {
-    let mut program = match draw.below(8) {
+    let mut program = match draw.below(10) {
         0 => return just_over(draw),
         1 => return scribble(draw),
+        2 | 3 => return misnumbered(draw, size),
         _ => valid(draw, size),
     };
     for _ in 0..draw.pick(&[1, 1, 1, 2, 3, 8]) {
@@ -229,22 +229,46 @@ fn odd_byte(draw: &mut Draw) -> u8 {
     }
 }
 
-/// Flips, sets, puts in, takes out, cuts or appends bytes, or puts in a job with a number at the edge of what numbers are.
+/// A valid program with one job more, whose number is odd. Once in four times the program ends inside that number.
+fn misnumbered(draw: &mut Draw, size: Size) -> Vec<u8> {
+    let mut program = valid(draw, size);
+    let at = draw.pick(&starts(&program));
+    let mut job = vec![JOB];
+    job.extend(odd_number(draw));
+    if draw.one_in(4) {
+        program.truncate(at);
+        job.pop();
+    }
+    program.splice(at..at, job);
+    program
+}
+
+/// Where items and end bytes start in a valid program.
+fn starts(program: &[u8]) -> Vec<usize> {
+    let mut starts = Vec::new();
+    let mut in_number = false;
+    for (at, &byte) in program.iter().enumerate() {
+        if !in_number {
+            starts.push(at);
+        }
+        in_number = if in_number { byte > 127 } else { byte == JOB };
+    }
+    starts
+}
+
+/// The bytes of a number at the edge of what numbers are, or past it.
+fn odd_number(draw: &mut Draw) -> Vec<u8> {
+    let mut bytes = Vec::new();
+    for _ in 0..draw.pick(&[0, 1, 2, 3, 4, 4, 4, 5, 6]) {
+        let any = 0x80 | draw.bits() as u8;
+        bytes.push(draw.pick(&[0x80, 0xFF, any]));
+    }
+    bytes.push(draw.pick(&[0, 1, 0x0F, 0x10, 0x1F, 0x7F]));
+    bytes
+}
+
+/// Flips, sets, puts in, takes out, cuts or appends bytes, or puts in a job with an odd number.
 fn damage(draw: &mut Draw, program: &mut Vec<u8>) {
-    const EDGES: [&[u8]; 12] = [
-        &[0x80, 0],
-        &[0xFF, 0],
-        &[0x80, 0x80, 0x80, 0],
-        &[0x80, 0x80, 0x80, 0x80, 0],
-        &[0xFF, 0xFF, 0xFF, 0xFF, 0xFF],
-        &[0x80, 0x80, 0x80, 0x80, 0x80, 0],
-        &[0x80, 0x80, 0x80, 0x80, 0x80, 1],
-        &[0xFF, 0xFF, 0xFF, 0xFF, 0x0F],
-        &[0x80, 0x80, 0x80, 0x80, 0x10],
-        &[0xFF, 0xFF, 0xFF, 0xFF, 0x1F],
-        &[0xFF, 0xFF, 0xFF, 0xFF, 0x7F],
-        &[0x80, 0x80, 0x80, 0x80, 1],
-    ];
     if program.is_empty() {
         program.push(odd_byte(draw));
         return;
@@ -264,14 +288,14 @@ fn damage(draw: &mut Draw, program: &mut Vec<u8>) {
             }
         }
         6 => {
-            let number = draw.pick(&EDGES);
-            program.splice(at..at, [&[JOB], number].concat());
+            program.splice(at..at, odd_number(draw));
+            program.insert(at, JOB);
         }
         _ => {
             // Cut inside a number.
             program.truncate(at);
             program.push(JOB);
-            program.extend(draw.pick(&EDGES));
+            program.extend(odd_number(draw));
             program.pop();
         }
     }
