@@ -29,7 +29,8 @@ impl Reader {
         }
     }
 
-    // The number at this reader's place, where `bytes` start.
+    // The number at this reader's place, where `bytes` start. Its groups hold up to 35 bits, so its value is built in 64, and becomes 32
+    // behind the test of the limit.
     pub(crate) fn number(self, bytes: &[u8]) -> NumberRead
         requires { ⌜ self .place + length (now bytes) ≤ programBytes ⌝ }
         ensures { λ r. ⌜ reachedNumber r ≡ numberProgress (self .place + length (now (bytes .entry))) (itemCounts (self .seen)) (number (now (bytes .entry))) ⌝ }
