@@ -185,7 +185,7 @@ pub fn mixed() -> Vec<u8> {
     grow(&mut Draw::new(8), &shape)
 }
 
-/// A program that loading refuses, mostly: just over a limit, with an odd number, changed here and there, or anything.
+/// A program that loading refuses, mostly: just over a limit, with a number at the edge, changed here and there, or anything.
 pub fn damaged(draw: &mut Draw, size: Size) -> Vec<u8> {
     let mut program = match draw.below(10) {
         0 => return just_over(draw),
@@ -229,12 +229,12 @@ fn odd_byte(draw: &mut Draw) -> u8 {
     }
 }
 
-/// A valid program with one job more, whose number is odd. Once in four times the program ends inside that number.
+/// A valid program with one job more, whose number is at the edge of what numbers are, or past it. Once in four times the program ends inside that number.
 fn misnumbered(draw: &mut Draw, size: Size) -> Vec<u8> {
     let mut program = valid(draw, size);
     let at = draw.pick(&starts(&program));
     let mut job = vec![JOB];
-    job.extend(odd_number(draw));
+    job.extend(edge_number(draw));
     if draw.one_in(4) {
         program.truncate(at);
         job.pop();
@@ -257,7 +257,7 @@ fn starts(program: &[u8]) -> Vec<usize> {
 }
 
 /// The bytes of a number at the edge of what numbers are, or past it.
-fn odd_number(draw: &mut Draw) -> Vec<u8> {
+fn edge_number(draw: &mut Draw) -> Vec<u8> {
     let mut bytes = Vec::new();
     for _ in 0..draw.pick(&[0, 1, 2, 3, 4, 4, 4, 5, 6]) {
         let any = 0x80 | draw.bits() as u8;
@@ -267,7 +267,7 @@ fn odd_number(draw: &mut Draw) -> Vec<u8> {
     bytes
 }
 
-/// Flips, sets, puts in, takes out, cuts or appends bytes, or puts in a job with an odd number.
+/// Flips, sets, puts in, takes out, cuts or appends bytes, or puts in a job with a number at the edge.
 fn damage(draw: &mut Draw, program: &mut Vec<u8>) {
     if program.is_empty() {
         program.push(odd_byte(draw));
@@ -288,14 +288,14 @@ fn damage(draw: &mut Draw, program: &mut Vec<u8>) {
             }
         }
         6 => {
-            program.splice(at..at, odd_number(draw));
+            program.splice(at..at, edge_number(draw));
             program.insert(at, JOB);
         }
         _ => {
             // Cut inside a number.
             program.truncate(at);
             program.push(JOB);
-            program.extend(odd_number(draw));
+            program.extend(edge_number(draw));
             program.pop();
         }
     }
