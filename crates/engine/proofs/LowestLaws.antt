@@ -21,7 +21,7 @@ use Rattle.graph.specs.Internal.Search.{blank}
 use Rattle.graph.specs.Paths.{leadsInto}
 use Rattle.graph.specs.Commands.{command}
 use Rattle.graph.proofs.TestLaws.{equal?, below-suc, either-left, either-skip, both-true, both-false-left, both-false-right, any-empty}
-use Rattle.graph.proofs.Chains.{blank-long}
+use Rattle.graph.proofs.RowLinks.{blank-long}
 use Rattle.refusal.specs.Refusals.{unsound-tables}
 use Rattle.machine.specs.Stepping.{stepLimit, steppable, Due}
 use Rattle.machine.specs.Running.{canStep, lowest, chosen, choice, Choice, choose, no-choice, choice-refused}

@@ -1,10 +1,12 @@
 -- The search, step by step, on lists. It starts at the vertex to be reached, which is looked at first and is not marked for that. Each
 -- row that is followed finds its source marked (`seen`) or marks it and puts it into the queue (`found`). Where the rows of a vertex
 -- are over, the next vertex of the queue is looked at (`turn`), and where there is none, the marked vertices are all from which a path
--- leads to the vertex to be reached (`over`).
-use Prim.Native.Nat.{ℕ, zero, suc, _+_, _<_}
+-- leads to the vertex to be reached (`answer-no`).
+-- That a mark is the distance rests on `near-marked`: while a vertex d edges away is looked at, every vertex with a path of d edges or
+-- fewer is marked already. So one that is marked only now, with d + 1, has no shorter path.
+use Prim.Native.Nat.{ℕ, zero, suc, _+_, _≤_, _<_}
 use mathlib.Core.Path.{_≡_, refl, sym, _∙_, ap, subst}
-use mathlib.Core.Bool.{true, false}
+use mathlib.Core.Bool.{Bool, true, false}
 use mathlib.Core.Logic.{_⊎_, inl, inr, ⊎-elim}
 use mathlib.Core.List.{List, [], _∷_}
 use native.Mathlib.Nat.{eq-or-lt-of-le}
@@ -13,20 +15,25 @@ use native.Mathlib.Omega.{arith}
 use lib.ListN.{length, getD, set, replicate, length-set}
 use lib.Seq.{getD-set-same, getD-set-other}
 use Rattle.graph.specs.Tables.{usableLimit, source, target}
-use Rattle.graph.specs.Paths.{Leads, one, more, holds, reaches}
-use Rattle.graph.specs.Internal.Search.{lastInto, blank, zeros, Room, IsMarked, Sought, Covered, Frontier}
+use Rattle.graph.specs.Paths.{holds, reaches}
+use Rattle.graph.specs.Internal.Search.{lastInto, blank, zeros, Room, IsMarked, Hops, here, hop, Away, Covered, Frontier, Measured}
 use Rattle.graph.proofs.TestLaws.{true-false, equal?, below-suc}
-use Rattle.graph.proofs.PathLaws.{go-on, holds-at, held-row, reaches-is}
-use Rattle.graph.proofs.Chains.{last-row, below-last, blank-long}
+use Rattle.graph.proofs.PathLaws.{leads-hops, hops-leads, holds-at, held-row, reaches-is}
+use Rattle.graph.proofs.RowLinks.{last-row, below-last, blank-long}
 
 -- ---- marks, and the room in the queue
-zeros-fewer : (m : List ℕ) (s : ℕ) → s < length m → getD m s 0 ≡ 0 → zeros m ≡ suc (zeros (set m s 1))
+zeros-marked : (m : List ℕ) (w : ℕ) → 0 < w → zeros (w ∷ m) ≡ zeros m
 unfolding zeros
-zeros-fewer [] s lt h = absurd (omega arith)
-zeros-fewer (zero ∷ m) zero lt h = refl
-zeros-fewer (suc x ∷ m) zero lt h = absurd (omega arith)
-zeros-fewer (zero ∷ m) (suc s) lt h = ap suc (zeros-fewer m s (omega arith) h)
-zeros-fewer (suc x ∷ m) (suc s) lt h = zeros-fewer m s (omega arith) h
+zeros-marked m zero pos = absurd (omega arith)
+zeros-marked m (suc w) pos = refl
+
+zeros-fewer : (m : List ℕ) (s w : ℕ) → 0 < w → s < length m → getD m s 0 ≡ 0 → zeros m ≡ suc (zeros (set m s w))
+unfolding zeros
+zeros-fewer [] s w pos lt h = absurd (omega arith)
+zeros-fewer (zero ∷ m) zero w pos lt h = ap suc (sym (zeros-marked m w pos))
+zeros-fewer (suc x ∷ m) zero w pos lt h = absurd (omega arith)
+zeros-fewer (zero ∷ m) (suc s) w pos lt h = ap suc (zeros-fewer m s w pos (omega arith) h)
+zeros-fewer (suc x ∷ m) (suc s) w pos lt h = zeros-fewer m s w pos (omega arith) h
 
 zeros-blank : (n : ℕ) → zeros (replicate n 0) ≡ n
 unfolding zeros
@@ -39,14 +46,15 @@ room-blank h long =
 
 -- a vertex that is not marked finds a place
 pub room-left : {m q : List ℕ} {tail : ℕ} → Room m q tail → (s : ℕ) → s < length m → getD m s 0 ≡ 0 → tail < length q
-room-left {m} r s lt h = omega (arith, zeros-fewer m s lt h)
+room-left {m} r s lt h = omega (arith, zeros-fewer m s 1 (omega arith) lt h)
 
-pub room-taken : {m q : List ℕ} {tail : ℕ} → Room m q tail → (s : ℕ) → s < length m → getD m s 0 ≡ 0 → Room (set m s 1) (set q tail s) (tail + 1)
-room-taken {m} r s lt h =
+pub room-taken :
+    {m q : List ℕ} {tail : ℕ} → Room m q tail → (s w : ℕ) → 0 < w → s < length m → getD m s 0 ≡ 0 → Room (set m s w) (set q tail s) (tail + 1)
+room-taken {m} r s w pos lt h =
     record {
       marks = simp length-set (r .marks);
       places = simp length-set (r .places);
-      free = omega (arith, zeros-fewer m s lt h);
+      free = omega (arith, zeros-fewer m s w pos lt h);
     }
 
 blank-at : (n x : ℕ) → _≡_ {A = ℕ} (getD (replicate n 0) x 0) 0
@@ -54,170 +62,261 @@ blank-at zero x = refl
 blank-at (suc n) zero = refl
 blank-at (suc n) (suc x) = blank-at n x
 
-unmarked : {m : List ℕ} → m ≡ blank → (x : ℕ) → IsMarked m x → ⊥
-unmarked h x p = omega (arith, ap (λ (l : List ℕ). getD l x 0) h ∙ blank-at usableLimit x)
+no-mark : {m : List ℕ} → m ≡ blank → (x : ℕ) → getD m x 0 ≡ 0
+no-mark h x = ap (λ (l : List ℕ). getD l x 0) h ∙ blank-at usableLimit x
 
 marked-below : (m : List ℕ) (x : ℕ) → IsMarked m x → x < length m
 marked-below [] x h = absurd (omega arith)
 marked-below (y ∷ m) zero h = omega arith
 marked-below (y ∷ m) (suc x) h = omega (arith, marked-below m x h)
 
-module _ (m : List ℕ) (s : ℕ) (lt : s < length m) where
-  mark-new : IsMarked (set m s 1) s
-  mark-new = omega (arith, getD-set-same m s 1 0 lt)
-
-  mark-kept : (x : ℕ) → IsMarked m x → IsMarked (set m s 1) x
-  mark-kept x h =
-      ⊎-elim
-      (λ e. subst (λ (y : ℕ). IsMarked (set m s 1) y) (sym e) mark-new)
-      (λ e. omega (arith, getD-set-other m s x 1 0 e))
-      (equal? x s)
-
-  mark-was : (x : ℕ) → IsMarked (set m s 1) x → (x ≡ s) ⊎ IsMarked m x
-  mark-was x h = ⊎-elim (λ e. inl e) (λ e. inr (omega (arith, getD-set-other m s x 1 0 e))) (equal? x s)
-
 -- ---- the steps
-pub start : {e : List ℕ} {n to c : ℕ} {m q : List ℕ} → m ≡ blank → c ≡ lastInto e to n → Frontier e n to to 0 c m q 0
+pub start : {e : List ℕ} {n to c : ℕ} {m q : List ℕ} → m ≡ blank → c ≡ lastInto e to n → Frontier e n to to 0 0 c m q 0
 start {e} {n} {to} none h =
     record {
       ordered = omega arith;
+      near = omega arith;
       queued = λ k lt. absurd (omega arith);
-      leads = λ x p. absurd (unmarked none x p);
-      counts = inl refl;
+      rising = λ j k ge le lt. absurd (omega arith);
+      farther = λ k ge lt. absurd (omega arith);
+      marks = λ x. omega (arith, no-mark none x);
+      leads = λ x p. absurd (omega (arith, no-mark none x));
+      least = λ x k p r. absurd (omega (arith, no-mark none x));
+      counts = inl (refl, refl);
       row = λ i p. last-row e to n i (sym h ∙ p);
       closed =
-          λ i lt.
-          ⊎-elim (λ p. inr (inl (p, omega (arith, below-last e to n i lt p)))) (λ p. absurd (unmarked none (target e i) p));
+          λ i k lt.
+          ⊎-elim
+          (λ p. inr (inl (p .0, omega (arith, below-last e to n i lt (p .0)), p .1)))
+          (λ p. absurd (omega (arith, no-mark none (target e i))));
     }
 
-module _ {e : List ℕ} {n to v head c : ℕ} {m q : List ℕ} {tail : ℕ} (f : Frontier e n to v head c m q tail) where
+module _ {e : List ℕ} {n to v d head c : ℕ} {m q : List ℕ} {tail : ℕ} (f : Frontier e n to v d head c m q tail) where
   -- what stands in the queue is a usable vertex
   pub queued-usable : Room m q tail → (k : ℕ) → k < tail → getD q k 0 < usableLimit
   queued-usable r k lt = omega (arith, marked-below m (getD q k 0) (f .queued k lt))
 
+  -- where each row with a target less than b edges away has a marked source, each path of up to b edges begins at a marked vertex
+  module _ (b : ℕ) (all : (i k : ℕ) → i < n → k < b → Away to m (target e i) k → IsMarked m (source e i)) where
+    edge-marked : (x y : ℕ) {k : ℕ} → holds e n x y ≡ true → Hops (holds e n) k y to → k < b → IsMarked m x
+    edge-marked x y h here lt = let (i, l, from, into) = held-row e n x y h in rw from at (all i 0 l lt (inl (into, refl)))
+    edge-marked x y h (hop {k = k} {b = z} g p) lt =
+        let (i, l, from, into) = held-row e n x y h in
+        let marked = edge-marked y z g p (omega arith) in
+        rw from at (all i (getD m y 0) l (omega (arith, f .least y k marked (hop g p))) (inr (marked, rw into refl)))
+
+    path-marked : {k x : ℕ} → Hops (holds e n) (suc k) x to → suc k ≤ b → IsMarked m x
+    path-marked (hop {a = x} {b = y} h p) le = edge-marked x y h p le
+
+  -- so it is for d: rows with such targets are neither left nor wait
+  near-marked : {k x : ℕ} → Hops (holds e n) (suc k) x to → suc k ≤ d → IsMarked m x
+  near-marked =
+      path-marked d (λ i k l lt r. ⊎-elim (λ a. a) (⊎-elim (λ a. absurd (omega arith)) (λ a. absurd (omega arith))) (f .closed i k l r))
+
+  away-hops : (x k : ℕ) → Away to m x k → Hops (holds e n) k x to
+  away-hops x k (inl (p, r)) = rw (p, r) here
+  away-hops x k (inr (pos, p)) = rw p at (f .leads x (omega arith))
+
   -- a marked vertex is an answer
   pub answer-yes : (a : ℕ) → IsMarked m a → true ≡ reaches e n a to
-  answer-yes a h = reaches-is e n a to true (λ r. f .leads a h) (λ p. refl)
+  answer-yes a h = reaches-is e n a to true (λ r. hops-leads h (f .leads a h)) (λ p. refl)
+
+  -- and the marks are what the search was for
+  pub measured : Room m q tail → (from : ℕ) (found : Bool) → (found ≡ true → IsMarked m from) → Measured e n from to found m
+  measured r from found h =
+      record {
+        long = r .marks;
+        leads = f .leads;
+        least = f .least;
+        marked = h;
+        nearer = λ p x k path lt. near-marked path (omega (arith, f .marks from));
+      }
 
   -- row i is followed, and its source is marked
-  pub seen : (i d : ℕ) → c ≡ suc i → d ≡ lastInto e (target e i) i → IsMarked m (source e i) → Frontier e n to v head d m q tail
-  seen i d p h marked =
-      let (held, here) = f .row i p in
-      let h′ : d ≡ lastInto e v i = h ∙ ap (λ (x : ℕ). lastInto e x i) here in
+  pub seen : (i c′ : ℕ) → c ≡ suc i → c′ ≡ lastInto e (target e i) i → IsMarked m (source e i) → Frontier e n to v d head c′ m q tail
+  seen i c′ p h marked =
+      let (held, into) = f .row i p in
+      let h′ : c′ ≡ lastInto e v i = h ∙ ap (λ (x : ℕ). lastInto e x i) into in
       record {
         ordered = f .ordered;
+        near = f .near;
         queued = f .queued;
+        rising = f .rising;
+        farther = f .farther;
+        marks = f .marks;
         leads = f .leads;
+        least = f .least;
         counts = f .counts;
-        row = λ k r. let (lt, s) = last-row e v i k (sym h′ ∙ r) in (omega arith, s);
+        row = λ j r. let (lt, s) = last-row e v i j (sym h′ ∙ r) in (omega arith, s);
         closed =
-            λ k lt r.
+            λ j k lt r.
             ⊎-elim
             (λ a. inl a)
             (⊎-elim
             (λ a.
             ⊎-elim
             (λ b. inl (subst (λ (x : ℕ). IsMarked m (source e x)) (sym b) marked))
-            (λ b. inr (inl (a .0, omega (arith, below-last e v i k b (a .0)))))
-            (below-suc (subst (λ (x : ℕ). k < x) p (a .1))))
+            (λ b. inr (inl (a .0, omega (arith, below-last e v i j b (a .0)), a .2)))
+            (below-suc (subst (λ (x : ℕ). j < x) p (a .1))))
             (λ a. inr (inr a)))
-            (f .closed k lt r);
+            (f .closed j k lt r);
       }
 
-  -- row i's source s is marked now, and put into the queue
-  grown : (i s : ℕ) → c ≡ suc i → source e i ≡ s → s < length m → tail < length q → Frontier e n to v head c (set m s 1) (set q tail s) (tail + 1)
-  grown i s p is lt room =
-      record {
-        ordered = omega (arith, f .ordered);
-        queued =
-            λ k l.
-            ⊎-elim
-            (λ b. subst (λ (x : ℕ). IsMarked (set m s 1) x) (sym (ap (λ (x : ℕ). getD (set q tail s) x 0) b ∙ put)) (mark-new m s lt))
-            (λ b. subst (λ (x : ℕ). IsMarked (set m s 1) x) (sym (stays k b)) (kept (getD q k 0) (f .queued k b)))
-            (below-suc {i = k} {n = tail} (rw add-one at l));
-        leads = λ x l. ⊎-elim (λ a. subst (λ (y : ℕ). Leads (holds e n) y to) (is ∙ sym a) path) (λ a. f .leads x a) (mark-was m s lt x l);
-        counts = ⊎-elim (λ a. inl a) (λ a. inr (kept v a)) (f .counts);
-        row = f .row;
-        closed =
-            λ k l.
-            ⊎-elim
-            (λ a. wider k (f .closed k l (inl a)))
-            (λ a.
-            ⊎-elim
-            (λ b. inr (inr (record { place = tail; from = f .ordered; below = omega arith; there = put ∙ sym b })))
-            (λ b. wider k (f .closed k l (inr b)))
-            (mark-was m s lt (target e k) a));
-      }
-    where
-      kept : (x : ℕ) → IsMarked m x → IsMarked (set m s 1) x
-      kept = mark-kept m s lt
+  -- row i's source s, not marked so far, gets the mark w, one more than v is away, and is put into the queue
+  module _
+      (i w : ℕ) (p : c ≡ suc i) (further : w ≡ suc d) (lt : source e i < length m) (room : tail < length q)
+      (free : getD m (source e i) 0 ≡ 0) where
+    abbrev s : ℕ
+    s = source e i
 
-      put : getD (set q tail s) tail 0 ≡ s
-      put = getD-set-same q tail s 0 room
+    abbrev m′ : List ℕ
+    m′ = set m s w
 
-      stays : (k : ℕ) → k < tail → getD (set q tail s) k 0 ≡ getD q k 0
-      stays k l = getD-set-other q tail k s 0 (λ r. omega arith)
+    abbrev q′ : List ℕ
+    q′ = set q tail s
 
-      path : Leads (holds e n) (source e i) to
-      path =
-          let (held, here) = f .row i p in
-          go-on (holds-at e n i held)
-          (⊎-elim (λ a. inl (here ∙ a)) (λ a. inr (subst (λ (y : ℕ). Leads (holds e n) y to) (sym here) (f .leads v a))) (f .counts))
+    mark-new : getD m′ s 0 ≡ w
+    mark-new = getD-set-same m s w 0 lt
 
-      wider : (k : ℕ) → Covered e v head c m q tail k → Covered e v head c (set m s 1) (set q tail s) (tail + 1) k
-      wider k =
-          ⊎-elim
-          (λ a. inl (kept (source e k) a))
-          (⊎-elim
-          (λ a. inr (inl a))
-          (λ a. inr (inr (record { place = a .place; from = a .from; below = omega arith; there = stays (a .place) (a .below) ∙ a .there }))))
+    -- a marked vertex is not s, and keeps its mark
+    mark-kept : (x : ℕ) → IsMarked m x → getD m′ x 0 ≡ getD m x 0
+    mark-kept x h = getD-set-other m s x w 0 (λ r. omega (arith, ap (λ (y : ℕ). getD m y 0) r))
+
+    mark-cases : (x : ℕ) → ((x ≡ s) × (getD m′ x 0 ≡ w)) ⊎ (getD m′ x 0 ≡ getD m x 0)
+    mark-cases x = ⊎-elim (λ r. inl (r, ap (λ (y : ℕ). getD m′ y 0) r ∙ mark-new)) (λ r. inr (getD-set-other m s x w 0 r)) (equal? x s)
+
+    put : getD q′ tail 0 ≡ s
+    put = getD-set-same q tail s 0 room
+
+    stays : (k : ℕ) → k < tail → getD q′ k 0 ≡ getD q k 0
+    stays k l = getD-set-other q tail k s 0 (λ r. omega arith)
+
+    -- the marks along the queue: as before, and w at its end
+    queue-cases :
+        (k : ℕ) → k < tail + 1
+        → ((k ≡ tail) × (getD m′ (getD q′ k 0) 0 ≡ w)) ⊎ ((k < tail) × (getD m′ (getD q′ k 0) 0 ≡ getD m (getD q k 0) 0))
+    queue-cases k l =
+        ⊎-elim
+        (λ b. inl (b, ap (λ (j : ℕ). getD m′ (getD q′ j 0) 0) b ∙ (ap (λ (x : ℕ). getD m′ x 0) put ∙ mark-new)))
+        (λ b. inr (b, ap (λ (x : ℕ). getD m′ x 0) (stays k b) ∙ mark-kept (getD q k 0) (f .queued k b)))
+        (below-suc {i = k} {n = tail} (rw add-one at l))
+
+    -- s has a path by v, and none that is shorter
+    path : Hops (holds e n) w s to
+    path =
+        let (held, into) = f .row i p in
+        let edge : holds e n s v ≡ true = rw into at (holds-at e n i held) in
+        rw further (hop edge (away-hops v d (f .counts)))
+
+    wider : (j k : ℕ) → Covered e v d head c m q tail j k → Covered e v d head c m′ q′ (tail + 1) j k
+    wider j k =
+        ⊎-elim
+        (λ a. inl (omega (arith, mark-kept (source e j) a)))
+        (⊎-elim
+        (λ a. inr (inl a))
+        (λ a.
+        let (pos, ge, waits) = a in
+        let there : getD q′ (waits .place) 0 ≡ target e j = stays (waits .place) (waits .below) ∙ waits .there in
+        inr (inr (pos, ge, record { place = waits .place; from = waits .from; below = omega arith; there = there }))))
+
+    new-marks : (x : ℕ) → getD m′ x 0 ≤ suc d
+    new-marks x = ⊎-elim (λ a. omega arith) (λ a. omega (arith, f .marks x)) (mark-cases x)
+
+    grown : Frontier e n to v d head c m′ q′ (tail + 1)
+    grown =
+        record {
+          ordered = omega (arith, f .ordered);
+          near = f .near;
+          queued = λ k l. ⊎-elim (λ a. omega arith) (λ a. omega (arith, f .queued k (a .0))) (queue-cases k l);
+          rising =
+              λ j k ge le l.
+              ⊎-elim
+              (λ a. omega (arith, new-marks (getD q′ j 0)))
+              (λ a. ⊎-elim (λ b. absurd (omega arith)) (λ b. omega (arith, f .rising j k ge le (a .0))) (queue-cases j (omega arith)))
+              (queue-cases k l);
+          farther = λ k ge l. ⊎-elim (λ a. omega arith) (λ a. omega (arith, f .farther k ge (a .0))) (queue-cases k l);
+          marks = new-marks;
+          leads = λ x h. ⊎-elim (λ a. rw (a .1, a .0) path) (λ a. rw a (f .leads x (omega arith))) (mark-cases x);
+          least =
+              λ x k h r.
+              ⊎-elim
+              (λ a.
+              let far : (suc k ≤ d → ⊥) = λ le. omega (arith, near-marked r le, ap (λ (y : ℕ). getD m y 0) (a .0)) in
+              omega arith)
+              (λ a. omega (arith, f .least x k (omega arith) r))
+              (mark-cases x);
+          counts = ⊎-elim (λ a. inl a) (λ a. inr (a .0, mark-kept v (omega arith) ∙ a .1)) (f .counts);
+          row = f .row;
+          closed =
+              λ j k l.
+              ⊎-elim
+              (λ a. wider j k (f .closed j k l (inl a)))
+              (λ a.
+              ⊎-elim
+              (λ b. inr (inr (a .0, omega arith, record { place = tail; from = f .ordered; below = omega arith; there = put ∙ sym (b .0) })))
+              (λ b. wider j k (f .closed j k l (inr (a .0, sym b ∙ a .1))))
+              (mark-cases (target e j)));
+        }
 
 -- row i is followed, and its source is marked now
 pub found :
-    {e : List ℕ} {n to v head c : ℕ} {m q : List ℕ} {tail : ℕ} → Frontier e n to v head c m q tail → (i d : ℕ) → c ≡ suc i
-    → d ≡ lastInto e (target e i) i → source e i < length m → tail < length q
-    → Frontier e n to v head d (set m (source e i) 1) (set q tail (source e i)) (tail + 1)
-found {e} {m = m} f i d p h lt room = seen (grown f i (source e i) p refl lt room) i d p h (mark-new m (source e i) lt)
+    {e : List ℕ} {n to v d head c : ℕ} {m q : List ℕ} {tail : ℕ} → Frontier e n to v d head c m q tail → (i c′ w : ℕ) → c ≡ suc i
+    → c′ ≡ lastInto e (target e i) i → w ≡ suc d → source e i < length m → tail < length q → getD m (source e i) 0 ≡ 0
+    → Frontier e n to v d head c′ (set m (source e i) w) (set q tail (source e i)) (tail + 1)
+found f i c′ w p h further lt room free =
+    seen (grown f i w p further lt room free) i c′ p h (omega (arith, mark-new f i w p further lt room free))
 
 -- where no row of v is left
-module _ {e : List ℕ} {n to v head : ℕ} {m q : List ℕ} {tail : ℕ} (f : Frontier e n to v head 0 m q tail) where
+module _ {e : List ℕ} {n to v d head : ℕ} {m q : List ℕ} {tail : ℕ} (f : Frontier e n to v d head 0 m q tail) where
+  -- what is one edge away or more has its distance for a mark
+  away-mark : (x k : ℕ) → 0 < k → Away to m x k → getD m x 0 ≡ k
+  away-mark x k pos (inl (p, none)) = absurd (omega arith)
+  away-mark x k pos (inr (p, mark)) = mark
+
   -- the next vertex of the queue is looked at, from its row c on
-  pub turn : (c : ℕ) → head < tail → c ≡ lastInto e (getD q head 0) n → Frontier e n to (getD q head 0) (head + 1) c m q tail
+  pub turn :
+      (c : ℕ) → head < tail → c ≡ lastInto e (getD q head 0) n
+      → Frontier e n to (getD q head 0) (getD m (getD q head 0) 0) (head + 1) c m q tail
   turn c lt h =
+      let nearest : d ≤ getD m (getD q head 0) 0 = f .farther head (omega arith) lt in
       record {
         ordered = omega arith;
+        near = omega (arith, f .marks (getD q head 0), f .near);
         queued = f .queued;
+        rising = λ j k ge. f .rising j k (omega arith);
+        farther = λ k ge l. f .rising head k (omega arith) (omega arith) l;
+        marks = λ x. omega (arith, f .marks x);
         leads = f .leads;
-        counts = inr (f .queued head lt);
+        least = f .least;
+        counts = inr (f .queued head lt, refl);
         row = λ i p. last-row e _ n i (sym h ∙ p);
         closed =
-            λ i l r.
+            λ i k l r.
             ⊎-elim
             (λ a. inl a)
             (⊎-elim
             (λ a. absurd (omega arith))
             (λ a.
+            let (pos, ge, waits) = a in
+            let mark : getD m (getD q (waits .place) 0) 0 ≡ k = rw (waits .there) (away-mark (target e i) k pos r) in
             ⊎-elim
             (λ b.
-            let here : target e i ≡ getD q head 0 = sym (a .there) ∙ ap (λ (k : ℕ). getD q k 0) (sym b) in
-            inr (inl (here, omega (arith, below-last e (getD q head 0) n i l here))))
-            (λ b. inr (inr (record { place = a .place; from = omega arith; below = a .below; there = a .there })))
-            (eq-or-lt-of-le (a .from))))
-            (f .closed i l r);
+            let into : target e i ≡ getD q head 0 = sym (waits .there) ∙ ap (λ (k : ℕ). getD q k 0) (sym b) in
+            inr
+            (inl (into, omega (arith, below-last e (getD q head 0) n i l into), sym mark ∙ ap (λ (j : ℕ). getD m (getD q j 0) 0) (sym b))))
+            (λ b.
+            let further : getD m (getD q head 0) 0 ≤ k = rw mark at (f .rising head (waits .place) (omega arith) (waits .from) (waits .below)) in
+            inr (inr (pos, further, record { place = waits .place; from = omega arith; below = waits .below; there = waits .there })))
+            (eq-or-lt-of-le (waits .from))))
+            (f .closed i k l r);
       }
 
-  source-marked : head ≡ tail → (x y : ℕ) → holds e n x y ≡ true → Sought to m y → IsMarked m x
-  source-marked done x y h r =
-      let (i, lt, from, into) = held-row e n x y h in
-      ⊎-elim
-      (λ a. subst (λ (k : ℕ). IsMarked m k) from a)
-      (⊎-elim (λ a. absurd (omega arith)) (λ a. absurd (omega arith)))
-      (f .closed i lt (subst (λ (k : ℕ). Sought to m k) (sym into) r))
-
   -- or the queue is at its end: each vertex is marked from which a path leads to the one to be reached
-  pub over : head ≡ tail → {a b : ℕ} → Leads (holds e n) a b → b ≡ to → IsMarked m a
-  over done (one {a = a} {b = b} h) p = source-marked done a b h (inl p)
-  over done (more {a = a} {b = b} h l) p = source-marked done a b h (inr (over done l p))
-
   pub answer-no : head ≡ tail → (a : ℕ) → getD m a 0 ≡ 0 → false ≡ reaches e n a to
-  answer-no done a h = reaches-is e n a to false (λ r. true-false r refl) (λ p. absurd (omega (arith, over done p refl)))
+  answer-no done a h =
+      reaches-is e n a to false
+      (λ r. true-false r refl)
+      (λ p. let (k, path) = leads-hops p in absurd (omega (arith, path-marked f (suc k) all path (omega arith))))
+    where
+      all : {b : ℕ} (i k : ℕ) → i < n → k < b → Away to m (target e i) k → IsMarked m (source e i)
+      all i k l lt r = ⊎-elim (λ a. a) (⊎-elim (λ a. absurd (omega arith)) (λ a. absurd (omega arith))) (f .closed i k l r)

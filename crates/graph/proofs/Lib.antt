@@ -1,5 +1,6 @@
 -- What the proofs share. Laws of the definitions:
 --     TestLaws     the connectives, and tests over the first n numbers
+--     LowestLaws   the lowest number of which a test holds
 --     PathLaws     paths, and the test that decides them
 --     RefusalLaws  chains of refusals, and the outcome that they decide
 --     TableLaws    what stands at a place of a table after an update
@@ -21,12 +22,13 @@
 --     ClearLaws    clearing words one by one
 --     SoundChecks  what each look at the tables tells of refusal 12
 --     EdgeLoops    what a loop over the held edges has done after each row
---     Chains       the edge rows chained by their targets
+--     RowLinks     the edge rows linked by their targets
 --     Frontier     the path search, turn by turn
 --     CallLaws     a call's outcome from its refusal
 --     Thin         the law of the thin entries, whose tally is lent too, and its parts
 --     Results      what the cores return, for that law
 pub mod TestLaws
+pub mod LowestLaws
 pub mod PathLaws
 pub mod RefusalLaws
 pub mod TableLaws
@@ -46,7 +48,7 @@ pub mod OpeningLaws
 pub mod ClearLaws
 pub mod SoundChecks
 pub mod EdgeLoops
-pub mod Chains
+pub mod RowLinks
 pub mod Frontier
 pub mod CallLaws
 pub mod Thin

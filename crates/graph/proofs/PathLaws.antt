@@ -12,6 +12,7 @@ use borrow.Author.Tests.{eq-eqb, eqb-true}
 use Rattle.graph.specs.Tests.{either, any}
 use Rattle.graph.specs.Tables.{source, target}
 use Rattle.graph.specs.Paths.{Leads, one, more, holds, reaches}
+use Rattle.graph.specs.Internal.Search.{Hops, here, hop}
 use Rattle.graph.proofs.TestLaws.{true-false, not-so, both-true, both-left, both-right, either-left, either-right, either-cases, any-found, any-at, same}
 
 pub join : {E : ℕ → ℕ → Bool} {a b c : ℕ} → Leads E a b → Leads E b c → Leads E a c
@@ -34,6 +35,19 @@ go-on e (inr p) = more e p
 pub arrive : {E : ℕ → ℕ → Bool} {a b c : ℕ} → Stays E a b → Leads E b c → Leads E a c
 arrive {E} {c = c} (inl q) p = subst (λ (x : ℕ). Leads E x c) (sym q) p
 arrive (inr q) p = join q p
+
+-- a path and the number of its edges
+pub leads-hops : {E : ℕ → ℕ → Bool} {a b : ℕ} → Leads E a b → (k : ℕ) × Hops E (suc k) a b
+leads-hops (one e) = (0, hop e here)
+leads-hops (more e p) = let (k, q) = leads-hops p in (suc k, hop e q)
+
+hop-leads : {E : ℕ → ℕ → Bool} {k a b c : ℕ} → E a b ≡ true → Hops E k b c → Leads E a c
+hop-leads e here = one e
+hop-leads e (hop f p) = more e (hop-leads f p)
+
+pub hops-leads : {E : ℕ → ℕ → Bool} {k a b : ℕ} → 0 < k → Hops E k a b → Leads E a b
+hops-leads lt here = absurd (omega arith)
+hops-leads lt (hop e p) = hop-leads e p
 
 -- F has the edges of E and the one from s to t besides
 pub cut :

@@ -64,7 +64,7 @@ ends : Tells no-more 0
 ends = none refl tt
 
 -- One number at most is due, and none where nothing is.
-due-once : (R : Reasons) (m n : ℕ) → RefusalDue m R → RefusalDue n R → m ≡ n
+pub due-once : (R : Reasons) (m n : ℕ) → RefusalDue m R → RefusalDue n R → m ≡ n
 due-once no-more m n p q = absurd p
 due-once (refused-where P k R) m n (inl p) (inl q) = p .1 ∙ sym (q .1)
 due-once (refused-where P k R) m n (inl p) (inr q) = absurd (q .0 (p .0))
@@ -72,7 +72,7 @@ due-once (refused-where P k R) m n (inr p) (inl q) = absurd (p .0 (q .0))
 due-once (refused-where P k R) m n (inr p) (inr q) = due-once R m n (p .1) (q .1)
 due-once (accepted-where P R) m n p q = due-once R m n (p .1) (q .1)
 
-due-none : (R : Reasons) (n : ℕ) → NoneDue R → RefusalDue n R → ⊥
+pub due-none : (R : Reasons) (n : ℕ) → NoneDue R → RefusalDue n R → ⊥
 due-none no-more n p q = q
 due-none (refused-where P k R) n p (inl q) = p .0 (q .0)
 due-none (refused-where P k R) n p (inr q) = due-none R n (p .1) (q .1)
@@ -89,7 +89,7 @@ eq-decides a b = (eqb-true a b, eq-eqb a b)
 ne-decides : (a b : ℕ) → (eqb a b ≡ false) ↔ (a ≡ b → ⊥)
 ne-decides a b = (eqb-false a b, ne-eqb a b)
 
-full-decides : (a b : ℕ) → (ltb a b ≡ false) ↔ (b ≤ a)
+pub full-decides : (a b : ℕ) → (ltb a b ≡ false) ↔ (b ≤ a)
 full-decides a b = (ltb-false a b, le-ltb a b)
 
 either-decides : {a b : Bool} {P Q : Type 0} → (a ≡ true) ↔ P → (b ≡ true) ↔ Q → (either a b ≡ true) ↔ (P ⊎ Q)
@@ -102,7 +102,7 @@ both-decides : {a b : Bool} {P Q : Type 0} → (a ≡ true) ↔ P → (b ≡ tru
 both-decides {a} {b} p q = (λ h. (p .0 (both-left a b h), q .0 (both-right a b h)), λ h. both-true (p .1 (h .0)) (q .1 (h .1)))
 
 -- not both: one of them fails
-both-fails : {a b : Bool} {P Q : Type 0} → (a ≡ false) ↔ P → (b ≡ false) ↔ Q → (both a b ≡ false) ↔ (P ⊎ Q)
+pub both-fails : {a b : Bool} {P Q : Type 0} → (a ≡ false) ↔ P → (b ≡ false) ↔ Q → (both a b ≡ false) ↔ (P ⊎ Q)
 unfolding both
 both-fails {a = true} p q = (λ h. inr (q .0 h), ⊎-elim (λ x. true-false refl (p .1 x)) (q .1))
 both-fails {a = false} p q = (λ h. inl (p .0 refl), λ x. refl)
@@ -125,10 +125,10 @@ every-fails {p} n d = (
   λ h. every-stop p n (h .0) (h .1) (d (h .0) .1 (h .2)),
 )
 
-over-decides : (a b : ℕ) → (leb a b ≡ false) ↔ (b < a)
+pub over-decides : (a b : ℕ) → (leb a b ≡ false) ↔ (b < a)
 over-decides a b = (leb-false a b, lt-leb a b)
 
-unsound-decides : (s : Lent) → (sound s ≡ false) ↔ Unsound s
+pub unsound-decides : (s : Lent) → (sound s ≡ false) ↔ Unsound s
 unfolding sound tallyFits statusKnown statusesKnown endsMade edgesMade
 unsound-decides s =
     both-fails (both-fails (over-decides _ _) (over-decides _ _))
@@ -166,7 +166,7 @@ module _ (s : Lent) where
   newEdge-decides : (t1 t2 : ℕ) → (either (eqb t1 t2) (reaches (s .edges) (s .held) t2 t1) ≡ true) ↔ NewEdgeCycle s t1 t2
   newEdge-decides t1 t2 = either-decides (eq-decides t1 t2) (reaches-decides (s .edges) (s .held) t2 t1)
 
-  transfer-decides : (t t' : ℕ) → (targetReaches (s .edges) (s .held) t t' ≡ true) ↔ TransferCycle s t t'
+  pub transfer-decides : (t t' : ℕ) → (targetReaches (s .edges) (s .held) t t' ≡ true) ↔ TransferCycle s t t'
   unfolding targetReaches
   transfer-decides t t' =
       any-decides (s .held) (λ i. both-decides (eq-decides _ t) (either-decides (eq-decides _ t') (reaches-decides (s .edges) (s .held) _ t')))
@@ -264,13 +264,13 @@ command-accepted c s = (λ h. there (refusal-tells c s) (not-refused c s h), λ 
     back (some z q) h = absurd (due-none (reasons c s) (refusal c s) h q)
 
 -- Q is the reason with the number n, and the only one.
-data Only (n : ℕ) (Q : Type 0) : Reasons → Type 1 where
+pub data Only (n : ℕ) (Q : Type 0) : Reasons → Type 1 where
   here : {R : Reasons} → (RefusalDue n R → ⊥) → Only n Q (refused-where Q n R)
   behind : {P : Type 0} {m : ℕ} {R : Reasons} → (n ≡ m → ⊥) → Only n Q R → Only n Q (refused-where P m R)
   past : {P : Type 0} {R : Reasons} → Only n Q R → Only n Q (accepted-where P R)
 
 -- So n is due exactly where Q holds and nothing before it does.
-due-only : {n : ℕ} {Q : Type 0} {R : Reasons} → Only n Q R → RefusalDue n R ↔ (NoneBefore n R × Q)
+pub due-only : {n : ℕ} {Q : Type 0} {R : Reasons} → Only n Q R → RefusalDue n R ↔ (NoneBefore n R × Q)
 due-only (here f) = (⊎-elim (λ h. (inl refl, h .0)) (λ h. absurd (f (h .1))), λ h. inl (h .1, refl))
 due-only (behind f o) =
     let d = due-only o in (

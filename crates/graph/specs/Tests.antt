@@ -1,6 +1,7 @@
 -- Tests, and what is tested of the first n numbers.
 use Prim.Native.Nat.{ℕ, zero, suc}
 use mathlib.Core.Bool.{Bool, true, false}
+use mathlib.Core.Option.{Option, none, some}
 
 unfoldable pub both : Bool → Bool → Bool
 both true b = b
@@ -19,3 +20,13 @@ every p (suc n) = both (p n) (every p n)
 unfoldable pub any : (ℕ → Bool) → ℕ → Bool
 any p zero = false
 any p (suc n) = either (p n) (any p n)
+
+-- the lowest number below n of which a test holds
+unfoldable pub orThis : Option ℕ → Bool → ℕ → Option ℕ
+orThis (some k) b n = some k
+orThis none true n = some n
+orThis none false n = none
+
+unfoldable pub lowestBelow : (ℕ → Bool) → ℕ → Option ℕ
+lowestBelow p zero = none
+lowestBelow p (suc n) = orThis (lowestBelow p n) (p n) n

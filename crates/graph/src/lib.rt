@@ -6,7 +6,7 @@
 pub mod commands;
 mod edges;
 pub mod entry;
-mod paths;
+pub mod paths;
 pub mod refusals;
 pub mod rows;
 pub mod sound;

@@ -1,7 +1,7 @@
-// Whether a path of held edges leads from one vertex to another. There is none where no edge leads out of the one or into the other;
-// else a breadth-first search backwards from the vertex to be reached decides. That is linear in the vertices and the held edges: the
-// edge rows into each vertex are chained in one pass, and each vertex is looked at once, or twice where it is the one to be reached.
-// It takes four words of stack for each usable row, 16 KiB.
+// Whether a path of held edges leads from one vertex to another, and how many edges it takes. There is none where no edge leads out of the
+// one or into the other; else a breadth-first search backwards from the vertex to be reached decides, which marks vertices with their
+// distances. That is linear in the vertices and the held edges: the edge rows into each vertex are linked in one pass, and each vertex is
+// looked at once, or twice where it is the one to be reached. It takes four words of stack for each usable row, 16 KiB.
 use crate::edges::leads;
 use crate::rows::EDGE_WORDS;
 use crate::rows::SOURCE;
@@ -12,13 +12,13 @@ ghost use Prim.Native.Nat.{_*_, _<_};
 ghost use lib.ListN.{length};
 ghost use Rattle.graph.specs.Tables.{usableLimit};
 ghost use Rattle.graph.specs.Paths.{reaches};
-ghost use Rattle.graph.specs.Internal.Search.{Rows, Searchable, Chained, blank, Chain, Room, Scanned};
+ghost use Rattle.graph.specs.Internal.Search.{Rows, Searchable, Linked, blank, RowsFrom, Room, Scanned, Measured};
 
-// Chains the held rows by their targets: `next` has a word for each of them. A row is counted from 1, so that 0 ends a chain.
-fn chain_rows(edges: &[u32], first: &mut [u32], next: &mut [u32])
+// Links the held rows by their targets: `next` has a word for each of them. A row is counted from 1, so that 0 ends a list.
+fn link_rows(edges: &[u32], first: &mut [u32], next: &mut [u32])
     requires { ⌜ Rows (now edges) (length (now next)) ⌝ }
     requires { ⌜ now first ≡ blank ⌝ }
-    ensures { λ _. ⌜ Chained (now (edges .entry)) (length (now (next .entry))) (now (first .exit)) (now (next .exit)) ⌝ }
+    ensures { λ _. ⌜ Linked (now (edges .entry)) (length (now (next .entry))) (now (first .exit)) (now (next .exit)) ⌝ }
 {
     for i in 0..next.len() {
         let target = edges[EDGE_WORDS * i + TARGET] as usize;
@@ -27,19 +27,21 @@ fn chain_rows(edges: &[u32], first: &mut [u32], next: &mut [u32])
     }
 }
 
-// Follows the chain that starts at `row`. Each source that is not marked yet is marked and put into the queue, whose new end is
-// the result.
+// Follows the list of rows that starts at `row`. Each source that is not marked yet is marked with `distance` and put into the queue,
+// whose new end is the result.
 fn scan(
     edges: &[u32],
     next: &[u32],
     row: u32,
-    marked: &mut [u32],
+    distance: u32,
+    distances: &mut [u32],
     queue: &mut [u32],
     tail: usize,
 ) -> usize
-    requires { ⌜ Chain (now edges) (now next) row ⌝ }
-    requires { ⌜ Room (now marked) (now queue) tail ⌝ }
-    ensures { λ r. ⌜ Scanned (now (edges .entry)) row (now (marked .entry)) (now (queue .entry)) tail 0 (now (marked .exit)) (now (queue .exit)) r ⌝ }
+    requires { ⌜ RowsFrom (now edges) (now next) row ⌝ }
+    requires { ⌜ 0 < distance ⌝ }
+    requires { ⌜ Room (now distances) (now queue) tail ⌝ }
+    ensures { λ r. ⌜ Scanned (now (edges .entry)) row distance (now (distances .entry)) (now (queue .entry)) tail 0 (now (distances .exit)) (now (queue .exit)) r ⌝ }
 {
     let mut left = row;
     let mut end = tail;
@@ -48,8 +50,8 @@ fn scan(
         let source = edges[EDGE_WORDS * i + SOURCE];
         let mark = source as usize;
         left = next[i];
-        if marked[mark] == 0 {
-            marked[mark] = 1;
+        if distances[mark] == 0 {
+            distances[mark] = distance;
             queue[end] = source;
             end += 1;
         }
@@ -64,50 +66,71 @@ fn search_back(
     next: &[u32],
     from: u32,
     to: u32,
-    marked: &mut [u32],
+    distances: &mut [u32],
     queue: &mut [u32],
 ) -> bool
     requires { ⌜ Rows (now edges) (length (now next)) ⌝ }
-    requires { ⌜ Chained (now edges) (length (now next)) (now first) (now next) ⌝ }
+    requires { ⌜ Linked (now edges) (length (now next)) (now first) (now next) ⌝ }
     requires { ⌜ (from < usableLimit) × (to < usableLimit) ⌝ }
-    requires { ⌜ (now marked ≡ blank) × (length (now queue) ≡ usableLimit) ⌝ }
-    ensures { λ r. ⌜ r ≡ reaches (now (edges .entry)) (length (now (next .entry))) from to ⌝ }
+    requires { ⌜ (now distances ≡ blank) × (length (now queue) ≡ usableLimit) ⌝ }
+    ensures { λ r. ⌜ (r ≡ reaches (now (edges .entry)) (length (now (next .entry))) from to) × Measured (now (edges .entry)) (length (now (next .entry))) from to r (now (distances .exit)) ⌝ }
 {
     let mut vertex = to as usize;
+    let mut distance = 0;
     let mut head = 0;
     let mut tail = 0;
     loop {
-        tail = scan(edges, next, first[vertex], marked, queue, tail);
-        if marked[from as usize] != 0 {
+        tail = scan(
+            edges,
+            next,
+            first[vertex],
+            distance + 1,
+            distances,
+            queue,
+            tail,
+        );
+        if distances[from as usize] != 0 {
             return true;
         }
         if head == tail {
             return false;
         }
         vertex = queue[head] as usize;
+        distance = distances[vertex];
         head += 1;
     }
 }
 
-// The same by the search alone: lends it its four arrays, of which `next` is cut to the held rows.
-fn search(edges: &[u32], held: usize, from: u32, to: u32) -> bool
+// A path of one or more of the first `held` edges leads from `from` to `to`. `distances` has a word for each usable row; where there is
+// such a path, each vertex that is nearer to `to` than `from` is, and `from` itself, gets its distance there, the number of edges of its
+// shortest path. Other words stay 0, or are distances too.
+pub fn measure(edges: &[u32], held: usize, from: u32, to: u32, distances: &mut [u32]) -> bool
     requires { ⌜ Searchable (now edges) held from to ⌝ }
-    ensures { λ r. ⌜ r ≡ reaches (now (edges .entry)) held from to ⌝ }
+    requires { ⌜ now distances ≡ blank ⌝ }
+    ensures { λ r. ⌜ (r ≡ reaches (now (edges .entry)) held from to) × Measured (now (edges .entry)) held from to r (now (distances .exit)) ⌝ }
 {
     let mut first = [0; USABLE_LIMIT];
     let mut next = [0; USABLE_LIMIT];
-    let mut marked = [0; USABLE_LIMIT];
     let mut queue = [0; USABLE_LIMIT];
-    chain_rows(edges, &mut first, &mut next[..held]);
+    link_rows(edges, &mut first, &mut next[..held]);
     search_back(
         edges,
         &first,
         &next[..held],
         from,
         to,
-        &mut marked,
+        distances,
         &mut queue,
     )
+}
+
+// The same, where only whether there is such a path matters.
+fn search(edges: &[u32], held: usize, from: u32, to: u32) -> bool
+    requires { ⌜ Searchable (now edges) held from to ⌝ }
+    ensures { λ r. ⌜ r ≡ reaches (now (edges .entry)) held from to ⌝ }
+{
+    let mut distances = [0; USABLE_LIMIT];
+    measure(edges, held, from, to, &mut distances)
 }
 
 // A path of one or more of the first `held` edges leads from `from` to `to`.

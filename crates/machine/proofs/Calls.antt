@@ -9,6 +9,7 @@ use native.Mathlib.Omega.{arith}
 use lib.ListN.{length}
 use Rattle.graph.specs.Tables.{Lent}
 use Rattle.graph.proofs.TestLaws.{true-false}
+use Rattle.graph.proofs.LowestLaws.{Finds}
 use Rattle.refusal.specs.Refusals.{unsound-tables}
 use Rattle.machine.specs.Answers.{StepSaid, accepted}
 use Rattle.machine.specs.Stepping.{steppable, step}
@@ -16,7 +17,7 @@ use Rattle.machine.specs.Running.{canStep, lowest, allFinished, Ending, 
 use Rattle.machine.specs.Demand2.{Looks, OnlySuchSteps, run-refused, run-steps}
 use Rattle.machine.specs.Reached.{Reached, stepped, Call, a-step, a-run, goOn, runAnswers, lastOr, AllAccepted, StandsAs, callAnswers}
 use Rattle.machine.specs.Reached.{callLeaves, answersOf, leavesOf}
-use Rattle.machine.proofs.RunDemand2.{Finds, lowest-finds, run-ran}
+use Rattle.machine.proofs.RunDemand2.{lowest-finds, run-ran}
 
 module _ (bytes : List ℕ) (s₀ : Lent) where
   -- nothing more was answered

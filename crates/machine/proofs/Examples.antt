@@ -1,7 +1,7 @@
 -- The examples of the table hold: each is evaluated, by unfolding the definitions of the calls.
 use mathlib.Core.Path.{refl}
 use Rattle.graph.specs.Tables.{clear}
-use Rattle.graph.specs.Tests.{both, either, every, any}
+use Rattle.graph.specs.Tests.{both, either, every, any, lowestBelow, orThis}
 use Rattle.graph.specs.Sound.{sound, tallyFits, statusKnown, statusesKnown, endsMade, edgesMade}
 use Rattle.graph.specs.Paths.{holds, leadsInto, leadsOutOf, reaches}
 use Rattle.graph.specs.Answers as a
@@ -14,7 +14,7 @@ use Rattle.program.specs.Located as l
 use Rattle.machine.specs.Loading.{load, loadRead, loadedTables}
 use Rattle.machine.specs.Stepping.{steppable, named, spots, task, nth, ownOf, withMade, withKept, withPhase, movedOn, dueIf}
 use Rattle.machine.specs.Stepping.{filledIn, nextOf, nextAt, due, stored, step}
-use Rattle.machine.specs.Running.{run, runOn, look, lowest, lowestBelow, orThis, allFinished}
+use Rattle.machine.specs.Running.{run, runOn, look, lowest, allFinished}
 use Rattle.machine.specs.Examples.{anything, saidBy, leftBy, saidBare, runs, takesSteps, commands, table, Each, none, _&_}
 
 -- Every example of the table holds.

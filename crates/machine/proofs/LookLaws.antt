@@ -19,14 +19,14 @@ use mathlib.Core.Logic.{_⊎_, ⊎-elim}
 use mathlib.Core.List.{List}
 use mathlib.Core.Option.{Option, none, some, Option·none-ne-some}
 use native.Mathlib.Omega.{arith}
-use lib.Dec.{ltb}
-use borrow.Author.Tests.{ltb-true, ltb-false}
+use borrow.Author.Tests.{ltb-true}
 use Rattle.graph.specs.Tables.{Lent, NEW, RELEASED, EXECUTING, FINISHED, vertexWords, statusWord, status}
 use Rattle.graph.specs.Sound.{sound}
 use Rattle.graph.specs.Paths.{holds, leadsInto}
 use Rattle.graph.specs.Commands.{command}
 use Rattle.graph.specs.Answers.{Outcome}
 use Rattle.graph.proofs.TestLaws.{true-false, decide, not-so, equal?, both-right}
+use Rattle.graph.proofs.LowestLaws.{found-is, none-is}
 use Rattle.graph.proofs.SoundLaws.{Known, sound-fits, fits-sound}
 use Rattle.graph.proofs.Demand2.{stays-sound}
 use Rattle.refusal.specs.Refusals.{unsound-tables}
@@ -38,7 +38,7 @@ use Rattle.machine.proofs.TablesFollow.OwnLaws.{status-not-own}
 use Rattle.machine.proofs.TablesFollow.AnswerLaws.{if-passed}
 use Rattle.machine.proofs.TablesFollow.StepLaws.{step-is, due-new, due-over}
 use Rattle.machine.proofs.StepDemand2.{step-does, blocked-step}
-use Rattle.machine.proofs.RunDemand2.{Finds, lowest-finds, can-made, finished-all}
+use Rattle.machine.proofs.RunDemand2.{finished-all}
 
 -- what a step adds leaves sound tables sound
 adds-sound : (v : ℕ) (w : Own) (left after : Lent) → Adds v w left after → sound left ≡ true → sound after ≡ true
@@ -120,27 +120,15 @@ idle-cannot bytes s v known made idle waits =
 
 -- A look finds none where none can step,
 pub lowest-none : (bytes : List ℕ) (s : Lent) → ((u : ℕ) → u < s .made → canStep bytes s u ≡ false) → lowest bytes s ≡ none
-lowest-none bytes s h = go (lowest bytes s) (lowest-finds bytes s)
-  where
-    go : (x : Option ℕ) → Finds (canStep bytes s) (s .made) x → x ≡ none
-    go none f = refl
-    go (some v) f = true-false (f .0) (h v (can-made bytes s v (f .0)))
+unfolding lowest
+lowest-none bytes s = none-is (canStep bytes s) (s .made)
 
 -- and the vertex that can step, below which none can.
 pub lowest-is :
     (bytes : List ℕ) (s : Lent) (v : ℕ) → v < s .made → canStep bytes s v ≡ true → ((u : ℕ) → u < v → canStep bytes s u ≡ false)
     → lowest bytes s ≡ some v
-lowest-is bytes s v made can lower = go (lowest bytes s) (lowest-finds bytes s)
-  where
-    go : (x : Option ℕ) → Finds (canStep bytes s) (s .made) x → x ≡ some v
-    go none f = true-false can (f v made)
-    go (some u) f =
-        ⊎-elim (λ e. ap (λ (k : ℕ). some k) e)
-        (λ ne.
-        ⊎-elim (λ lt. true-false (f .0) (lower u (ltb-true u v lt)))
-        (λ ge. true-false can (f .1 v (let le : v ≤ u = ltb-false u v ge in omega arith)))
-        (decide (ltb u v)))
-        (equal? u v)
+unfolding lowest
+lowest-is bytes s = found-is (canStep bytes s) (s .made)
 
 -- It finds none once the steps are used up,
 pub late-none : (bytes : List ℕ) (s : Lent) → stepLimit ≤ s .steps → lowest bytes s ≡ none

@@ -3,39 +3,21 @@
 use Prim.Native.Nat.{ℕ, zero, suc, _+_, _<_, _≤_}
 use mathlib.Core.Path.{_≡_, refl, sym, _∙_, ap, subst}
 use mathlib.Core.Bool.{Bool, true, false, cond}
-use mathlib.Core.Logic.{⊎-elim}
 use mathlib.Core.List.{List}
 use mathlib.Core.Option.{Option, none, some}
 use native.Mathlib.Omega.{arith}
 use borrow.Author.Tests.{ltb-true, eq-eqb, eqb-true}
 use Rattle.graph.specs.Tables.{Lent, FINISHED, status}
 use Rattle.graph.specs.Commands.{isMade, hasStatus}
-use Rattle.graph.proofs.TestLaws.{true-false, not-so, every-at, every-all, below-suc}
+use Rattle.graph.proofs.TestLaws.{true-false, not-so, every-at, every-all}
+use Rattle.graph.proofs.LowestLaws.{Finds, below-finds}
 use Rattle.refusal.specs.Refusals.{unsound-tables}
 use Rattle.machine.specs.Answers.{StepSaid}
 use Rattle.machine.specs.Stepping.{steppable, due, step}
-use Rattle.machine.specs.Running.{canStep, orThis, lowestBelow, lowest, allFinished, Ending, refused, RunOutcome, ended, look, runOn, run}
+use Rattle.machine.specs.Running.{canStep, lowest, allFinished, Ending, refused, RunOutcome, ended, look, runOn, run}
 use Rattle.machine.specs.Demand2.{Steps, no-step, one-more, AllFinished, Looks, OnlySuchSteps, run-refused, run-steps}
 use Rattle.machine.proofs.StepDemand2.{step-counts}
 use Rattle.machine.proofs.TablesFollow.AnswerLaws.{if-passed}
-
--- What a search below n comes to: no number, or the lowest of which the test holds.
-abbrev pub Finds : (ℕ → Bool) → ℕ → Option ℕ → Type 0
-Finds p n none = (u : ℕ) → u < n → p u ≡ false
-Finds p n (some v) = (p v ≡ true) × ((u : ℕ) → u < v → p u ≡ false)
-
--- one number more
-or-finds : (p : ℕ → Bool) (n : ℕ) (x : Option ℕ) (b : Bool) → p n ≡ b → Finds p n x → Finds p (suc n) (orThis x b n)
-unfolding orThis
-or-finds p n (some v) b q f = f
-or-finds p n none true q f = (q, f)
-or-finds p n none false q f = λ u lt. ⊎-elim (λ e. ap p e ∙ q) (λ l. f u l) (below-suc lt)
-
--- so the search finds it
-below-finds : (p : ℕ → Bool) (n : ℕ) → Finds p n (lowestBelow p n)
-unfolding lowestBelow
-below-finds p zero = λ u lt. absurd (omega arith)
-below-finds p (suc n) = or-finds p n (lowestBelow p n) (p n) refl (below-finds p n)
 
 pub lowest-finds : (bytes : List ℕ) (s : Lent) → Finds (canStep bytes s) (s .made) (lowest bytes s)
 unfolding lowest

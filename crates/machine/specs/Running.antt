@@ -3,7 +3,7 @@ use Prim.Native.Nat.{ℕ, zero, suc}
 use mathlib.Core.Bool.{Bool, true, false, cond}
 use mathlib.Core.List.{List}
 use mathlib.Core.Option.{Option, none, some}
-use Rattle.graph.specs.Tests.{every}
+use Rattle.graph.specs.Tests.{every, lowestBelow}
 use Rattle.graph.specs.Tables.{Lent, FINISHED}
 use Rattle.graph.specs.Commands.{hasStatus}
 use Rattle.refusal.specs.Refusals.{unsound-tables}
@@ -13,16 +13,6 @@ use Rattle.machine.specs.Stepping.{steppable, step}
 -- "A vertex can step if a step naming it there would be accepted."
 abbrev pub canStep : List ℕ → Lent → ℕ → Bool
 canStep bytes s v = accepted (step bytes s v .answer)
-
--- the lowest number below n of which a test holds
-unfoldable pub orThis : Option ℕ → Bool → ℕ → Option ℕ
-orThis (some k) b n = some k
-orThis none true n = some n
-orThis none false n = none
-
-unfoldable pub lowestBelow : (ℕ → Bool) → ℕ → Option ℕ
-lowestBelow p zero = none
-lowestBelow p (suc n) = orThis (lowestBelow p n) (p n) n
 
 unfoldable pub lowest : List ℕ → Lent → Option ℕ
 lowest bytes s = lowestBelow (canStep bytes s) (s .made)

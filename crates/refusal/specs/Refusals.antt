@@ -112,6 +112,15 @@ transfer-not-new = 37
 abbrev pub transfer-has-edge-out : ℕ
 transfer-has-edge-out = 38
 
+-- WHOEVER ASKS FOR A CHAIN (document 02, note 2)
+-- "41 no chain"
+abbrev pub no-chain : ℕ
+no-chain = 41
+
+-- "42 list too short"
+abbrev pub list-too-short : ℕ
+list-too-short = 42
+
 -- A host that asks for a command by number; document 01 has no such call.
 -- no command has this number
 abbrev pub no-such-command : ℕ

@@ -63,5 +63,10 @@ pub const TRANSFER_NOT_NEW: u32 = 37;
 
 pub const TRANSFER_HAS_EDGE_OUT: u32 = 38;
 
+// Whoever asks for a chain.
+pub const NO_CHAIN: u32 = 41;
+
+pub const LIST_TOO_SHORT: u32 = 42;
+
 // A host that asks for a command by number; document 01 has no such call.
 pub const NO_SUCH_COMMAND: u32 = 99;

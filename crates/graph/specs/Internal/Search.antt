@@ -2,18 +2,19 @@
 -- it: `reaches` of src/paths.rt is held to `reaches` of Paths.
 --
 -- The search goes backwards from the vertex to be reached, breadth first. A vertex is marked once a path of one or more edges is
--- known to lead from it to that vertex, and is put into the queue at the same time. The vertices of the queue are looked at in turn:
--- the rows that lead into one are followed, from the last to the first.
+-- known to lead from it to that vertex, and is put into the queue at the same time. Its mark is its distance, the number of edges of the
+-- shortest such path. The vertices of the queue are looked at in turn: the rows that lead into one are followed, from the last to the
+-- first.
 use Prim.Native.Nat.{ℕ, zero, suc, _+_, _*_, _≤_, _<_}
 use mathlib.Core.Path.{_≡_}
-use mathlib.Core.Bool.{true, cond}
+use mathlib.Core.Bool.{Bool, true, cond}
 use mathlib.Core.Logic.{_⊎_}
 use mathlib.Core.List.{List, [], _∷_}
 use lib.ListN.{length, getD, replicate}
 use lib.Dec.{eqb}
 use Rattle.graph.specs.Tables.{edgeWords, usableLimit, source, target}
 use Rattle.graph.specs.Sound.{edgesMade}
-use Rattle.graph.specs.Paths.{Leads, holds}
+use Rattle.graph.specs.Paths.{holds}
 
 -- the first n rows can be read, and their ends are usable vertices
 pub record Rows (e : List ℕ) (n : ℕ) : Type 0 where
@@ -32,15 +33,15 @@ unfoldable pub lastInto : List ℕ → ℕ → ℕ → ℕ
 lastInto e v zero = zero
 lastInto e v (suc n) = cond (eqb (target e n) v) (suc n) (lastInto e v n)
 
--- The first n rows are chained by their targets: `first` has the last row into each vertex, and `next` has for each row the one
+-- The first n rows are linked by their targets: `first` has the last row into each vertex, and `next` has for each row the one
 -- before it that leads into the same vertex.
-abbrev pub Linked : List ℕ → ℕ → List ℕ → Type 0
-Linked e n next = (i : ℕ) → i < n → getD next i 0 ≡ lastInto e (target e i) i
+abbrev pub Links : List ℕ → ℕ → List ℕ → Type 0
+Links e n next = (i : ℕ) → i < n → getD next i 0 ≡ lastInto e (target e i) i
 
-pub record Chained (e : List ℕ) (n : ℕ) (first next : List ℕ) : Type 0 where
+pub record Linked (e : List ℕ) (n : ℕ) (first next : List ℕ) : Type 0 where
   pub long : length first ≡ usableLimit
   pub starts : (v : ℕ) → v < usableLimit → getD first v 0 ≡ lastInto e v n
-  pub links : Linked e n next
+  pub links : Links e n next
 
 -- an array of which nothing is written
 abbrev pub blank : List ℕ
@@ -67,32 +68,54 @@ pub record Waits (q : List ℕ) (head tail x : ℕ) : Type 0 where
   pub below : place < tail
   pub there : getD q place 0 ≡ x
 
--- x is the vertex to be reached, or is marked: its rows have to be looked at
-abbrev pub Sought : ℕ → List ℕ → ℕ → Type 0
-Sought to m x = (x ≡ to) ⊎ IsMarked m x
+-- a path of exactly k edges of E
+pub data Hops (E : ℕ → ℕ → Bool) : ℕ → ℕ → ℕ → Type 0 where
+  here : {a : ℕ} → Hops E 0 a a
+  hop : {k a b c : ℕ} → E a b ≡ true → Hops E k b c → Hops E (suc k) a c
 
--- row i has a marked source, or it is one of those of v that are left, or its target still waits
-abbrev pub Covered : List ℕ → ℕ → ℕ → ℕ → List ℕ → List ℕ → ℕ → ℕ → Type 0
-Covered e v head c m q tail i =
-    IsMarked m (source e i) ⊎ (((target e i ≡ v) × (i < c)) ⊎ Waits q head tail (target e i))
+-- x is k edges away: it is the vertex to be reached and k is 0, or it is marked with k. (The vertex to be reached may be both.)
+abbrev pub Away : ℕ → List ℕ → ℕ → ℕ → Type 0
+Away to m x k = ((x ≡ to) × (k ≡ 0)) ⊎ ((0 < k) × (getD m x 0 ≡ k))
 
--- The search over the first n rows of e, with the marks m and the queue q, while it looks at v. Of the rows into v the one with the
--- number c, counted from 1, is the next to be followed; those after it were.
-pub record Frontier (e : List ℕ) (n to v head c : ℕ) (m q : List ℕ) (tail : ℕ) : Type 0 where
+-- row i, whose target is k edges away, has a marked source, or it is one of those of v, which is d edges away, that are left, or its
+-- target still waits
+abbrev pub Covered : List ℕ → ℕ → ℕ → ℕ → ℕ → List ℕ → List ℕ → ℕ → ℕ → ℕ → Type 0
+Covered e v d head c m q tail i k =
+    IsMarked m (source e i) ⊎ (((target e i ≡ v) × (i < c) × (k ≡ d)) ⊎ ((0 < k) × (d ≤ k) × Waits q head tail (target e i)))
+
+-- The search over the first n rows of e, with the marks m and the queue q, while it looks at v, which is d edges away. Of the rows into
+-- v the one with the number c, counted from 1, is the next to be followed; those after it were.
+pub record Frontier (e : List ℕ) (n to v d head c : ℕ) (m q : List ℕ) (tail : ℕ) : Type 0 where
   pub ordered : head ≤ tail
+  pub near : d ≤ head
   pub queued : (k : ℕ) → k < tail → IsMarked m (getD q k 0)
-  pub leads : (x : ℕ) → IsMarked m x → Leads (holds e n) x to
-  pub counts : Sought to m v
+  pub rising : (j k : ℕ) → head ≤ j → j ≤ k → k < tail → getD m (getD q j 0) 0 ≤ getD m (getD q k 0) 0
+  pub farther : (k : ℕ) → head ≤ k → k < tail → d ≤ getD m (getD q k 0) 0
+  pub marks : (x : ℕ) → getD m x 0 ≤ suc d
+  pub leads : (x : ℕ) → IsMarked m x → Hops (holds e n) (getD m x 0) x to
+  pub least : (x k : ℕ) → IsMarked m x → Hops (holds e n) (suc k) x to → getD m x 0 ≤ suc k
+  pub counts : Away to m v d
   pub row : (i : ℕ) → c ≡ suc i → (i < n) × (target e i ≡ v)
-  pub closed : (i : ℕ) → i < n → Sought to m (target e i) → Covered e v head c m q tail i
+  pub closed : (i k : ℕ) → i < n → Away to m (target e i) k → Covered e v d head c m q tail i k
 
--- what is lent to look at a vertex: its chain, from row c on
-pub record Chain (e next : List ℕ) (c : ℕ) : Type 0 where
+-- what is lent to look at a vertex: its rows, linked, from row c on
+pub record RowsFrom (e next : List ℕ) (c : ℕ) : Type 0 where
   pub rows : Rows e c
   pub long : c ≤ length next
-  pub links : Linked e c next
+  pub links : Links e c next
 
--- what looking at a vertex leaves when its chain was followed from row c to row d, whatever the search is for
-pub record Scanned (e : List ℕ) (c : ℕ) (m q : List ℕ) (tail d : ℕ) (m′ q′ : List ℕ) (tail′ : ℕ) : Type 0 where
+-- what looking at a vertex leaves when its rows were followed from row c to row c′ and their sources got the mark `distance`, whatever
+-- the search is for
+pub record Scanned (e : List ℕ) (c distance : ℕ) (m q : List ℕ) (tail c′ : ℕ) (m′ q′ : List ℕ) (tail′ : ℕ) : Type 0 where
   pub room : Room m′ q′ tail′
-  pub frontier : (n to v head : ℕ) → Frontier e n to v head c m q tail → Frontier e n to v head d m′ q′ tail′
+  pub frontier :
+      (n to v d head : ℕ) → distance ≡ suc d → Frontier e n to v d head c m q tail → Frontier e n to v d head c′ m′ q′ tail′
+
+-- What a search over the first n rows of e leaves: a mark is the distance of its vertex, and where the search gets to `from`, each vertex
+-- that is less far away has its mark.
+pub record Measured (e : List ℕ) (n from to : ℕ) (found : Bool) (m : List ℕ) : Type 0 where
+  pub long : length m ≡ usableLimit
+  pub leads : (x : ℕ) → IsMarked m x → Hops (holds e n) (getD m x 0) x to
+  pub least : (x k : ℕ) → IsMarked m x → Hops (holds e n) (suc k) x to → getD m x 0 ≤ suc k
+  pub marked : found ≡ true → IsMarked m from
+  pub nearer : found ≡ true → (x k : ℕ) → Hops (holds e n) (suc k) x to → suc k < getD m from 0 → IsMarked m x

@@ -2,7 +2,7 @@
 use Prim.Native.Nat.{_≤_, _<_, _-_}
 use native.Mathlib.Omega.{arith}
 use Rattle.graph.specs.Tables.{usableLimit, target}
-use Rattle.graph.proofs.Chains.{blank-long, ends-made}
+use Rattle.graph.proofs.RowLinks.{blank-long, ends-made}
 use Rattle.graph.proofs.TestLaws.{at-end}
 use Rattle.engine.specs.Internal.Underway.{Blocked}
 use Rattle.engine.proofs.LowestLaws.{blocked-none, blocked-more}

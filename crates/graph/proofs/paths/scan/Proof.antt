@@ -4,23 +4,23 @@ use native.Mathlib.Omega.{arith}
 use lib.ListN.{getD}
 use Rattle.graph.specs.Tables.{usableLimit, source}
 use Rattle.graph.specs.Internal.Search.{Scanned}
-use Rattle.graph.proofs.Chains.{chain-row}
+use Rattle.graph.proofs.RowLinks.{linked-row}
 use Rattle.graph.proofs.Frontier.{room-left, room-taken, seen, found}
 use Rattle.graph.proofs.paths.scan.Statement.{statement}
 use Rattle.graph.proofs.paths.scan.Tie as tie
 
 abbrev Inv-loop : tie.InvT-loop
-Inv-loop edges next row marked₀ queue₀ tail left₀ end₀ marked queue left end =
-    (left ≤ row) × Scanned edges row marked₀ queue₀ tail left marked queue end
+Inv-loop edges next row distance distances₀ queue₀ tail left₀ end₀ distances queue left end =
+    (left ≤ row) × Scanned edges row distance distances₀ queue₀ tail left distances queue end
 
 abbrev μ-loop : tie.MeasureT-loop
-μ-loop edges next row marked₀ queue₀ tail left₀ end₀ marked queue left end = left
+μ-loop edges next row distance distances₀ queue₀ tail left₀ end₀ distances queue left end = left
 
 row-good :
     (c : tie.In-loop Inv-loop μ-loop)
     → (source (c .before .before .args .edges .now) (c .before .loop .left - 1) < usableLimit)
     × (getD (c .before .before .args .next .now) (c .before .loop .left - 1) 0 ≤ c .before .loop .left - 1)
-row-good c = chain-row _ _ (c .before .before .args .row) _ (c .before .before .pre .0) (omega arith)
+row-good c = linked-row _ _ (c .before .before .args .row) _ (c .before .before .pre .0) (omega arith)
 
 slice-write-queue : tie.Need-slice-write-queue Inv-loop μ-loop
 slice-write-queue c =
@@ -33,10 +33,10 @@ loop-again c =
     let links = c .before .before .before .before .before .before .pre .0 .links in (
       omega arith,
       record {
-        room = room-taken (so-far .room) _ (omega arith) (c .if1 .taken);
+        room = room-taken (so-far .room) _ _ (omega arith) (omega arith) (c .if1 .taken);
         frontier =
-            λ n to v head f.
-            found (so-far .frontier n to v head f) _ _ (omega arith) (links _ (omega arith)) (omega arith) (slice-write-queue c);
+            λ n to v d head p f.
+            found (so-far .frontier n to v d head p f) _ _ _ (omega arith) (links _ (omega arith)) p (omega arith) (slice-write-queue c) (c .if1 .taken);
       },
     )
 
@@ -48,7 +48,7 @@ loop-again-2 c =
       omega arith,
       record {
         room = so-far .room;
-        frontier = λ n to v head f. seen (so-far .frontier n to v head f) _ _ (omega arith) (links _ (omega arith)) (omega arith);
+        frontier = λ n to v d head p f. seen (so-far .frontier n to v d head p f) _ _ (omega arith) (links _ (omega arith)) (omega arith);
       },
     )
 
@@ -58,7 +58,7 @@ scan-spec =
     (tie.spec
     Inv-loop
     μ-loop
-    (λ c. (omega arith, record { room = c .pre .1; frontier = λ n to v head f. f }))
+    (λ c. (omega arith, record { room = c .pre .1 .1; frontier = λ n to v d head p f. f }))
     (λ c. omega arith)
     (λ c. omega arith)
     (λ c. omega arith)

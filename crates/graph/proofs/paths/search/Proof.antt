@@ -1,81 +1,13 @@
--- `search` meets its contract. What is left here is that `next` is lent twice, cut to the held rows: the part that is read is the part
--- that was written.
-use Prim.Native.Nat.{ℕ, _≤_}
-use mathlib.Core.Path.{_≡_, refl, sym, _∙_, ap}
-use mathlib.Core.List.{List, _++_}
-use native.Mathlib.Omega.{arith}
-use lib.ListN.{length, take, drop, length-append}
-use lib.Seq.{length-take-le, take-at}
+-- `search` meets its contract: it lends `measure` an array for the distances.
+use mathlib.Core.Path.{refl}
 use borrow.Author.Needs.{needs}
-use Rattle.graph.specs.Internal.Search.{blank, Rows, Chained}
-use Rattle.graph.proofs.Chains.{blank-long}
 use Rattle.graph.proofs.paths.search.Statement.{statement}
 use Rattle.graph.proofs.paths.search.Tie as tie
-
-module _ (c : tie.Start) where
-  rows : Rows (c .args .edges .now) (c .args .held)
-  rows = c .pre .rows
-
-  -- the part that is lent to be written
-  lent-long : length (take (c .args .held) blank) ≡ c .args .held
-  lent-long = length-take-le (c .args .held) blank (omega (arith, blank-long refl))
-
-module _ (c : tie.After-chain-rows) where
-  abbrev entry : tie.Start
-  entry = c .before .before .before .before
-
-  abbrev held : ℕ
-  held = entry .args .held
-
-  abbrev written : List ℕ
-  written = c .chain-rows .last .1 .1 .0
-
-  -- the whole of `next` afterwards
-  abbrev whole : List ℕ
-  whole = written ++ drop held blank
-
-  written-long : length written ≡ held
-  written-long = c .chain-rows .kept .1 .1 .0 ∙ lent-long entry
-
-  part : take held whole ≡ written
-  part = take-at written (drop held blank) held written-long
-
-  part-fits : held ≤ length whole
-  part-fits = omega (arith, length-append written (drop held blank), written-long)
-
-  part-long : length (take held whole) ≡ held
-  part-long = ap length part ∙ written-long
-
-  part-rows : Rows (entry .args .edges .now) (length (take held whole))
-  part-rows = rw part-long (rows entry)
-
-  part-chained : Chained (entry .args .edges .now) (length (take held whole)) (c .chain-rows .last .1 .0) (take held whole)
-  part-chained = rw part (rw (← c .chain-rows .kept .1 .1 .0) at (c .chain-rows .ensures))
 
 pub search-spec : {M : Type 1} → statement M
 search-spec =
     tie.close
     (tie.spec
     (λ c. search needs)
-    (λ c. search needs)
-    (λ c. sym (lent-long (c .before .before .before)))
-    (λ c κs. (rw (lent-long (c .before .before .before)) (rows (c .before .before .before)), refl))
-    (λ c. search needs)
-    (λ c. part-fits (c .before .before .before))
-    (λ c. sym (part-long (c .before .before .before .before)))
-    (λ c. search needs)
-    (λ c. search needs)
-    (λ c κs. (
-      part-rows (c .before .before .before .before .before .before),
-      (
-        part-chained (c .before .before .before .before .before .before),
-        (
-          (
-            c .before .before .before .before .before .before .before .before .before .before .pre .from-usable,
-            c .before .before .before .before .before .before .before .before .before .before .pre .to-usable,
-          ),
-          (refl, blank-long refl),
-        ),
-      ),
-    ))
-    (λ c. rw (part-long (c .before .before .before .before .before .before .before .before .before)) at (c .before .before .search-back .ensures)))
+    (λ c κs. (c .before .before .pre, refl))
+    (λ c. c .before .measure .ensures .0))

@@ -1,5 +1,5 @@
--- The chains of rows with one target. `last e v n` is all that has to be known of them: it is a row into v, and every row into v below
--- n is below it or is it. So a search that goes on from row i at `last e v i` leaves none out.
+-- The rows with one target, linked. `lastInto e v n` is all that has to be known of them: it is a row into v, and every row into v below
+-- n is below it or is it. So a search that goes on from row i at `lastInto e v i` leaves none out.
 use Prim.Native.Nat.{ℕ, zero, suc, _+_, _≤_, _<_}
 use mathlib.Core.Path.{_≡_, refl, sym, _∙_, ap, subst}
 use mathlib.Core.Bool.{Bool, cond}
@@ -12,7 +12,7 @@ use lib.Seq.{getD-set-same, getD-set-other}
 use borrow.Author.Tests.{eq-eqb, ne-eqb, ltb-true}
 use Rattle.graph.specs.Tables.{usableLimit, source, target}
 use Rattle.graph.specs.Sound.{endsMade, edgesMade}
-use Rattle.graph.specs.Internal.Search.{Rows, lastInto, Chained, Chain, blank}
+use Rattle.graph.specs.Internal.Search.{Rows, lastInto, Linked, RowsFrom, blank}
 use Rattle.graph.proofs.TestLaws.{equal?, below-suc, both-left, both-right, every-at, every-all}
 
 module _ (e : List ℕ) (v : ℕ) where
@@ -58,20 +58,20 @@ module _ (e : List ℕ) (v : ℕ) where
 pub blank-long : {l : List ℕ} → l ≡ blank → length l ≡ usableLimit
 blank-long h = ap length h ∙ length-replicate {A = ℕ} usableLimit 0
 
--- no row is chained yet
-pub chain-none : (e next : List ℕ) → Chained e 0 blank next
-chain-none e next =
+-- no row is linked yet
+pub link-none : (e next : List ℕ) → Linked e 0 blank next
+link-none e next =
     record {
       long = blank-long refl;
       starts = λ v lt. getD-replicate usableLimit v 0 0 lt ∙ sym (last-none e v);
       links = λ i lt. absurd (omega arith);
     }
 
--- row i is put in front of its chain
-pub chain-more :
-    (e : List ℕ) (i : ℕ) (first next : List ℕ) → Chained e i first next → target e i < usableLimit → i < length next
-    → Chained e (i + 1) (set first (target e i) (i + 1)) (set next i (getD first (target e i) 0))
-chain-more e i first next h lt in-next =
+-- row i is put in front of the rows with its target
+pub link-more :
+    (e : List ℕ) (i : ℕ) (first next : List ℕ) → Linked e i first next → target e i < usableLimit → i < length next
+    → Linked e (i + 1) (set first (target e i) (i + 1)) (set next i (getD first (target e i) 0))
+link-more e i first next h lt in-next =
     rw (add-one i)
     (record {
       long = simp length-set (h .long);
@@ -109,13 +109,13 @@ ends-made e n i h lt =
     let q = every-at _ n (h .ends) i lt in
     (ltb-true _ _ (both-left _ _ q), ltb-true _ _ (both-right _ _ q))
 
--- a row of the chain: its source is usable, and the chain goes on below it
-pub chain-row : (e next : List ℕ) (c i : ℕ) → Chain e next c → i < c → (source e i < usableLimit) × (getD next i 0 ≤ i)
-chain-row e next c i h lt =
+-- a row that is followed: its source is usable, and the next one is below it
+pub linked-row : (e next : List ℕ) (c i : ℕ) → RowsFrom e next c → i < c → (source e i < usableLimit) × (getD next i 0 ≤ i)
+linked-row e next c i h lt =
     (ends-made e c i (h .rows) lt .0, omega (arith, h .links i lt, last-below e (target e i) i))
 
--- the chain of v can be followed
-pub chain-of : (e first next : List ℕ) (n v : ℕ) → Rows e n → n ≤ length next → Chained e n first next → v < usableLimit → Chain e next (getD first v 0)
-chain-of e first next n v rows fits h lt =
+-- the rows into v can be followed
+pub rows-into : (e first next : List ℕ) (n v : ℕ) → Rows e n → n ≤ length next → Linked e n first next → v < usableLimit → RowsFrom e next (getD first v 0)
+rows-into e first next n v rows fits h lt =
     let le : getD first v 0 ≤ n = omega (arith, h .starts v lt, last-below e v n) in
     record { rows = rows-fewer e n (getD first v 0) le rows; long = omega arith; links = λ i l. h .links i (omega arith) }
