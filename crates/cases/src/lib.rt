@@ -1,5 +1,7 @@
-// What the programs of cases share: what they write to standard output, and a sum over a table that any changed word shows in. No contract
-// can say what is written.
+// What the programs of cases share: what they write to standard output, a sum over a table that any changed word shows in, and numbers that
+// look drawn. No contract can say what is written.
+pub mod draw;
+
 use libc::STDOUT_FILENO;
 ghost use mathlib.Core.Path.{_≡_};
 ghost use Rattle.cases.specs.Sums.{tableSum};

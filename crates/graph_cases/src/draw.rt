@@ -1,4 +1,5 @@
-// Draws words: the same for the same seed.
+// Draws words and commands.
+use cases::draw::Draw;
 use graph::Command;
 use graph::Tally;
 use graph::rows::EDGE_WORDS;
@@ -6,32 +7,6 @@ use graph::rows::EXECUTING;
 use graph::rows::STATUS;
 use graph::rows::USABLE_LIMIT;
 ghost use Prim.Native.Nat.{_≤_};
-
-pub struct Draw {
-    pub state: u64,
-}
-
-pub(crate) fn begin(seed: u32) -> Draw {
-    Draw { state: seed as u64 }
-}
-
-impl Draw {
-    pub(crate) fn next(self) -> Draw {
-        Draw {
-            state: (self.state % 2147483648 * 1103515245 + 12345) % 2147483648,
-        }
-    }
-
-    // A number below `limit`, or 0 where that is 0.
-    pub(crate) fn below(self, limit: u32) -> u32
-        ensures { λ r. ⌜ r ≤ limit ⌝ }
-    {
-        if limit == 0 {
-            return 0;
-        }
-        (self.state / 4096 % (limit as u64)) as u32
-    }
-}
 
 // Mostly one of the four numbers from `low` on.
 fn word(d: Draw, low: u32) -> u32

@@ -5,6 +5,8 @@ mod draw;
 mod script;
 mod show;
 
+use cases::draw::Draw;
+use cases::draw::begin;
 use cases::text;
 use graph::Tally;
 use graph::rows::EDGE_TABLE;
@@ -80,13 +82,13 @@ fn all_drawn() {
 fn drawn(seed: u32) {
     let mut vertices = [0u32; 4 * VERTEX_WORDS + 4];
     let mut edges = [0u32; 5 * EDGE_WORDS];
-    let d = draw::words(&mut vertices, draw::begin(seed), 1);
+    let d = draw::words(&mut vertices, begin(seed), 1);
     draw::mostly_executing(&mut vertices, seed);
     let d = draw::words(&mut edges, d, 0);
     drawn_call(&mut vertices, &mut edges, d);
 }
 
-fn drawn_call(vertices: &mut [u32], edges: &mut [u32], d: draw::Draw) {
+fn drawn_call(vertices: &mut [u32], edges: &mut [u32], d: Draw) {
     let n = draw::length(d, vertices.len(), 600);
     let d = d.next();
     let m = draw::length(d, edges.len(), 200);
