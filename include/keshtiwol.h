@@ -91,7 +91,8 @@ enum {
     KESHTIWOL_VERTEX = 10,  /* first: the vertex */
     KESHTIWOL_DONE = 11,    /* all vertices made are finished */
     KESHTIWOL_STUCK = 12,   /* no step would be accepted */
-    KESHTIWOL_SPENT = 13    /* the budget is used */
+    KESHTIWOL_SPENT = 13,   /* the budget is used */
+    KESHTIWOL_CHAIN = 14    /* first: how many vertices the chain has, which begin the list */
 };
 
 /* The numbers of refusals, by who causes them. */
@@ -126,6 +127,10 @@ enum {
     KESHTIWOL_RELEASE_NOT_NEW = 36,
     KESHTIWOL_TRANSFER_NOT_NEW = 37,
     KESHTIWOL_TRANSFER_HAS_EDGE_OUT = 38,
+    /* whoever asks for a chain */
+    KESHTIWOL_NO_CHAIN = 41,
+    KESHTIWOL_LIST_TOO_SHORT = 42,
+    /* a host that asks for a command by number */
     KESHTIWOL_NO_SUCH_COMMAND = 99 /* keshtiwol_command: a number that no command has */
 };
 
@@ -176,6 +181,22 @@ struct keshtiwol_reply keshtiwol_command(uint32_t *vertices, size_t vertex_words
                                          uint32_t *edges, size_t edge_words,
                                          struct keshtiwol_tally *tally,
                                          uint32_t command, uint32_t caller, uint32_t first, uint32_t second);
+
+/* Shows the loop that an edge from source to target would close: writes into the list the shortest chain of held edges that leads from
+ * target back to source, vertex by vertex, target first and source last. Of equally short chains it is the first in vertex numbers,
+ * compared word by word from the target on. Where source and target are the same, it is that vertex alone. KESHTIWOL_ROWS words are
+ * enough for every chain. Words past the chain are not touched; tables and tally are only read.
+ *
+ * The cycle test of KESHTIWOL_DO_EDGE refuses, with 35, exactly where this finds a chain, and that of KESHTIWOL_DO_TRANSFER exactly where
+ * this finds one with the vertex as source and the caller as target.
+ *
+ * Says KESHTIWOL_CHAIN, or refuses and writes nothing: 12, whatever the tally's steps; 20, of either vertex; 41 where no chain leads back;
+ * 42 where the list has fewer words than the chain has vertices. */
+struct keshtiwol_reply keshtiwol_chain(const uint32_t *vertices, size_t vertex_words,
+                                       const uint32_t *edges, size_t edge_words,
+                                       const struct keshtiwol_tally *tally,
+                                       uint32_t source, uint32_t target,
+                                       uint32_t *list, size_t list_words);
 
 #ifdef __cplusplus
 }

@@ -14,6 +14,7 @@ use Rattle.graph.specs.Commands.{command}
 use Rattle.graph.specs.Answers.{Outcome}
 use Rattle.machine.specs.Answers.{StepSaid, saidAs, LoadingSaid, loaded, loading-refused}
 use Rattle.machine.specs.Running.{Ending, done, stuck, spent, refused, RunOutcome, Choice, choose, no-choice, choice-refused, choice}
+use Rattle.chains.specs.Showing.{ChainSaid, vertices, chain-refused, ChainOutcome}
 use Rattle.kit.specs.declared.Reply.{Reply}
 use Rattle.kit.specs.declared.RunReply.{RunReply}
 use Rattle.kit.specs.declared.Asked.{Asked}
@@ -66,6 +67,11 @@ choiceNumbers (choice-refused n p) = numbers 0 n p
 choiceNumbers no-choice = numbers 9 0 0
 choiceNumbers (choose v) = numbers 10 v 0
 
+-- a chain of held edges
+unfoldable pub chainNumbers : ChainSaid → Numbers
+chainNumbers (chain-refused n p) = numbers 0 n p
+chainNumbers (vertices n) = numbers 14 n 0
+
 -- COMMANDS
 unfoldable pub commandOf : ℕ → ℕ → ℕ → ℕ → Option Command
 commandOf k t a b =
@@ -110,3 +116,7 @@ RunReplied o r after =
 
 abbrev pub LowestReplied : List ℕ → Lent → Reply → Lent → Type 0
 LowestReplied bytes s r after = (replyNumbers r ≡ choiceNumbers (choice bytes s)) × (after ≡ s)
+
+-- the list afterwards is what the definition leaves; tables and tally are only read
+abbrev pub ChainReplied : ChainOutcome → Reply → List ℕ → Type 0
+ChainReplied o r list = (replyNumbers r ≡ chainNumbers (o .answer)) × (list ≡ o .list)

@@ -6,12 +6,14 @@ use crate::RunReply;
 use crate::RunReplyDone;
 use crate::replies::REFUSED;
 use crate::replies::of_answer;
+use crate::replies::of_chain;
 use crate::replies::of_command;
 use crate::replies::of_ending;
 use crate::replies::of_last;
 use crate::replies::of_loading;
 use crate::replies::of_lowest;
 use crate::replies::of_opening;
+use chains::showing::chain_by_value;
 use engine::Done;
 use engine::LoadDone;
 use engine::load::load_by_value;
@@ -28,12 +30,13 @@ ghost use mathlib.Core.Path.{_≡_};
 ghost use Rattle.graph.specs.Tables.{lent};
 ghost use Rattle.graph.specs.Answers as of-graph;
 ghost use Rattle.graph.specs.Commands.{opening};
+ghost use Rattle.chains.specs.Showing.{showChain};
 ghost use Rattle.machine.specs.Answers.{saidAs};
 ghost use Rattle.machine.specs.Loading.{load};
 ghost use Rattle.machine.specs.Stepping.{step};
 ghost use Rattle.machine.specs.Running.{run};
 ghost use Rattle.engine.specs.Answers.{loadingSaid, said};
-ghost use Rattle.kit.specs.Numbers.{OpenReplied, Commanded, LoadReplied, Replied, RunReplied, LowestReplied, byNumbers, replyNumbers, openingNumbers, loadingNumbers, saidNumbers, commandOf, askedOf};
+ghost use Rattle.kit.specs.Numbers.{OpenReplied, Commanded, LoadReplied, Replied, RunReplied, LowestReplied, ChainReplied, byNumbers, replyNumbers, openingNumbers, loadingNumbers, saidNumbers, commandOf, askedOf};
 
 // The numbers of the commands.
 pub const NEW_TD: u32 = 1;
@@ -228,4 +231,18 @@ pub(crate) fn lowest_to_numbers(
         answer: of_lowest(lowest),
         tally,
     }
+}
+
+pub(crate) fn chain_to_numbers(
+    vertices: &[u32],
+    edges: &[u32],
+    tally: Tally,
+    source: u32,
+    target: u32,
+    list: &mut [u32],
+) -> Reply
+    ensures { λ r. ⌜ ChainReplied (showChain (lent (now (vertices .entry)) (now (edges .entry)) tally) source target (now (list .entry))) r (now (list .exit)) ⌝ }
+{
+    let answer = chain_by_value(vertices, edges, tally, source, target, list);
+    of_chain(answer)
 }

@@ -3,6 +3,7 @@
 mod cores;
 mod replies;
 
+use crate::cores::chain_to_numbers;
 use crate::cores::command_by_numbers;
 use crate::cores::load_to_numbers;
 use crate::cores::lowest_to_numbers;
@@ -13,10 +14,11 @@ use graph::Command;
 use graph::Tally;
 ghost use Rattle.graph.specs.Tables.{lent};
 ghost use Rattle.graph.specs.Commands.{opening};
+ghost use Rattle.chains.specs.Showing.{showChain};
 ghost use Rattle.machine.specs.Loading.{load};
 ghost use Rattle.machine.specs.Stepping.{step};
 ghost use Rattle.machine.specs.Running.{run};
-ghost use Rattle.kit.specs.Numbers.{OpenReplied, Commanded, LoadReplied, Replied, RunReplied, LowestReplied, byNumbers};
+ghost use Rattle.kit.specs.Numbers.{OpenReplied, Commanded, LoadReplied, Replied, RunReplied, LowestReplied, ChainReplied, byNumbers};
 
 // What was said, and its values: vertices, a job's number and offset, or a refusal's number and place. `replies` has the numbers.
 #[repr(C)]
@@ -149,4 +151,20 @@ pub extern "C" fn keshtiwol_lowest(
     let done = lowest_to_numbers(program, vertices, edges, before);
     *tally = done.tally;
     done.answer
+}
+
+// The shortest chain of held edges from `target` back to `source`, written into the list.
+#[no_mangle]
+pub extern "C" fn keshtiwol_chain(
+    vertices: &[u32],
+    edges: &[u32],
+    tally: &Tally,
+    source: u32,
+    target: u32,
+    list: &mut [u32],
+) -> Reply
+    ensures { λ r. ⌜ ChainReplied (showChain (lent (now (vertices .entry)) (now (edges .entry)) (now (tally .entry))) source target (now (list .entry))) r (now (list .exit)) ⌝ }
+{
+    let before = *tally;
+    chain_to_numbers(vertices, edges, before, source, target, list)
 }

@@ -9,8 +9,9 @@ use graph::Opening;
 ghost use mathlib.Core.Path.{_≡_};
 ghost use Rattle.graph.specs.Answers as of-graph;
 ghost use Rattle.machine.specs.Answers.{saidAs};
+ghost use Rattle.chains.specs.Showing.{chainSaid};
 ghost use Rattle.engine.specs.Answers.{loadingSaid, said, endingOf, lastOf, choiceOf};
-ghost use Rattle.kit.specs.Numbers.{replyNumbers, openingNumbers, loadingNumbers, saidNumbers, endingNumbers, lastNumbers, choiceNumbers, numbers};
+ghost use Rattle.kit.specs.Numbers.{replyNumbers, openingNumbers, loadingNumbers, saidNumbers, endingNumbers, lastNumbers, choiceNumbers, chainNumbers, numbers};
 
 pub const REFUSED: u32 = 0;
 
@@ -39,6 +40,8 @@ pub const DONE: u32 = 11;
 pub const STUCK: u32 = 12;
 
 pub const SPENT: u32 = 13;
+
+pub const CHAIN: u32 = 14;
 
 fn reply(said: u32, first: u32, second: u32) -> Reply
     ensures { λ r. ⌜ replyNumbers r ≡ numbers said first second ⌝ }
@@ -128,5 +131,15 @@ pub(crate) fn of_lowest(lowest: Lowest) -> Reply
         Lowest::Vertex(v) => reply(VERTEX, v, 0),
         Lowest::NoVertex => reply(NOTHING, 0, 0),
         Lowest::Refused(refusal) => reply(REFUSED, refusal.number, refusal.place),
+    }
+}
+
+// How many vertices a chain has.
+pub(crate) fn of_chain(answer: chains::Answer) -> Reply
+    ensures { λ r. ⌜ replyNumbers r ≡ chainNumbers (chainSaid answer) ⌝ }
+{
+    match answer {
+        chains::Answer::Chain(vertices) => reply(CHAIN, vertices, 0),
+        chains::Answer::Refused(refusal) => reply(REFUSED, refusal.number, refusal.place),
     }
 }

@@ -92,17 +92,32 @@ fn bare(side: &mut impl Side) {
     }
 }
 
-/// A chain of 1,023 edges from vertex 0 on, its edges made front to back or back to front. The edge asked for would lead from its last
-/// vertex to its second (the first executes), so the search follows 1,022 edges.
+/// A chain of 1,023 edges from vertex 0 on, its edges made front to back or back to front.
+fn chained<S: Side>(backwards: bool) -> S {
+    let mut side = S::new();
+    bare(&mut side);
+    for n in 0..1023 {
+        let source = if backwards { 1022 - n } else { n };
+        side.command(Do::Edge(source, source + 1)).unwrap();
+    }
+    side
+}
+
+/// The edge asked for would lead from the chain's last vertex to its second (the first executes), so the search follows 1,022 edges.
 fn closing_edge(backwards: bool) -> [f64; 2] {
     fn side<S: Side>(backwards: bool) -> impl FnMut() {
-        let mut side = S::new();
-        bare(&mut side);
-        for n in 0..1023 {
-            let source = if backwards { 1022 - n } else { n };
-            side.command(Do::Edge(source, source + 1)).unwrap();
-        }
+        let mut side: S = chained(backwards);
         move || assert_eq!(side.command(Do::Edge(1023, 1)), Err(35))
+    }
+    medians(1.0, side::<Engine>(backwards), side::<Paper>(backwards))
+}
+
+/// The chain from its first vertex to its last, all 1,024 of them.
+fn whole_chain(backwards: bool) -> [f64; 2] {
+    fn side<S: Side>(backwards: bool) -> impl FnMut() {
+        let mut side: S = chained(backwards);
+        assert!(side.chain(1023, 0).iter().copied().eq(0..1024));
+        move || assert_eq!(black_box(side.chain(1023, 0)).len(), 1024)
     }
     medians(1.0, side::<Engine>(backwards), side::<Paper>(backwards))
 }
@@ -192,12 +207,14 @@ fn main() {
         println!("| {name:<10} | {:>12} | {:>12} |", growth(|times| times.step[0]), growth(|times| times.run[0]));
     }
 
-    println!("\nNanoseconds per single command on 1,024 vertices.\n");
+    println!("\nNanoseconds per single command or chain on 1,024 vertices.\n");
     println!("| {:<56} | {:>8} | {:>8} | {:>8} |", "command", "engine", "paper", "ratio");
     println!("|:{0:-<57}|{0:->9}:|{0:->9}:|{0:->9}:|", "");
     let commands = [
         ("newEdge that would close a chain of 1,023, front to back", closing_edge(false)),
         ("newEdge that would close a chain of 1,023, back to front", closing_edge(true)),
+        ("chain of 1,024 vertices, front to back", whole_chain(false)),
+        ("chain of 1,024 vertices, back to front", whole_chain(true)),
         ("stop among 512 edges, 256 its own", stop(512)),
         ("stop among 1,024 edges, 512 its own", stop(1024)),
     ];

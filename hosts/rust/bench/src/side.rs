@@ -2,7 +2,7 @@
 
 use std::hint::black_box;
 
-use keshtiwol::{EDGE_TABLE, STEP_LIMIT, VERTEX_TABLE};
+use keshtiwol::{EDGE_TABLE, ROWS, STEP_LIMIT, VERTEX_TABLE};
 
 /// A bare machine's command, as far as the benchmark needs them.
 #[derive(Clone, Copy)]
@@ -24,6 +24,8 @@ pub trait Side {
     fn open(&mut self);
     /// A command by vertex 0, or its refusal's number.
     fn command(&mut self, what: Do) -> Result<(), u32>;
+    /// The chain from target back to source, as it stands in the list.
+    fn chain(&mut self, source: u32, target: u32) -> &[u32];
     fn edges(&self) -> &[u32];
     /// Undoes a stop of vertex 0: its status, the edges and their number.
     fn unstop(&mut self, edges: &[u32], held: u32);
@@ -35,12 +37,13 @@ macro_rules! side {
         pub struct $name {
             vertices: Vec<u32>,
             edges: Vec<u32>,
+            list: Vec<u32>,
             tally: $made_by::Tally,
         }
 
         impl Side for $name {
             fn new() -> Self {
-                $name { vertices: vec![0; VERTEX_TABLE], edges: vec![0; EDGE_TABLE], tally: Default::default() }
+                $name { vertices: vec![0; VERTEX_TABLE], edges: vec![0; EDGE_TABLE], list: vec![0; ROWS], tally: Default::default() }
             }
 
             fn load(&mut self, program: &[u8]) {
@@ -81,6 +84,14 @@ macro_rules! side {
                 match black_box($made_by::command(&mut self.vertices, &mut self.edges, &mut self.tally, command)) {
                     $made_by::Answer::Refused { number, .. } => Err(number),
                     _ => Ok(()),
+                }
+            }
+
+            fn chain(&mut self, source: u32, target: u32) -> &[u32] {
+                let source = black_box(source);
+                match black_box($made_by::chain(&self.vertices, &self.edges, &self.tally, source, target, &mut self.list)) {
+                    $made_by::Chain::Written(vertices) => &self.list[..vertices as usize],
+                    $made_by::Chain::Refused { number, .. } => panic!("a chain from {target} to {source} was refused: {number}"),
                 }
             }
 

@@ -3,17 +3,17 @@
 use std::collections::BTreeMap;
 use std::fmt;
 
-use keshtiwol::{Answer, Command, Ending, Lowest};
+use keshtiwol::{Answer, Chain, Command, Ending, Lowest};
 
 use crate::pair::{Call, Said};
 use crate::programs;
 
-const CALLS: [&str; 11] = ["open", "load", "step", "run", "lowest", "newTd", "newEdge", "release", "transfer", "start", "stop"];
-pub const WORDS: [&str; 14] =
-    ["refused", "ready", "start", "new", "edge", "release", "transfer", "job", "stop", "none", "vertex", "done", "stuck", "spent"];
+const CALLS: [&str; 12] = ["open", "load", "step", "run", "lowest", "newTd", "newEdge", "release", "transfer", "start", "stop", "chain"];
+pub const WORDS: [&str; 15] =
+    ["refused", "ready", "start", "new", "edge", "release", "transfer", "job", "stop", "none", "vertex", "done", "stuck", "spent", "chain"];
 
 /// The numbers that a refusal can have through the safe functions.
-pub const REFUSALS: [u32; 26] = [1, 2, 3, 4, 5, 6, 7, 8, 10, 11, 12, 13, 20, 21, 22, 23, 30, 31, 32, 33, 34, 35, 36, 37, 38, 39];
+pub const REFUSALS: [u32; 28] = [1, 2, 3, 4, 5, 6, 7, 8, 10, 11, 12, 13, 20, 21, 22, 23, 30, 31, 32, 33, 34, 35, 36, 37, 38, 39, 41, 42];
 
 #[derive(Clone, Default)]
 pub struct Counts {
@@ -27,6 +27,12 @@ pub struct Counts {
     jobs: [u64; 5],
     /// The largest of these numbers.
     largest_job: u32,
+    /// The vertices of the longest chain.
+    longest_chain: u32,
+    /// Chains that filled their list.
+    lists_filled: u64,
+    /// Commands whose cycle test found or found not what a chain had told before.
+    ties: [u64; 2],
 }
 
 impl Counts {
@@ -43,6 +49,13 @@ impl Counts {
             Call::Command(Command::Transfer { .. }) => 8,
             Call::Command(Command::Start { .. }) => 9,
             Call::Command(Command::Stop { .. }) => 10,
+            Call::Chain { words, .. } => {
+                if let Said::Chain(Chain::Written(vertices)) = said {
+                    self.longest_chain = vertices.max(self.longest_chain);
+                    self.lists_filled += u64::from(vertices == words);
+                }
+                11
+            }
         };
         let (word, refusal) = match said {
             Said::Answer(answer) => match answer {
@@ -74,6 +87,10 @@ impl Counts {
                     Ending::Refused { number, .. } => (0, number),
                 }
             }
+            Said::Chain(chain) => match chain {
+                Chain::Written(_) => (14, 0),
+                Chain::Refused { number, .. } => (0, number),
+            },
         };
         *self.seen.entry((call, word, refusal)).or_default() += 1;
     }
@@ -82,6 +99,11 @@ impl Counts {
     pub fn loaded(&mut self, program: &[u8]) {
         let (vertices, _, levels) = programs::needs(program);
         self.enlarge([program.len(), vertices as usize, levels]);
+    }
+
+    /// Notes a command whose cycle test and the chain asked for before it agree that there is one, or none.
+    pub fn tied(&mut self, chain: bool) {
+        self.ties[usize::from(chain)] += 1;
     }
 
     fn enlarge(&mut self, by: [usize; 3]) {
@@ -100,6 +122,11 @@ impl Counts {
             *jobs += more;
         }
         self.largest_job = other.largest_job.max(self.largest_job);
+        self.longest_chain = other.longest_chain.max(self.longest_chain);
+        self.lists_filled += other.lists_filled;
+        for (ties, more) in self.ties.iter_mut().zip(other.ties) {
+            *ties += more;
+        }
     }
 
     pub fn calls(&self) -> u64 {
@@ -125,6 +152,16 @@ impl Counts {
     pub fn jobs(&self) -> ([u64; 5], u32) {
         (self.jobs, self.largest_job)
     }
+
+    /// The vertices of the longest chain, and how often one filled its list.
+    pub fn chains(&self) -> (u32, u64) {
+        (self.longest_chain, self.lists_filled)
+    }
+
+    /// How often a command's cycle test agreed with a chain asked for before it: that there is none, and that there is one.
+    pub fn ties(&self) -> [u64; 2] {
+        self.ties
+    }
 }
 
 impl fmt::Display for Counts {
@@ -147,6 +184,9 @@ impl fmt::Display for Counts {
         let [bytes, vertices, levels] = self.largest;
         writeln!(f, "runs took {} steps; programs had up to {bytes} bytes, {vertices} vertices, {levels} levels", self.taken)?;
         writeln!(f, "steps named jobs with numbers of 1 to 5 bytes {:?} times, the largest {}", self.jobs, self.largest_job)?;
+        let [without, with] = self.ties;
+        writeln!(f, "chains had up to {} vertices and filled their list {} times", self.longest_chain, self.lists_filled)?;
+        writeln!(f, "newEdge and transfer found a cycle {with} times where a chain was, and none {without} times where none was")?;
         write!(f, "refusals")?;
         for number in REFUSALS {
             write!(f, " {number}: {}", self.refusals(number))?;

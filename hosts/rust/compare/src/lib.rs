@@ -1,5 +1,5 @@
 //! Differential tests: the engine beside an implementation written from its paper alone. After each call the answer, every word of
-//! both tables and the tally must be the same.
+//! both tables and of the list and the tally must be the same.
 
 pub mod counts;
 pub mod draw;

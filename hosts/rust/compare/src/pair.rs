@@ -1,8 +1,9 @@
 //! Two machines side by side, the engine's and the paper's: each call is made to both, and all that came of it compared.
 
 use std::fmt::Write;
+use std::ops::Range;
 
-use keshtiwol::{Answer, Command, Ending, Lowest, Run, Tally, EDGE_WORDS, VERTEX_WORDS};
+use keshtiwol::{refusal, Answer, Chain, Command, Ending, Lowest, Run, Tally, EDGE_WORDS, ROWS, VERTEX_WORDS};
 
 use crate::counts::Counts;
 
@@ -14,6 +15,12 @@ pub enum Call {
     Run(u32),
     Lowest,
     Command(Command),
+    /// Into a list of so many words.
+    Chain {
+        source: u32,
+        target: u32,
+        words: u32,
+    },
 }
 
 #[derive(Clone, Copy, Debug, PartialEq)]
@@ -21,6 +28,7 @@ pub enum Said {
     Answer(Answer),
     Run(Run),
     Lowest(Lowest),
+    Chain(Chain),
 }
 
 /// What differed, in full.
@@ -35,8 +43,9 @@ pub struct State {
     pub tally: Tally,
 }
 
-/// Words around the engine's tables that no call may touch.
+/// Words around the engine's tables and list that no call may touch.
 const MARGIN: usize = 8;
+/// These words, and those of a list before the call.
 const MARK: u32 = 0xA5A5_5A5A;
 
 pub struct Pair {
@@ -44,9 +53,12 @@ pub struct Pair {
     pub program: Vec<u8>,
     /// The paper's side; the engine's was the same after each call so far.
     state: State,
+    /// Its list at this call; of no words where the call has none.
+    paper_list: Vec<u32>,
     /// The engine's side, with margins.
     vertices: Vec<u32>,
     edges: Vec<u32>,
+    list: Vec<u32>,
     tally: Tally,
     counts: Counts,
     history: Vec<(Call, Said)>,
@@ -57,8 +69,10 @@ impl Pair {
         let mut pair = Pair {
             program,
             state: State { vertices: Vec::new(), edges: Vec::new(), tally: Tally::default() },
+            paper_list: Vec::new(),
             vertices: Vec::new(),
             edges: Vec::new(),
+            list: Vec::new(),
             tally: Tally::default(),
             counts: Counts::default(),
             history: Vec::new(),
@@ -97,9 +111,17 @@ impl Pair {
     /// Makes a call on both sides.
     pub fn call(&mut self, call: Call) -> Result<Said, Difference> {
         let before = self.state.tally;
-        let paper = on_paper(call, &self.program, &mut self.state);
-        let (v, e) = (MARGIN..self.vertices.len() - MARGIN, MARGIN..self.edges.len() - MARGIN);
-        let engine = by_engine(call, &self.program, &mut self.vertices[v.clone()], &mut self.edges[e.clone()], &mut self.tally);
+        self.lend_lists(call);
+        let paper = on_paper(call, &self.program, &mut self.state, &mut self.paper_list);
+        let (v, e, l) = (inside(&self.vertices), inside(&self.edges), inside(&self.list));
+        let engine = by_engine(
+            call,
+            &self.program,
+            &mut self.vertices[v.clone()],
+            &mut self.edges[e.clone()],
+            &mut self.tally,
+            &mut self.list[l.clone()],
+        );
         self.counts.add(call, engine);
         if (call, engine) == (Call::Load, Said::Answer(Answer::Ready)) {
             self.counts.loaded(&self.program);
@@ -108,7 +130,8 @@ impl Pair {
             && self.tally == self.state.tally
             && self.vertices[v] == self.state.vertices
             && self.edges[e] == self.state.edges
-            && margins(&self.vertices).chain(margins(&self.edges)).all(|word| word == MARK);
+            && self.list[l] == self.paper_list
+            && self.margins().all(|word| word == MARK);
         if !same {
             return Err(self.difference(call, engine, paper, before));
         }
@@ -116,8 +139,57 @@ impl Pair {
         Ok(engine)
     }
 
+    /// A command on both sides. Before one with a cycle test the chain is asked for that this test is about: where the command gets as
+    /// far as the test, it is refused with 35 where there was one, and passes where there was none.
+    pub fn command(&mut self, command: Command) -> Result<Said, Difference> {
+        let (source, target) = match command {
+            Command::NewEdge { source, target, .. } => (source, target),
+            Command::Transfer { caller, vertex } => (vertex, caller),
+            _ => return self.call(Call::Command(command)),
+        };
+        let chain = self.call(Call::Chain { source, target, words: ROWS as u32 })?;
+        let held = self.state.tally.held;
+        let said = self.call(Call::Command(command))?;
+        let closes = match said {
+            Said::Answer(Answer::Refused { number: refusal::CLOSES_CYCLE, .. }) => true,
+            Said::Answer(Answer::Transfer(_)) => false,
+            // An edge from a finished source is not tested, nor appended.
+            Said::Answer(Answer::Edge(..)) if self.state.tally.held > held => false,
+            // Refused after the test.
+            Said::Answer(Answer::Refused { number: refusal::NO_EDGE_ROW, .. }) => false,
+            _ => return Ok(said),
+        };
+        match chain {
+            Said::Chain(Chain::Written(_)) if closes => {}
+            Said::Chain(Chain::Refused { number: refusal::NO_CHAIN, .. }) if !closes => {}
+            _ => return Err(self.disagreement("a cycle test and the chain before it do not agree")),
+        }
+        self.counts.tied(closes);
+        Ok(said)
+    }
+
+    /// A list for each side, filled with marks.
+    fn lend_lists(&mut self, call: Call) {
+        let words = if let Call::Chain { words, .. } = call { words as usize } else { 0 };
+        self.paper_list.clear();
+        self.paper_list.resize(words, MARK);
+        self.list.clear();
+        self.list.resize(words + 2 * MARGIN, MARK);
+    }
+
+    fn margins(&self) -> impl Iterator<Item = u32> + '_ {
+        [&self.vertices, &self.edges, &self.list].into_iter().flat_map(|table| margins(table))
+    }
+
     pub fn calls(&self) -> usize {
         self.history.len()
+    }
+
+    /// What is wrong though both sides say the same, with the calls that led there.
+    fn disagreement(&self, what: &str) -> Difference {
+        let mut text = format!("{what}\n");
+        self.write_history(&mut text);
+        Difference(text)
     }
 
     pub fn into_counts(self) -> Counts {
@@ -134,19 +206,29 @@ impl Pair {
         let _ = writeln!(text, "paper:   {paper:?}, {:?}", self.state.tally);
         differing(&mut text, "vertex", &self.vertices, &self.state.vertices, VERTEX_WORDS);
         differing(&mut text, "edge", &self.edges, &self.state.edges, EDGE_WORDS);
-        for word in margins(&self.vertices).chain(margins(&self.edges)).filter(|&word| word != MARK) {
-            let _ = writeln!(text, "outside the engine's table: {word}");
+        differing(&mut text, "list", &self.list, &self.paper_list, 1);
+        for word in self.margins().filter(|&word| word != MARK) {
+            let _ = writeln!(text, "outside the engine's table or list: {word}");
         }
+        self.write_history(&mut text);
+        Difference(text)
+    }
+
+    fn write_history(&self, text: &mut String) {
         let _ = writeln!(text, "calls before it, the last first:");
         for (call, said) in self.history.iter().rev().take(12) {
             let _ = writeln!(text, "    {call:?} said {said:?}");
         }
-        Difference(text)
     }
 }
 
 fn with_margins(table: &[u32]) -> Vec<u32> {
     [&[MARK; MARGIN], table, &[MARK; MARGIN]].concat()
+}
+
+/// Where between its margins a table stands.
+fn inside(table: &[u32]) -> Range<usize> {
+    MARGIN..table.len() - MARGIN
 }
 
 fn margins(table: &[u32]) -> impl Iterator<Item = u32> + '_ {
@@ -160,7 +242,7 @@ fn differing(text: &mut String, table: &str, engine: &[u32], paper: &[u32], row_
     }
 }
 
-fn by_engine(call: Call, program: &[u8], vertices: &mut [u32], edges: &mut [u32], tally: &mut Tally) -> Said {
+fn by_engine(call: Call, program: &[u8], vertices: &mut [u32], edges: &mut [u32], tally: &mut Tally, list: &mut [u32]) -> Said {
     match call {
         Call::Open => Said::Answer(keshtiwol::open(vertices, edges, tally)),
         Call::Load => Said::Answer(keshtiwol::load(program, vertices, edges, tally)),
@@ -168,10 +250,11 @@ fn by_engine(call: Call, program: &[u8], vertices: &mut [u32], edges: &mut [u32]
         Call::Run(budget) => Said::Run(keshtiwol::run(program, vertices, edges, tally, budget)),
         Call::Lowest => Said::Lowest(keshtiwol::lowest(program, vertices, edges, tally)),
         Call::Command(command) => Said::Answer(keshtiwol::command(vertices, edges, tally, command)),
+        Call::Chain { source, target, .. } => Said::Chain(keshtiwol::chain(vertices, edges, tally, source, target, list)),
     }
 }
 
-fn on_paper(call: Call, program: &[u8], state: &mut State) -> Said {
+fn on_paper(call: Call, program: &[u8], state: &mut State, list: &mut [u32]) -> Said {
     let State { vertices, edges, tally } = state;
     let mut own = paper::Tally { made: tally.made, held: tally.held, steps: tally.steps };
     let said = match call {
@@ -188,6 +271,10 @@ fn on_paper(call: Call, program: &[u8], state: &mut State) -> Said {
             paper::Lowest::Refused { number, place } => Lowest::Refused { number, place },
         }),
         Call::Command(command) => Said::Answer(answer(paper::command(vertices, edges, &mut own, command_of(command)))),
+        Call::Chain { source, target, .. } => Said::Chain(match paper::chain(vertices, edges, &own, source, target, list) {
+            paper::Chain::Written(vertices) => Chain::Written(vertices),
+            paper::Chain::Refused { number, place } => Chain::Refused { number, place },
+        }),
     };
     *tally = Tally { made: own.made, held: own.held, steps: own.steps };
     said

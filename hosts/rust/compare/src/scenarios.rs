@@ -1,8 +1,8 @@
 //! The scenarios. All that one does follows from its seed.
 
 use keshtiwol::{
-    Answer, Command, Ending, Tally, EDGE_WORDS, MADE, PHASE, PLACE, ROWS, SCOPE, SOURCE, STATUS, TARGET, VERTEX_EXECUTING, VERTEX_RELEASED,
-    VERTEX_WORDS,
+    Answer, Chain, Command, Ending, Tally, EDGE_TABLE, EDGE_WORDS, MADE, PHASE, PLACE, ROWS, SCOPE, SOURCE, STATUS, TARGET,
+    VERTEX_EXECUTING, VERTEX_NEW, VERTEX_RELEASED, VERTEX_TABLE, VERTEX_WORDS,
 };
 
 use crate::counts::Counts;
@@ -16,13 +16,14 @@ type Kind = fn(&mut Scene) -> Outcome;
 /// Plays the scenario of a seed: what was called and said, or the first difference.
 pub fn play(seed: u64) -> Result<Counts, Difference> {
     let mut draw = Draw::new(seed);
-    let kinds: [(&str, u32, Kind); 6] = [
+    let kinds: [(&str, u32, Kind); 7] = [
         ("a bare machine", 3, Scene::bare),
         ("random tables", 3, Scene::random_tables),
         ("a schedule", 4, Scene::schedule),
         ("runs", 1, Scene::runs),
         ("a damaged program", 3, Scene::damaged),
         ("altered words", 4, Scene::altered),
+        ("chains", 4, Scene::chains),
     ];
     let (name, _, kind) = kinds[draw.weighted(&kinds.map(|kind| kind.1))];
     let size = [Size::Small, Size::Middle, Size::Large][draw.weighted(&[80, 14, 6])];
@@ -49,7 +50,7 @@ enum Order {
 struct Scene {
     draw: Draw,
     size: Size,
-    /// After a call `lowest` is asked too, once in so many times.
+    /// After a call `lowest` is asked too, once in so many times, and as often for a chain.
     beside: u32,
     pair: Pair,
 }
@@ -210,12 +211,88 @@ impl Scene {
         Ok(())
     }
 
+    /// Chains on tables that no calls led to, and commands that meet them.
+    fn chains(&mut self) -> Outcome {
+        let mut state = self.random_state();
+        if self.size == Size::Large && self.draw.one_in(2) {
+            make_all(&mut state);
+        }
+        let ends = self.shape_edges(&mut state);
+        self.pair.set(state);
+        if let Some((source, target)) = ends {
+            self.chain_between(source, target)?;
+        }
+        for _ in 0..self.draw.between(5, 25) {
+            self.chain()?;
+            if self.draw.one_in(4) {
+                let command = self.command();
+                self.call(Call::Command(command))?;
+            }
+            if self.draw.one_in(8) {
+                let sound = self.pair.state().clone();
+                self.alter();
+                self.chain()?;
+                if !self.draw.one_in(3) {
+                    self.pair.set(sound);
+                }
+            }
+        }
+        Ok(())
+    }
+
     fn call(&mut self, call: Call) -> Result<Said, Difference> {
-        let said = self.pair.call(call)?;
+        let said = match call {
+            Call::Command(command) => self.pair.command(command)?,
+            _ => self.pair.call(call)?,
+        };
         if self.draw.one_in(self.beside) {
             self.pair.call(Call::Lowest)?;
         }
+        if self.draw.one_in(self.beside) {
+            self.chain()?;
+        }
         Ok(said)
+    }
+
+    /// A chain between any two vertices, or between two that have one.
+    fn chain(&mut self) -> Outcome {
+        let (source, target) = match self.walk() {
+            Some(ends) if self.draw.one_in(2) => ends,
+            _ => (self.name(), self.name()),
+        };
+        self.chain_between(source, target)
+    }
+
+    /// A chain into a list of any length. Where it is written, also into one that is exactly long enough or one word short.
+    fn chain_between(&mut self, source: u32, target: u32) -> Outcome {
+        let words = match self.draw.below(8) {
+            0 => 0,
+            1 => self.draw.below(6),
+            2 => self.draw.below(self.pair.state().tally.made.min(ROWS as u32) + 2),
+            3 => self.draw.between(1020, 1030),
+            _ => 1024,
+        };
+        if let Said::Chain(Chain::Written(vertices)) = self.pair.call(Call::Chain { source, target, words })? {
+            let words = vertices - self.draw.below(2);
+            self.pair.call(Call::Chain { source, target, words })?;
+        }
+        Ok(())
+    }
+
+    /// From the source of a held edge along a few edges: where that ended, and where it began.
+    fn walk(&mut self) -> Option<(u32, u32)> {
+        let State { edges, tally, .. } = self.pair.state();
+        let held = (tally.held as usize).min(edges.len() / EDGE_WORDS);
+        let edge = |row: usize| (edges[EDGE_WORDS * row + SOURCE], edges[EDGE_WORDS * row + TARGET]);
+        let (target, mut at) = (held > 0).then(|| edge(self.draw.index(held)))?;
+        for _ in 0..self.draw.below(6) {
+            let from = self.draw.index(held);
+            match (from..held).chain(0..from).map(edge).find(|&(source, _)| source == at) {
+                Some((_, next)) => at = next,
+                None => break,
+            }
+        }
+        Some((at, target))
     }
 
     /// Lends tables and loads the program. Where they were too short, some calls are made on them as they are, then others are lent.
@@ -287,6 +364,60 @@ impl Scene {
         }
         let steps = if draw.one_in(8) { draw.between(8189, 8193) } else { draw.below(8192) };
         State { vertices, edges, tally: Tally { made, held, steps } }
+    }
+
+    /// Gives sound tables other edges, where there are vertices: one line through all of them, whose source and target are answered;
+    /// layers, so that many chains are equally short; few ends, so that edges are repeated and loops; or leaves them as they are.
+    fn shape_edges(&mut self, state: &mut State) -> Option<(u32, u32)> {
+        let draw = &mut self.draw;
+        let made = state.tally.made;
+        let rows = (state.edges.len() / EDGE_WORDS).min(ROWS) as u32;
+        if made == 0 {
+            return None;
+        }
+        // The vertices in any order.
+        let mut order: Vec<u32> = (0..made).collect();
+        for at in 1..order.len() {
+            order.swap(at, draw.index(at + 1));
+        }
+        let mut edges = Vec::new();
+        let mut ends = None;
+        match draw.below(4) {
+            0 => return None,
+            1 => {
+                let line = order.len().min(rows as usize + 1);
+                edges.extend(order[..line].windows(2).map(|pair| (pair[0], pair[1])));
+                ends = Some((order[line - 1], order[0]));
+                match draw.below(3) {
+                    0 => edges.reverse(),
+                    1 => {
+                        let turn = draw.index(edges.len());
+                        edges.rotate_left(turn);
+                    }
+                    _ => {}
+                }
+            }
+            2 => {
+                let width = draw.between(2, 4);
+                for _ in 0..rows {
+                    let from = draw.below(made);
+                    let layer = from / width;
+                    // Now and then back to an earlier layer, and past the last one to the first.
+                    let to = if draw.one_in(20) { draw.below(layer + 1) } else { layer + 1 } * width + draw.below(width);
+                    edges.push((order[from as usize], order[(to % made) as usize]));
+                }
+            }
+            _ => {
+                let few = draw.between(1, 5).min(made);
+                edges.extend((0..rows).map(|_| (order[draw.index(few as usize)], order[draw.index(few as usize)])));
+                edges.truncate(draw.index(3 * few as usize + 1));
+            }
+        }
+        state.tally.held = edges.len() as u32;
+        for (row, (source, target)) in state.edges.chunks_exact_mut(EDGE_WORDS).zip(edges) {
+            (row[SOURCE], row[TARGET]) = (source, target);
+        }
+        ends
     }
 
     /// Changes a word of a table or a number of the tally.
@@ -404,6 +535,17 @@ impl Scene {
     fn status(&self, vertex: u32) -> u32 {
         self.pair.state().vertices[VERTEX_WORDS * vertex as usize + STATUS]
     }
+}
+
+/// Makes sound tables larger where they are not full size, and all 1,024 vertices.
+fn make_all(state: &mut State) {
+    let State { vertices, edges, tally } = state;
+    vertices.resize(vertices.len().max(VERTEX_TABLE), 0);
+    edges.resize(edges.len().max(EDGE_TABLE), 0);
+    for row in vertices.chunks_exact_mut(VERTEX_WORDS).take(ROWS).skip(tally.made as usize) {
+        row[STATUS] = VERTEX_NEW;
+    }
+    tally.made = ROWS as u32;
 }
 
 /// How many words to lend where so many rows are wanted.

@@ -4,7 +4,7 @@ use compare::counts::{REFUSALS, WORDS};
 
 #[test]
 fn no_difference() {
-    let (counts, _) = match compare::compare(250_000, 1) {
+    let (counts, _) = match compare::compare(400_000, 1) {
         Ok(done) => done,
         Err(failure) => panic!("seed {}: {}", failure.seed, failure.difference.0),
     };
@@ -19,6 +19,11 @@ fn no_difference() {
     let (jobs, largest) = counts.jobs();
     assert!(jobs.iter().all(|&jobs| jobs > 500), "jobs with numbers of 1 to 5 bytes: {jobs:?}");
     assert_eq!(largest, u32::MAX);
+    let (longest, filled) = counts.chains();
+    assert_eq!(longest, 1024);
+    assert!(filled > 1000, "only {filled} chains filled their list");
+    let ties = counts.ties();
+    assert!(ties.iter().all(|&times| times > 1000), "cycle tests that a chain was compared with: {ties:?}");
 }
 
 /// The generator's valid programs do load, its damaged ones mostly don't, and the mixed one is what the benchmark says of it.

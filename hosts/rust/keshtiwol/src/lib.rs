@@ -20,8 +20,8 @@
 //! ```
 //!
 //! Hosts that lend their own tables use the functions: [`load`], [`step`], [`run`] and [`lowest`] for programs, [`open`] and [`command`]
-//! for the bare machine. Whatever slices they are handed, a call ends in an accepted step or in a numbered refusal that changed nothing.
-//! The engine keeps nothing between calls, and different tables may be used from different threads at once.
+//! for the bare machine, [`chain`] for both. Whatever slices they are handed, a call ends in an accepted step or in a numbered refusal that
+//! changed nothing. The engine keeps nothing between calls, and different tables may be used from different threads at once.
 //!
 //! The engine itself is the archive `libkit.a`, linked from the folder in `KESHTIWOL_LIB` (an absolute path) or else from the
 //! repository's `target/staticlib`.
@@ -136,6 +136,17 @@ pub enum Lowest {
     Refused { number: u32, place: u32 },
 }
 
+/// The shortest chain of held edges that leads from a target back to a source.
+#[derive(Clone, Copy, Debug, PartialEq, Eq)]
+pub enum Chain {
+    /// It has so many vertices, and they begin the list: the target first, the source last.
+    Written(u32),
+    Refused {
+        number: u32,
+        place: u32,
+    },
+}
+
 /// A single command of the dag-calculus. The caller must be executing.
 #[derive(Clone, Copy, Debug, PartialEq, Eq)]
 pub enum Command {
@@ -173,7 +184,7 @@ pub fn load(program: &[u8], vertices: &mut [u32], edges: &mut [u32], tally: &mut
     let (mut no_vertex, mut no_edge) = ([0], [0]);
     let (vertices, edges) = (lend(vertices, &mut no_vertex), lend(edges, &mut no_edge));
     // SAFETY: true lengths of memory that is borrowed for the whole call; `lend` tells why nothing is null or overlaps.
-    answer(unsafe { raw::keshtiwol_load(start(program), program.len(), vertices.0, vertices.1, edges.0, edges.1, tally) })
+    answer(unsafe { raw::keshtiwol_load(start(program, &[0]), program.len(), vertices.0, vertices.1, edges.0, edges.1, tally) })
 }
 
 /// One step of a vertex: starts a released one; an executing one does the next command of the item at its place.
@@ -181,7 +192,7 @@ pub fn step(program: &[u8], vertices: &mut [u32], edges: &mut [u32], tally: &mut
     let (mut no_vertex, mut no_edge) = ([0], [0]);
     let (vertices, edges) = (lend(vertices, &mut no_vertex), lend(edges, &mut no_edge));
     // SAFETY: as in `load`.
-    answer(unsafe { raw::keshtiwol_step(start(program), program.len(), vertices.0, vertices.1, edges.0, edges.1, tally, vertex) })
+    answer(unsafe { raw::keshtiwol_step(start(program, &[0]), program.len(), vertices.0, vertices.1, edges.0, edges.1, tally, vertex) })
 }
 
 /// Steps the lowest vertex that can step until all are finished, none can step or the budget is used. Jobs count as run where they
@@ -190,7 +201,7 @@ pub fn run(program: &[u8], vertices: &mut [u32], edges: &mut [u32], tally: &mut 
     let (mut no_vertex, mut no_edge) = ([0], [0]);
     let (vertices, edges) = (lend(vertices, &mut no_vertex), lend(edges, &mut no_edge));
     // SAFETY: as in `load`.
-    let reply = unsafe { raw::keshtiwol_run(start(program), program.len(), vertices.0, vertices.1, edges.0, edges.1, tally, budget) };
+    let reply = unsafe { raw::keshtiwol_run(start(program, &[0]), program.len(), vertices.0, vertices.1, edges.0, edges.1, tally, budget) };
     Run {
         ending: match reply.ending.said {
             raw::DONE => Ending::Done,
@@ -212,7 +223,7 @@ pub fn lowest(program: &[u8], vertices: &mut [u32], edges: &mut [u32], tally: &m
     let (mut no_vertex, mut no_edge) = ([0], [0]);
     let (vertices, edges) = (lend(vertices, &mut no_vertex), lend(edges, &mut no_edge));
     // SAFETY: as in `load`.
-    let reply = unsafe { raw::keshtiwol_lowest(start(program), program.len(), vertices.0, vertices.1, edges.0, edges.1, tally) };
+    let reply = unsafe { raw::keshtiwol_lowest(start(program, &[0]), program.len(), vertices.0, vertices.1, edges.0, edges.1, tally) };
     match reply.said {
         raw::VERTEX => Lowest::Vertex(reply.first),
         raw::NONE => Lowest::NoVertex,
@@ -249,6 +260,45 @@ fn numbered(vertices: &mut [u32], edges: &mut [u32], tally: &mut Tally, number: 
     unsafe { raw::keshtiwol_command(vertices.0, vertices.1, edges.0, edges.1, tally, number, caller, first, second) }
 }
 
+/// Shows the loop that an edge from source to target would close: writes the shortest chain of held edges that leads from target back to
+/// source into the list, and of equally short ones the first in vertex numbers. [`ROWS`] words are enough for every chain; words past
+/// it are not touched.
+///
+/// After a [`Command::NewEdge`] that was refused with 35 it tells why:
+///
+/// ```
+/// use keshtiwol::*;
+///
+/// let (mut vertices, mut edges, mut tally) = ([0; 4 * VERTEX_WORDS], [0; 4 * EDGE_WORDS], Tally::default());
+/// open(&mut vertices, &mut edges, &mut tally);
+/// let mut call = |what| command(&mut vertices, &mut edges, &mut tally, what);
+/// call(Command::Start { vertex: 0 });
+/// for _ in 1..4 {
+///     call(Command::NewTd { caller: 0, place: 0, scope: 0 });
+/// }
+/// call(Command::NewEdge { caller: 0, source: 1, target: 3 });
+/// call(Command::NewEdge { caller: 0, source: 3, target: 2 });
+/// let refused = Answer::Refused { number: refusal::CLOSES_CYCLE, place: 0 };
+/// assert_eq!(call(Command::NewEdge { caller: 0, source: 2, target: 1 }), refused);
+///
+/// let mut list = [0; ROWS];
+/// assert_eq!(chain(&vertices, &edges, &tally, 2, 1, &mut list), Chain::Written(3));
+/// assert_eq!(list[..3], [1, 3, 2]);
+/// ```
+pub fn chain(vertices: &[u32], edges: &[u32], tally: &Tally, source: u32, target: u32, list: &mut [u32]) -> Chain {
+    let (no_vertex, no_edge, mut no_word) = ([0], [0], [0]);
+    let (vertices, vertex_words) = (start(vertices, &no_vertex), vertices.len());
+    let (edges, edge_words) = (start(edges, &no_edge), edges.len());
+    let list = lend(list, &mut no_word);
+    // SAFETY: as in `load`. Tables and tally are shared, so they may overlap each other, but the engine only reads them.
+    let reply = unsafe { raw::keshtiwol_chain(vertices, vertex_words, edges, edge_words, tally, source, target, list.0, list.1) };
+    match reply.said {
+        raw::CHAIN => Chain::Written(reply.first),
+        raw::REFUSED => Chain::Refused { number: reply.first, place: reply.second },
+        _ => unknown("a search for a chain", reply),
+    }
+}
+
 /// A table as the interface wants it. Slices are never null and exclusive ones never overlap, but two empty ones may have the same
 /// address, so for those a word of their own stands in.
 fn lend(table: &mut [u32], spare: &mut [u32; 1]) -> (*mut u32, usize) {
@@ -258,11 +308,11 @@ fn lend(table: &mut [u32], spare: &mut [u32; 1]) -> (*mut u32, usize) {
     }
 }
 
-/// The same for a program, which is only read.
-fn start(program: &[u8]) -> *const u8 {
-    match program.len() {
-        0 => &0,
-        _ => program.as_ptr(),
+/// Where something begins that is only read; the same stands in for nothing.
+fn start<T>(lent: &[T], spare: &[T; 1]) -> *const T {
+    match lent.len() {
+        0 => spare.as_ptr(),
+        _ => lent.as_ptr(),
     }
 }
 
@@ -324,6 +374,6 @@ mod tests {
     #[test]
     #[should_panic(expected = "libkit.a answered a step with")]
     fn an_answer_that_the_header_does_not_name() {
-        answer(raw::Reply { said: 14, first: 0, second: 0 });
+        answer(raw::Reply { said: 15, first: 0, second: 0 });
     }
 }

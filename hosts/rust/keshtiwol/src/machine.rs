@@ -1,4 +1,4 @@
-use crate::{Answer, Lowest, Refusal, Run, Tally, EDGE_TABLE, VERTEX_TABLE};
+use crate::{Answer, Chain, Lowest, Refusal, Run, Tally, EDGE_TABLE, ROWS, VERTEX_TABLE};
 
 /// A loaded program with tables of its own, large enough for every program.
 #[derive(Clone, Debug)]
@@ -33,6 +33,19 @@ impl Machine {
     /// The lowest vertex that can step.
     pub fn lowest(&mut self) -> Lowest {
         crate::lowest(&self.program, &mut self.vertices, &mut self.edges, &mut self.tally)
+    }
+
+    /// The shortest chain of held edges that leads from target back to source, target first, and of equally short ones the first in
+    /// vertex numbers; or why there is none.
+    pub fn chain(&self, source: u32, target: u32) -> Result<Vec<u32>, Refusal> {
+        let mut list = vec![0; ROWS];
+        match crate::chain(&self.vertices, &self.edges, &self.tally, source, target, &mut list) {
+            Chain::Written(vertices) => {
+                list.truncate(vertices as usize);
+                Ok(list)
+            }
+            Chain::Refused { number, place } => Err(Refusal { number, place }),
+        }
     }
 
     /// Vertices made, edges held and steps taken so far.

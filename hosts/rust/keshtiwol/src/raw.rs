@@ -34,6 +34,7 @@ pub const VERTEX: u32 = 10;
 pub const DONE: u32 = 11;
 pub const STUCK: u32 = 12;
 pub const SPENT: u32 = 13;
+pub const CHAIN: u32 = 14;
 
 // The commands.
 pub const DO_NEW: u32 = 1;
@@ -99,6 +100,18 @@ extern "C" {
         first: u32,
         second: u32,
     ) -> Reply;
+
+    pub fn keshtiwol_chain(
+        vertices: *const u32,
+        vertex_words: usize,
+        edges: *const u32,
+        edge_words: usize,
+        tally: *const Tally,
+        source: u32,
+        target: u32,
+        list: *mut u32,
+        list_words: usize,
+    ) -> Reply;
 }
 
 #[cfg(test)]
@@ -130,12 +143,14 @@ mod tests {
             EDGE_WORDS SOURCE TARGET
             VERTEX_NEW VERTEX_RELEASED VERTEX_EXECUTING VERTEX_FINISHED
             PROGRAM_BYTES ROWS VERTEX_TABLE EDGE_TABLE STEP_LIMIT
-            REFUSED READY START NEW EDGE RELEASE TRANSFER JOB STOP NONE VERTEX DONE STUCK SPENT
+            REFUSED READY START NEW EDGE RELEASE TRANSFER JOB STOP NONE VERTEX DONE STUCK SPENT CHAIN
             LENGTH_OUTSIDE NUMBER_MALFORMED BYTE_UNKNOWN LEVEL_TOO_DEEP BYTES_RUN_OUT BYTES_AFTER_END JOB_TOO_LARGE TOO_MANY_VERTICES
             TOO_FEW_VERTEX_ROWS TOO_FEW_EDGE_ROWS UNSOUND_TABLES NOTHING_STARTS
             NO_SUCH_VERTEX EDGE_LEADS_IN VERTEX_IS_NEW VERTEX_IS_FINISHED VERTEX_IS_EXECUTING
             CALLER_NOT_EXECUTING NO_VERTEX_ROW NO_EDGE_ROW TARGET_NOT_WAITING EDGE_HELD CLOSES_CYCLE RELEASE_NOT_NEW
-            TRANSFER_NOT_NEW TRANSFER_HAS_EDGE_OUT NO_SUCH_COMMAND
+            TRANSFER_NOT_NEW TRANSFER_HAS_EDGE_OUT
+            NO_CHAIN LIST_TOO_SHORT
+            NO_SUCH_COMMAND
             DO_NEW DO_EDGE DO_RELEASE DO_TRANSFER DO_START DO_STOP
         ];
         assert_eq!(here, in_header);

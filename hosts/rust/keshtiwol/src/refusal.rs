@@ -32,6 +32,10 @@ pub const CLOSES_CYCLE: u32 = 35;
 pub const RELEASE_NOT_NEW: u32 = 36;
 pub const TRANSFER_NOT_NEW: u32 = 37;
 pub const TRANSFER_HAS_EDGE_OUT: u32 = 38;
+// Whoever asks for a chain.
+pub const NO_CHAIN: u32 = 41;
+pub const LIST_TOO_SHORT: u32 = 42;
+// A host that asks for a command by number.
 pub const NO_SUCH_COMMAND: u32 = 99;
 
 /// A refusal, for hosts that want it as an error.
@@ -71,6 +75,8 @@ pub fn text(number: u32) -> &'static str {
         RELEASE_NOT_NEW => "only a new vertex is released",
         TRANSFER_NOT_NEW => "edges are handed to a new vertex only",
         TRANSFER_HAS_EDGE_OUT => "the vertex that would get the edges has one already",
+        NO_CHAIN => "no chain of held edges leads from the target back to the source",
+        LIST_TOO_SHORT => "the chain has more vertices than the list has words",
         NO_SUCH_COMMAND => "no command has this number",
         _ => "unknown",
     }

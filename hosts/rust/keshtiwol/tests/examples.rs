@@ -163,6 +163,23 @@ fn budgets() {
     assert_eq!(machine.lowest(), Lowest::NoVertex);
 }
 
+/// What holds a vertex of a loaded program back: the listed one after five steps, and at its end.
+#[test]
+fn chains_of_a_program() {
+    let mut machine = Machine::load(&LISTED).unwrap();
+    assert_eq!(machine.chain(1, 0).unwrap(), [0, 1]);
+    machine.run(5);
+    assert_eq!(machine.chain(1, 3).unwrap(), [3, 2, 1]);
+    assert_eq!(machine.chain(2, 2).unwrap(), [2]);
+    let refused = |number| Refusal { number, place: 0 };
+    assert_eq!(machine.chain(3, 1).unwrap_err(), refused(41));
+    assert_eq!(machine.chain(1, 0).unwrap_err(), refused(41));
+    assert_eq!(machine.chain(4, 0).unwrap_err(), refused(20));
+    machine.run(STEP_LIMIT);
+    assert_eq!(machine.chain(4, 4).unwrap(), [4]);
+    assert_eq!(machine.chain(1, 4).unwrap_err(), refused(41));
+}
+
 #[test]
 fn a_refusal_reads_well() {
     let refusal = Machine::load(&[5]).unwrap_err();

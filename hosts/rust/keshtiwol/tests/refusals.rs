@@ -203,6 +203,9 @@ fn unsound_tables() {
         assert_eq!(lowest(&program, vertices, edges, tally), Lowest::Refused { number: 12, place: 0 });
         let refused = Run { ending: Ending::Refused { number: 12, place: 0 }, last: None, taken: 0 };
         assert_eq!(run(&program, vertices, edges, tally, 5), refused);
+        let mut list = [77; 2];
+        assert_eq!(chain(vertices, edges, tally, 0, 0, &mut list), Chain::Refused { number: 12, place: 0 });
+        assert_eq!(list, [77; 2]);
         assert_eq!(lent, spoilt);
     }
     // Steps are counted by steps and runs only.
@@ -227,6 +230,7 @@ fn tables_of_no_words() {
     assert_eq!(none.start(0), refused(refusal::NO_SUCH_VERTEX));
     let Lent { vertices, edges, tally } = &mut none;
     assert_eq!(lowest(&[], vertices, edges, tally), Lowest::NoVertex);
+    assert_eq!(chain(vertices, edges, tally, 0, 0, &mut []), Chain::Refused { number: 20, place: 0 });
     assert_eq!(run(&[], vertices, edges, tally, 5), Run { ending: Ending::Done, last: None, taken: 0 });
     // One row of vertices and none of edges is a machine already.
     let mut lent = Lent::bare(1, 0);
@@ -236,7 +240,7 @@ fn tables_of_no_words() {
 
 #[test]
 fn every_refusal_has_a_text() {
-    for number in [1, 2, 3, 4, 5, 6, 7, 8, 10, 11, 12, 13, 20, 21, 22, 23, 30, 31, 32, 33, 34, 35, 36, 37, 38, 39, 99] {
+    for number in [1, 2, 3, 4, 5, 6, 7, 8, 10, 11, 12, 13, 20, 21, 22, 23, 30, 31, 32, 33, 34, 35, 36, 37, 38, 39, 41, 42, 99] {
         assert_ne!(refusal::text(number), "unknown");
     }
 }

@@ -4,6 +4,7 @@
 //! A refused call changes nothing.
 #![forbid(unsafe_code)]
 
+mod chain;
 mod graph;
 mod read;
 mod steps;
@@ -70,6 +71,13 @@ pub enum Command {
 pub enum Lowest {
     Vertex(u32),
     NoVertex,
+    Refused { number: u32, place: u32 },
+}
+
+/// "answer how many vertices it has", or the refusal.
+#[derive(Clone, Copy, PartialEq, Eq, Debug)]
+pub enum Chain {
+    Written(u32),
     Refused { number: u32, place: u32 },
 }
 
@@ -179,4 +187,26 @@ pub fn lowest(program: &[u8], vertices: &[u32], edges: &[u32], tally: &Tally) ->
         Seek::Found(vertex, _) => Lowest::Vertex(vertex),
         Seek::Done | Seek::Stuck => Lowest::NoVertex,
     }
+}
+
+/// "For a source and a target, write into a lent list the shortest chain of held edges that leads from target back to source".
+/// "A vertex alone is the chain from itself to itself. Words past the chain are untouched".
+pub fn chain(vertices: &[u32], edges: &[u32], tally: &Tally, source: u32, target: u32, list: &mut [u32]) -> Chain {
+    let refused = |number| Chain::Refused { number, place: 0 };
+    let view = View::new(vertices, edges, tally);
+    if !view.sound() {
+        return refused(12);
+    }
+    if source >= tally.made || target >= tally.made {
+        return refused(20);
+    }
+    // "41 no chain, after 12 and 20; 42 list too short, after 41."
+    let Some(way) = view.way_back(source, target) else {
+        return refused(41);
+    };
+    let Some(words) = list.get_mut(..way.vertices()) else {
+        return refused(42);
+    };
+    way.write(target, words);
+    Chain::Written(words.len() as u32)
 }

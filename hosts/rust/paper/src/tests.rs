@@ -61,6 +61,30 @@ impl Lent {
         lowest(program, &self.vertices, &self.edges, &self.tally)
     }
 
+    /// Into a list of so many words: the chain or the refusal's number. Behind the list stand words that are looked at afterwards.
+    fn chain_in(&self, source: u32, target: u32, words: usize) -> Result<Vec<u32>, u32> {
+        const UNTOUCHED: u32 = 0xFFFF_FF00;
+        let mut list = vec![UNTOUCHED; words + 3];
+        let answer = chain(&self.vertices, &self.edges, &self.tally, source, target, &mut list[..words]);
+        let written = match answer {
+            Chain::Written(count) => count as usize,
+            Chain::Refused { .. } => 0,
+        };
+        assert!(list[written..].iter().all(|&word| word == UNTOUCHED), "{answer:?}: {list:?}");
+        list.truncate(written);
+        match answer {
+            Chain::Written(_) => Ok(list),
+            Chain::Refused { number, place } => {
+                assert_eq!(place, 0);
+                Err(number)
+            }
+        }
+    }
+
+    fn chain(&self, source: u32, target: u32) -> Result<Vec<u32>, u32> {
+        self.chain_in(source, target, MOST_ROWS)
+    }
+
     fn row(&self, vertex: usize) -> Row {
         self.vertices[VERTEX_WORDS * vertex..VERTEX_WORDS * (vertex + 1)].try_into().unwrap()
     }
@@ -585,6 +609,189 @@ fn long_paths() {
     assert_eq!(lent.command(edge(0, 2)), Answer::Edge(0, 2));
     assert_eq!(lent.command(Command::Transfer { caller: 0, vertex: 1023 }), refusal(35, 0));
     assert_eq!(lent.command(edge(0, 5)), refusal(32, 0));
+}
+
+// --- Chains ------------------------------------------------------------------------------------
+
+/// Every chain "of held edges that leads from target back to source" and meets no vertex twice, by trying them all.
+fn all_chains(edges: &[(u32, u32)], source: u32, begun: &[u32], found: &mut Vec<Vec<u32>>) {
+    let last = begun[begun.len() - 1];
+    if last == source {
+        found.push(begun.to_vec());
+        return;
+    }
+    for &(from, to) in edges {
+        if from == last && !begun.contains(&to) {
+            all_chains(edges, source, &[begun, &[to]].concat(), found);
+        }
+    }
+}
+
+/// Edges among so many vertices: any, with loops, repeated ones and cycles among them, or only from one layer to the next, so that many
+/// chains are equally long.
+fn random_edges(dice: &mut Dice, n: usize) -> Vec<Edge> {
+    let layers = if dice.one_in(2) { 3 + dice.below(2) } else { 1 };
+    let turn = dice.below(layers);
+    let layer = |vertex: usize| (vertex + turn) % layers;
+    let mut edges = Vec::new();
+    for _ in 0..dice.below(if layers > 1 { 12 * n } else { 3 * n }) {
+        let (a, b) = (dice.below(n), dice.below(n));
+        if layers == 1 || layer(a) + 1 == layer(b) {
+            edges.push([a as u32, b as u32]);
+        }
+    }
+    edges
+}
+
+#[test]
+fn chains_are_the_best_of_all() {
+    let mut dice = Dice(41);
+    let (mut alone, mut longer, mut none, mut chosen) = (0, 0, 0, 0);
+    for _ in 0..2000 {
+        let n = 1 + dice.below(9);
+        let edges = random_edges(&mut dice, n);
+        let statuses: Vec<u32> = (0..n).map(|_| 1 + dice.below(4) as u32).collect();
+        let lent = graph(&statuses, &edges, dice.below(2));
+        let mut held = lent.held();
+        held.sort();
+        held.dedup();
+        for (source, target) in (0..n as u32).flat_map(|source| (0..n as u32).map(move |target| (source, target))) {
+            let mut all = Vec::new();
+            all_chains(&held, source, &[target], &mut all);
+            // "No shorter chain exists, and of equal ones it is the first in vertex numbers."
+            let Some(best) = all.iter().min_by_key(|chain| (chain.len(), *chain)) else {
+                none += 1;
+                assert_eq!(lent.chain(source, target), Err(41), "{edges:?} {source} {target}");
+                assert_eq!(lent.chain_in(source, target, 0), Err(41));
+                continue;
+            };
+            alone += u32::from(best.len() == 1);
+            longer += u32::from(best.len() > 3);
+            chosen += u32::from(all.iter().filter(|chain| chain.len() == best.len()).count() > 1);
+            for words in [best.len(), best.len() + dice.below(5), MOST_ROWS] {
+                assert_eq!(lent.chain_in(source, target, words).as_ref(), Ok(best), "{edges:?} {source} {target}");
+            }
+            for words in [best.len() - 1, dice.below(best.len()), 0] {
+                assert_eq!(lent.chain_in(source, target, words), Err(42));
+            }
+        }
+    }
+    assert!([alone, longer, none, chosen].iter().all(|&times| times > 1000), "{alone} {longer} {none} {chosen}");
+}
+
+#[test]
+fn chains_by_hand() {
+    // Of two as short, which differ late, the first; the higher row does not matter.
+    let two = [[1, 4], [4, 3], [4, 2], [3, 5], [2, 5]];
+    assert_eq!(graph(&[1; 6], &two, 0).chain(5, 1), Ok(vec![1, 4, 2, 5]));
+    // The first word that differs decides, not the last.
+    let crossed = [[1, 2], [1, 3], [2, 5], [3, 4], [5, 6], [4, 6]];
+    assert_eq!(graph(&[1; 7], &crossed, 0).chain(6, 1), Ok(vec![1, 2, 5, 6]));
+    // A shorter one through higher vertices comes before a longer one through lower ones.
+    let detour = [[5, 0], [0, 1], [1, 2], [5, 4], [4, 3], [3, 2], [5, 6], [6, 2]];
+    assert_eq!(graph(&[1; 7], &detour, 0).chain(2, 5), Ok(vec![5, 6, 2]));
+    // An edge from the one to the other, also where it is held twice, and not the way against it.
+    let pair = graph(&[1; 2], &[[1, 0], [1, 0]], 0);
+    assert_eq!(pair.chain(0, 1), Ok(vec![1, 0]));
+    assert_eq!(pair.chain(1, 0), Err(41));
+    // "A vertex alone is the chain from itself to itself", on a loop, in a cycle and without an edge.
+    let round = graph(&[1; 4], &[[0, 0], [1, 2], [2, 1]], 0);
+    for vertex in 0..4 {
+        assert_eq!(round.chain_in(vertex, vertex, 1), Ok(vec![vertex]));
+        assert_eq!(round.chain_in(vertex, vertex, 0), Err(42));
+    }
+    // Statuses and rows that are not held do not matter.
+    let mut lent = graph(&[4, 4, 4], &[[0, 1], [1, 2]], 1);
+    assert_eq!(lent.chain(2, 0), Ok(vec![0, 1, 2]));
+    lent.tally.held = 1;
+    assert_eq!(lent.chain(2, 0), Err(41));
+}
+
+#[test]
+fn the_longest_chain() {
+    let statuses = [1; 1024];
+    let forwards: Vec<Edge> = (0..1023).map(|v| [v, v + 1]).collect();
+    let backwards: Vec<Edge> = forwards.iter().rev().copied().collect();
+    for edges in [forwards, backwards] {
+        let lent = graph(&statuses, &edges, 3);
+        assert_eq!(lent.chain_in(1023, 0, 1024), Ok((0..1024).collect()));
+        assert_eq!(lent.chain_in(1023, 0, 1030), Ok((0..1024).collect()));
+        assert_eq!(lent.chain_in(1023, 0, 1023), Err(42));
+        assert_eq!(lent.chain_in(1022, 0, 1023), Ok((0..1023).collect()));
+        assert_eq!(lent.chain(0, 1023), Err(41));
+    }
+}
+
+/// "Turned away: 41 no chain, after 12 and 20; 42 list too short, after 41."
+#[test]
+fn chains_refuse_in_order() {
+    let lent = graph(&[1, 1, 1], &[[0, 1]], 0);
+    for words in [0, 1, 5] {
+        for (source, target) in [(3, 0), (0, 3), (3, 3), (u32::MAX, 0), (0, u32::MAX)] {
+            assert_eq!(lent.chain_in(source, target, words), Err(20));
+        }
+        assert_eq!(lent.chain_in(0, 1, words), Err(41));
+    }
+    assert_eq!(lent.chain_in(1, 0, 1), Err(42));
+    let spoil: [fn(&mut Lent); 8] = [
+        |lent| lent.tally.made = 4,
+        |lent| lent.tally.held = 2,
+        |lent| lent.tally.made = u32::MAX,
+        |lent| lent.tally.held = u32::MAX,
+        |lent| lent.vertices[2 * VERTEX_WORDS + STATUS] = 0,
+        |lent| lent.vertices[STATUS] = 5,
+        |lent| lent.edges[0] = 3,
+        |lent| lent.edges[1] = u32::MAX,
+    ];
+    for spoil in spoil {
+        let mut spoilt = lent.clone();
+        spoil(&mut spoilt);
+        for (source, target) in [(1, 0), (0, 1), (3, 9)] {
+            for words in [0, 2] {
+                assert_eq!(spoilt.chain_in(source, target, words), Err(12));
+            }
+        }
+    }
+    // The steps are not looked at.
+    let mut late = lent.clone();
+    late.tally.steps = u32::MAX;
+    assert_eq!(late.chain(1, 0), Ok(vec![0, 1]));
+    // Nothing made: sound, and no vertex is one. Only the first 1,024 rows count.
+    assert_eq!(graph(&[], &[], 0).chain(0, 0), Err(20));
+    let mut long = graph(&[1; 1030], &[], 1);
+    assert_eq!(long.chain(0, 0), Err(12));
+    long.tally.made = 1024;
+    assert_eq!(long.chain(1024, 0), Err(20));
+    assert_eq!(long.chain(1023, 1023), Ok(vec![1023]));
+}
+
+/// "The cycle check accepts just where this finds none."
+#[test]
+fn chains_are_what_the_cycle_check_refuses() {
+    let mut dice = Dice(350);
+    let mut seen = [0; 4];
+    for _ in 0..4000 {
+        let n = 2 + dice.below(9);
+        let edges: Vec<Edge> = (0..dice.below(2 * n)).map(|_| [dice.below(n) as u32, dice.below(n) as u32]).collect();
+        let mut statuses = vec![1; n];
+        statuses[0] = 3;
+        let lent = graph(&statuses, &edges, 1);
+        let (source, vertex) = (dice.below(n) as u32, 1 + dice.below(n - 1) as u32);
+        let commands = [
+            (Command::NewEdge { caller: 0, source, target: vertex }, lent.chain(source, vertex)),
+            (Command::Transfer { caller: 0, vertex }, lent.chain(vertex, 0)),
+        ];
+        for (at, (command, chain)) in commands.into_iter().enumerate() {
+            let found = match lent.clone().command(command) {
+                Answer::Refused { number: 35, .. } => true,
+                answer if is_refused(answer) => continue,
+                _ => false,
+            };
+            seen[2 * at + usize::from(found)] += 1;
+            assert_eq!(chain.err(), if found { None } else { Some(41) }, "{edges:?} {command:?}");
+        }
+    }
+    assert!(seen.iter().all(|&times| times > 100), "{seen:?}");
 }
 
 // --- Steps and runs ----------------------------------------------------------------------------

@@ -1,0 +1,25 @@
+-- `keshtiwol_chain` meets its contract, by the law of thin entries that only read the tally, over `chain_to_numbers` (crate graph,
+-- proofs/Thin/Reading.antt). What the law is told: the type of replies, and the relation that both contracts ensure.
+-- Assumes nothing.
+use denote.Struct.Laws as LL
+use Rattle.graph.proofs.Thin.Reading.{Returned, reading-meets}
+use Rattle.chains.specs.Showing.{showChain}
+use Rattle.kit.specs.Numbers.{ChainReplied}
+use Rattle.kit.proofs.Reply as R
+use Rattle.kit.proofs.Reply.Laws as R′
+use Rattle.kit.proofs.cores.chain_to_numbers.Symbol as core-def
+use Rattle.kit.proofs.cores.chain_to_numbers.Symbol.{name as #core}
+use Rattle.kit.proofs.cores.chain_to_numbers.Met as core-thm
+use Rattle.kit.proofs.keshtiwol_chain.Key.{name as #chain}
+use Rattle.kit.proofs.keshtiwol_chain.Statement as stated
+use Rattle.kit.proofs.keshtiwol_chain.Code as code
+
+-- the type of replies
+abbrev replies : Returned
+replies = record { row = R.the-row; type = R′.mir; typed = λ 𝓤 H A W r vs is. LL.lawful R.the-type R′.the-laws 𝓤 H A W .typed r vs is }
+
+pub keshtiwol-chain-spec : {M : Type 1} → stated.statement M
+unfolding code.routine
+keshtiwol-chain-spec 𝓤 H 𝓜 𝓖 𝓡 =
+    reading-meets replies (λ s source target list. ChainReplied (showChain s source target list))
+    𝓤 H 𝓜 𝓖 𝓡 code.env #chain #core core-def.routine (code.unfolded 𝓤 H 𝓜 𝓡) code.calls-kit·cores·chain-to-numbers (core-thm.met 𝓤 H 𝓜 𝓖 𝓡)
