@@ -7,6 +7,7 @@ The model keeps whole chains, and compares them as the note does: first by their
 
 import heapq
 
+from cases import next_state, total
 from rows import EDGE_TABLE, EDGE_WORDS, USABLE, VERTEX_TABLE, VERTEX_WORDS
 
 NEW = 1
@@ -49,13 +50,6 @@ def chain(vertices, edges, made, held, source, target, words):
 
 def said(word, number):
     return f"refused {number} 0" if word == "refused" else f"chain {number}"
-
-
-def total(words):
-    sum = 0
-    for w in words:
-        sum = (sum * 31 + w + 1) % 1000003
-    return sum
 
 
 def call(vertices, edges, made, held, source, target, words):
@@ -112,7 +106,7 @@ for reversed in (False, True):
 def draws(state):
     while True:
         yield state
-        state = (state % 2**31 * 1103515245 + 12345) % 2**31
+        state = next_state(state)
 
 
 def drawn(seed):

@@ -10,6 +10,7 @@ made only to write their sums."""
 from copy import deepcopy
 from functools import lru_cache
 
+from cases import next_state, total
 from rows import EDGE_TABLE, EDGE_WORDS, VERTEX_TABLE, VERTEX_WORDS
 
 NEW, RELEASED, EXECUTING, FINISHED = 1, 2, 3, 4
@@ -297,13 +298,6 @@ class Shop:
             last, taken = self.step(me), taken + 1
 
 
-def total(words):
-    sum = 0
-    for w in words:
-        sum = (sum * 31 + w + 1) % 1000003
-    return sum
-
-
 def left(shop):
     return "| {} {} {} | {} {}".format(*shop.numbers(), *map(total, shop.words()))
 
@@ -325,7 +319,7 @@ def ran(shop, budget):
 def drawn(length, seed):
     words = []
     for k in range(length):
-        seed = (seed * 1103515245 + 12345) % 2**31
+        seed = next_state(seed)
         draw = seed // 4096 % 40
         words.append((draw // 2 % 4 + 1 if draw % 2 else 3) if k % VERTEX_WORDS == 0 else draw % 5)
     return words
@@ -371,14 +365,10 @@ def examples():
     ran(shop, 5)
 
 
-def random(seed):
-    return (seed * 1103515245 + 12345) % 2**31
-
-
 def draw_program(seed, room):
     program, pending = bytearray(), 1
     while pending:
-        seed = random(seed)
+        seed = next_state(seed)
         kind = "0001112234"[seed // 4096 % 10]
         if kind in "234" and pending > 12:
             kind = "1"
@@ -443,7 +433,7 @@ def turns(shop, order, seed):
     for turn in range(30000):
         if shop.steps == needed(shop.data):
             break
-        seed, made = random(seed), len(shop.vertices)
+        seed, made = next_state(seed), len(shop.vertices)
         vertex = [None, turn % (made + 2), made + 1 - turn % (made + 2), seed // 4096 % (made + 2)][order]
         answer = attempt(shop.step, shop.lowest() if order == 0 else vertex)
         if isinstance(answer, Refused):

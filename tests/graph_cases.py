@@ -5,6 +5,7 @@
 
 The model keeps vertices and edges as Python lists, and looks for paths by plain depth-first search."""
 
+from cases import next_state, total
 from rows import EDGE_TABLE, EDGE_WORDS, USABLE, VERTEX_TABLE, VERTEX_WORDS
 
 NEW, RELEASED, EXECUTING, FINISHED = 1, 2, 3, 4
@@ -128,13 +129,6 @@ class Machine:
         print(f"{answer} | {self.made} {self.held} {self.steps} | {total(self.v)} {total(self.e)}")
 
 
-def total(words):
-    sum = 0
-    for w in words:
-        sum = (sum * 31 + w + 1) % 1000003
-    return sum
-
-
 class Draw:
     def __init__(self, state):
         self.state = state
@@ -142,7 +136,7 @@ class Draw:
     def next(self, times=1):
         state = self.state
         for _ in range(times):
-            state = (state % 2**31 * 1103515245 + 12345) % 2**31
+            state = next_state(state)
         return Draw(state)
 
     def below(self, limit):

@@ -11,10 +11,8 @@ use graph::Tally;
 use graph::rows::EDGE_WORDS;
 use graph::rows::NEW;
 use graph::rows::STATUS;
-use graph::rows::USABLE_LIMIT;
 use graph::rows::VERTEX_WORDS;
 ghost use mathlib.Core.Path.{_≡_};
-ghost use Prim.Native.Nat.{_*_, _≤_, _<_};
 ghost use lib.ListN.{length};
 
 // The pairs that are asked for: numbers below this.
@@ -123,21 +121,4 @@ fn asked(
         Answer::Chain(vertices) => vertices,
         Answer::Refused(refusal) => 100 + refusal.number % 100,
     }
-}
-
-// The edges 0 → 1, 1 → 2, .. in as many rows as there are, or from the last row on.
-pub(crate) fn path(edges: &mut [u32], reversed: bool) {
-    for i in 0..edges.len() {
-        let source = source_of(i / EDGE_WORDS % USABLE_LIMIT, reversed) % USABLE_LIMIT;
-        edges[i] = ((source + i % EDGE_WORDS) % USABLE_LIMIT) as u32;
-    }
-}
-
-fn source_of(row: usize, reversed: bool) -> usize
-    requires { ⌜ row < 1024 ⌝ }
-{
-    if reversed {
-        return 2 * USABLE_LIMIT - 2 - row;
-    }
-    row
 }

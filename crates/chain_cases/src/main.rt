@@ -3,19 +3,16 @@
 // hundred drawn graphs, cyclic ones among them, in which every pair of vertices is asked for.
 // tests/chain_cases.py computes the same lines from a model of its own; `stdout` holds them.
 mod drawn;
+mod long;
 mod show;
 
 use cases::text;
 use graph::Tally;
-use graph::rows::EDGE_TABLE;
-use graph::rows::EDGE_WORDS;
 use graph::rows::NEW;
 use graph::rows::STATUS;
-use graph::rows::USABLE_LIMIT;
-use graph::rows::VERTEX_TABLE;
 use graph::rows::VERTEX_WORDS;
 
-// Edges by source and target, from a vertex to itself and round a cycle among them.
+// Edges by source and target, the last of them from a vertex to itself.
 const EDGES: [u32; 24] = [
     0,
     1,
@@ -43,7 +40,7 @@ const EDGES: [u32; 24] = [
     8,
 ];
 
-fn tally(made: u32, held: u32) -> Tally {
+pub(crate) fn tally(made: u32, held: u32) -> Tally {
     Tally {
         made,
         held,
@@ -54,7 +51,7 @@ fn tally(made: u32, held: u32) -> Tally {
 fn main() {
     small();
     refused();
-    long();
+    long::all();
     drawn::all();
 }
 
@@ -74,7 +71,8 @@ fn asked(made: u32, held: u32, source: u32, target: u32, words: usize) {
     }
 }
 
-// Chains of equal length that differ late, and one more that is as long; a shorter one with higher numbers; a vertex alone, on a loop too.
+// Two chains of equal length that differ late, against a longer one with lower numbers; two that differ at once; a vertex alone, on a loop too;
+// no chain; lists just long enough and one short.
 fn small() {
     text(b"small\n");
     asked(9, 12, 5, 0, 8);
@@ -112,35 +110,4 @@ fn unknown_status() {
     vertices[VERTEX_WORDS + STATUS] = 5;
     show::call(&vertices, &EDGES, tally(2, 1), 1, 0, &mut list);
     show::call(&vertices, &EDGES, tally(1, 0), 0, 0, &mut list);
-}
-
-// The edges 0 → 1 → 2 → .. → 1,023, in this order and in the other, and lists with room for the chain, or for all of it but one vertex.
-fn long() {
-    text(b"long\n");
-    path(false);
-    path(true);
-}
-
-fn path(reversed: bool) {
-    let mut edges = [0u32; EDGE_TABLE];
-    drawn::path(&mut edges, reversed);
-    asked_long(&edges, 1023, 0, 1023);
-    asked_long(&edges, 1023, 0, 1024);
-    asked_long(&edges, 1022, 5, 1026);
-    asked_long(&edges, 0, 1023, 1026);
-}
-
-fn asked_long(edges: &[u32], source: u32, target: u32, words: usize) {
-    let vertices = [NEW; VERTEX_TABLE];
-    let mut list = [77u32; USABLE_LIMIT + 2];
-    if words <= USABLE_LIMIT + 2 {
-        show::sum_of_call(
-            &vertices,
-            edges,
-            tally(1024, 1023),
-            source,
-            target,
-            &mut list[..words],
-        );
-    }
 }

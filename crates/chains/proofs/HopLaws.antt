@@ -91,6 +91,12 @@ module _ (s : Lent) (known : sound s ≡ true) where
 
 -- on any set of edges
 module _ {E : ℕ → ℕ → Bool} where
+  pub none-same : {a b : ℕ} → Hops E 0 a b → a ≡ b
+  none-same here = refl
+
+  pub first-hop : {k a b : ℕ} → Hops E (suc k) a b → (x : ℕ) × (E a x ≡ true) × Hops E k x b
+  first-hop (hop {b = x} e h) = (x, e, h)
+
   pub chain-hops : {a b : ℕ} {l : List ℕ} → Chain E a b l → (k : ℕ) × (length l ≡ suc k) × Hops E k a b
   chain-hops alone = (0, refl, here)
   chain-hops (link e c) = let (k, q, h) = chain-hops c in (suc k, ap suc q, hop e h)

@@ -1,7 +1,7 @@
 -- What the search has measured is what the definitions ask for: the distance, and from each vertex of the walk the next one.
 use Prim.Native.Nat.{ℕ, zero, suc, _<_, _≤_}
 use mathlib.Core.Path.{_≡_, refl, sym, _∙_, ap, subst}
-use mathlib.Core.Bool.{Bool, true, false}
+use mathlib.Core.Bool.{true, false}
 use mathlib.Core.Logic.{⊎-elim}
 use mathlib.Core.List.{List, [], _∷_}
 use mathlib.Core.Option.{Option, none, some, Option·elim}
@@ -17,17 +17,10 @@ use Rattle.graph.proofs.PathLaws.{hops-leads, path-reaches}
 use Rattle.graph.proofs.SoundLaws.{sound-fits}
 use Rattle.chains.specs.Chains.{heldEdge, distance, nextVertex, firstChain, ofLength, shortestChain}
 use Rattle.chains.specs.Internal.Walk.{isNearer, Nearest, walk, Walkable}
-use Rattle.chains.proofs.ShortPaths.{short-path}
-use Rattle.chains.proofs.HopLaws.{distance-is, distance-none, next-is}
+use Rattle.chains.proofs.ShortPaths.{NoneShorter, short-path}
+use Rattle.chains.proofs.HopLaws.{none-same, first-hop, distance-is, distance-none, next-is}
 use Rattle.chains.proofs.ChainLaws.{first-chain}
 use Rattle.chains.proofs.NearestLaws.{at-goal, elsewhere}
-
--- no edge leads nowhere else
-none-same : {E : ℕ → ℕ → Bool} {a b : ℕ} → Hops E 0 a b → a ≡ b
-none-same here = refl
-
-first-hop : {E : ℕ → ℕ → Bool} {k a b : ℕ} → Hops E (suc k) a b → (x : ℕ) × (E a x ≡ true) × Hops E k x b
-first-hop (hop {b = x} e h) = (x, e, h)
 
 of-distance : (s : Lent) (a b : ℕ) {o : Option ℕ} → distance s a b ≡ o → shortestChain s a b ≡ ofLength o s a b
 unfolding shortestChain
@@ -79,7 +72,7 @@ module _ {s : Lent} {a b : ℕ} {m : List ℕ} (g : GotBack s a b m) where
   pub chain-long : length (firstChain s (mark a) a b) ≡ suc (mark a)
   chain-long = first-chain s known (mark a) a b (measured .leads a a-marked) .1
 
-  none-shorter : (k : ℕ) → k < mark a → Hops (heldEdge s) k a b → ⊥
+  none-shorter : NoneShorter (heldEdge s) (mark a) a b
   none-shorter zero lt h = g .apart (sym (none-same h))
   none-shorter (suc k) lt h = let le = measured .least a k a-marked h in omega arith
 

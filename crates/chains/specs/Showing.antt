@@ -29,8 +29,9 @@ pub record ChainOutcome : Type 0 where
   pub answer : ChainSaid
   pub list : List ℕ
 
-abbrev pub showed : Answer → List ℕ → ChainOutcome
-showed a l = record { answer = chainSaid a; list = l }
+-- the outcome that the code gives: its answer, and the list at exit
+abbrev pub answered : Answer → List ℕ → ChainOutcome
+answered a l = record { answer = chainSaid a; list = l }
 
 -- "a refusal, here or later, changes nothing that is lent"; these have the place 0
 abbrev pub refusedWith : ℕ → List ℕ → ChainOutcome

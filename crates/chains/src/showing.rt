@@ -19,7 +19,7 @@ ghost use Prim.Native.Nat.{_<_};
 ghost use Rattle.graph.specs.Tables.{lent};
 ghost use Rattle.graph.specs.Sound.{sound};
 ghost use Rattle.chains.specs.Chains.{shortestChain};
-ghost use Rattle.chains.specs.Showing.{showed, chainSaid, chain-refused, shown, showChain};
+ghost use Rattle.chains.specs.Showing.{answered, chainSaid, chain-refused, shown, showChain};
 
 fn refused(number: u32) -> Answer
     ensures { λ r. ⌜ chainSaid r ≡ chain-refused number 0 ⌝ }
@@ -29,7 +29,7 @@ fn refused(number: u32) -> Answer
 
 // The chain from a vertex to itself.
 fn write_alone(vertex: u32, list: &mut [u32]) -> Answer
-    ensures { λ r. ⌜ showed r (now (list .exit)) ≡ shown (some (vertex ∷ [])) (now (list .entry)) ⌝ }
+    ensures { λ r. ⌜ answered r (now (list .exit)) ≡ shown (some (vertex ∷ [])) (now (list .entry)) ⌝ }
 {
     if list.len() == 0 {
         return refused(LIST_TOO_SHORT);
@@ -49,7 +49,7 @@ fn write_shortest(
 ) -> Answer
     requires { ⌜ sound (lent (now vertices) (now edges) tally) ≡ true ⌝ }
     requires { ⌜ (source < tally .made) × (target < tally .made) × (source ≡ target → ⊥) ⌝ }
-    ensures { λ r. ⌜ showed r (now (list .exit)) ≡ shown (shortestChain (lent (now (vertices .entry)) (now (edges .entry)) tally) target source) (now (list .entry)) ⌝ }
+    ensures { λ r. ⌜ answered r (now (list .exit)) ≡ shown (shortestChain (lent (now (vertices .entry)) (now (edges .entry)) tally) target source) (now (list .entry)) ⌝ }
 {
     let held = tally.held as usize;
     let mut distances = [0; USABLE_LIMIT];
@@ -76,7 +76,7 @@ pub fn chain_by_value(
     target: u32,
     list: &mut [u32],
 ) -> Answer
-    ensures { λ r. ⌜ showed r (now (list .exit)) ≡ showChain (lent (now (vertices .entry)) (now (edges .entry)) tally) source target (now (list .entry)) ⌝ }
+    ensures { λ r. ⌜ answered r (now (list .exit)) ≡ showChain (lent (now (vertices .entry)) (now (edges .entry)) tally) source target (now (list .entry)) ⌝ }
 {
     if !is_sound(vertices, edges, tally) {
         return refused(UNSOUND_TABLES);

@@ -1,5 +1,5 @@
--- What the private functions of the path search promise one another. This serves the proof of the search, and nobody has to believe
--- it: `reaches` of src/paths.rt is held to `reaches` of Paths.
+-- What the functions of the path search promise one another, and the crate `chains`. This serves the proofs of the code, and nobody has to
+-- believe it: `reaches` of src/paths.rt is held to `reaches` of Paths, and `chains` to definitions of its own.
 --
 -- The search goes backwards from the vertex to be reached, breadth first. A vertex is marked once a path of one or more edges is
 -- known to lead from it to that vertex, and is put into the queue at the same time. Its mark is its distance, the number of edges of the

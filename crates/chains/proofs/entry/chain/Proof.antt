@@ -4,7 +4,7 @@
 use mathlib.Core.Path.{_≡_}
 use denote.Enum.Laws as EL
 use Rattle.graph.proofs.Thin.Reading.{Returned, reading-meets}
-use Rattle.chains.specs.Showing.{showed, showChain}
+use Rattle.chains.specs.Showing.{answered, showChain}
 use Rattle.chains.proofs.Answer as N
 use Rattle.chains.proofs.Answer.Laws as N′
 use Rattle.chains.proofs.showing.chain_by_value.Symbol as core-def
@@ -21,5 +21,5 @@ answers = record { row = N.the-row; type = N′.mir; typed = λ 𝓤 H A W r vs 
 pub chain-spec : {M : Type 1} → stated.statement M
 unfolding code.routine
 chain-spec 𝓤 H 𝓜 𝓖 𝓡 =
-    reading-meets answers (λ s source target list answer after. showed answer after ≡ showChain s source target list)
+    reading-meets answers (λ s source target list answer after. answered answer after ≡ showChain s source target list)
     𝓤 H 𝓜 𝓖 𝓡 code.env #chain #core core-def.routine (code.unfolded 𝓤 H 𝓜 𝓡) code.calls-chains·showing·chain-by-value (core-thm.met 𝓤 H 𝓜 𝓖 𝓡)
