@@ -9,16 +9,16 @@ use Rattle.graph.specs.declared.Command.{Command}
 use Rattle.graph.specs.declared.Command.the-variants.{NewTd, NewEdge, Release, Transfer, Start, Stop}
 use Rattle.graph.specs.Tables.{Lent, NEW, RELEASED, EXECUTING, FINISHED, status}
 use Rattle.graph.specs.Sound.{sound}
-use Rattle.graph.specs.Paths.{Leads, CycleFree, reaches}
-use Rattle.graph.specs.Rules.{Graph, X, NEWEDGE, TRANSFER, Printed, isFinished}
-use Rattle.graph.specs.Commands.{withVertex, stopped}
+use Rattle.graph.specs.Paths.{Leads, CycleFree, holds, reaches}
+use Rattle.graph.specs.Rules.{Graph, X, NEWEDGE, TRANSFER, Printed}
+use Rattle.graph.specs.Commands.{withVertex, addsNothing, stopped}
 use Rattle.graph.specs.Demand2.{graph, RowFree}
-use Rattle.graph.proofs.TestLaws.{not-so, true-false, equal?}
+use Rattle.graph.proofs.TestLaws.{not-so, true-false, decide}
 use Rattle.graph.proofs.PathLaws.{Stays, path-reaches, reaches-path}
 use Rattle.graph.proofs.EdgeLaws.{none-into, none-out-of, Is, OneMore, Moved, without-is}
 use Rattle.graph.proofs.SoundLaws.{sound-fits}
-use Rattle.graph.proofs.TakenLaws.{leaves, Runs, Adds, TakenNewEdge, TakenTransfer, Taken}
-use Rattle.graph.proofs.RuleLaws.{added-is, transferred-is, disjoint-added}
+use Rattle.graph.proofs.TakenLaws.{leaves, Runs, Adds, TakenNewEdge, TakenTransfer, Taken, adds-nothing, adds-one}
+use Rattle.graph.proofs.RuleLaws.{added-is, transferred-is}
 use Rattle.graph.proofs.GraphLaws.{shown-some, domain-shown, shown-live}
 use Rattle.graph.proofs.EffectLaws.{inside, leaves-all, leaves-edge, withEdge-is, withMoved-is}
 use Rattle.graph.proofs.CycleLaws.{fewer-free, one-more-free, one-more-cycle, moved-free, moved-cycle, target-reaches}
@@ -37,7 +37,7 @@ leaves-acyclic (NewEdge t t1 t2) s h free =
     ⊎-elim
     (λ p. subst (λ (z : Lent). CycleFree (graph z .edge)) (sym (leaves-all s t t1 t2 p)) free)
     (λ p.
-    subst (λ (z : Lent). CycleFree (graph z .edge)) (sym (leaves-edge s t t1 t2 (p .not-finished)))
+    subst (λ (z : Lent). CycleFree (graph z .edge)) (sym (leaves-edge s t t1 t2 p))
     (one-more-free (withEdge-is s t1 t2 (p .row-free)) free (⊎-elim (λ q. p .not-same (sym q)) (not-found s t2 t1 (p .no-path)))))
     (h .1 .adds)
 leaves-acyclic (Release t t') s h free = free
@@ -65,29 +65,31 @@ newEdge-taken s t t1 t2 G' known r row =
           (λ p. inl (shown-some (s .vertices) (s .made) t2 NEW p .1))
           (λ p. inr (shown-some (s .vertices) (s .made) t2 RELEASED p .1))
           (r .target-waits);
-      adds = ⊎-elim inl (λ ne. inr (adding ne)) (equal? (status (s .vertices) t1) FINISHED);
+      adds = ⊎-elim (λ p. inl (adds-nothing s t1 t2 .0 p)) (λ p. inr (adding p (adds-one s t1 t2 .0 p))) (decide (addsNothing s t1 t2));
     }
   where
     made : t1 < s .made
     made = domain-shown (s .vertices) (s .made) t1 (r .source-in)
 
-    live : (status (s .vertices) t1 ≡ FINISHED → ⊥) → isFinished (graph s .status t1) ≡ false
-    live = shown-live (s .vertices) (s .made) t1 made
-
     no-way : (status (s .vertices) t1 ≡ FINISHED → ⊥) → Stays (graph s .edge) t2 t1 → ⊥
     no-way ne =
         one-more-cycle
-        (subst (λ (G : Graph). Is (G .edge) (OneMore (graph s .edge) t1 t2)) (sym (r .after)) (added-is (graph s) t1 t2 (live ne)))
+        (subst
+        (λ (G : Graph). Is (G .edge) (OneMore (graph s .edge) t1 t2))
+        (sym (r .after))
+        (added-is (graph s) t1 t2 (shown-live (s .vertices) (s .made) t1 made ne)))
         (r .cycle-free)
 
-    adding : (status (s .vertices) t1 ≡ FINISHED → ⊥) → Adds s t1 t2
-    adding ne =
+    adding :
+        addsNothing s t1 t2 ≡ false → (status (s .vertices) t1 ≡ FINISHED → ⊥) × (holds (s .edges) (s .held) t1 t2 ≡ false)
+        → Adds s t1 t2
+    adding one h =
         record {
-          not-finished = ne;
-          not-held = disjoint-added (graph s) t1 t2 (r .disjoint) (live ne);
-          not-same = λ q. no-way ne (inl (sym q));
-          no-path = none-found s t2 t1 (λ p. no-way ne (inr p));
-          row-free = ⊎-elim (λ q. absurd (ne q)) (λ q. q) row;
+          not-finished = h .0;
+          not-held = h .1;
+          not-same = λ q. no-way (h .0) (inl (sym q));
+          no-path = none-found s t2 t1 (λ p. no-way (h .0) (inr p));
+          row-free = ⊎-elim (λ q. true-false (adds-nothing s t1 t2 .1 q) one) (λ q. q) row;
         }
 
 transfer-taken : (s : Lent) (t t' : ℕ) (G' : Graph) → sound s ≡ true → TRANSFER CycleFree (graph s) t t' G' → TakenTransfer s t t'

@@ -9,20 +9,20 @@ use lib.ListN.{length}
 use lib.Dec.{ltb}
 use borrow.Author.Tests.{not-true, not-false, lt-ltb, le-ltb, eq-eqb, ne-eqb}
 use Rattle.graph.specs.declared.Command.{Command}
-use Rattle.graph.specs.declared.Command.the-variants.{NewTd, NewEdge, Release, Transfer, Start, Stop}
+use Rattle.graph.specs.declared.Command.the-variants.{NewTd, Release, Transfer, Start, Stop}
 use Rattle.graph.specs.declared.Done.{Done}
 use Rattle.graph.specs.declared.Tally.{Tally}
-use Rattle.graph.specs.Tables.{Lent, lent, usableLimit, vertexWords, statusWord, edgeWords, vertexRows, edgeRows, RELEASED, FINISHED}
-use Rattle.graph.specs.Tables.{status, setStatus, clear}
+use Rattle.graph.specs.Tables.{Lent, lent, usableLimit, vertexWords, statusWord, edgeWords, vertexRows, edgeRows, RELEASED}
+use Rattle.graph.specs.Tables.{setStatus, clear}
 use Rattle.refusal.specs.Refusals.{too-few-vertex-rows, unsound-tables}
 use Rattle.graph.specs.Answers.{CommandSaid, said, Outcome, outcome, opened, opening-refused, unless, decided}
 use Rattle.graph.specs.Sound.{sound}
 use Rattle.graph.specs.Internal.Search.{Searchable}
-use Rattle.graph.specs.Commands.{openedTables, opening, callerRefusal, newTdRefusal, newEdgeRefusal, releaseRefusal}
+use Rattle.graph.specs.Commands.{openedTables, opening, callerRefusal, newTdRefusal, endsRefusal, appendRefusal, releaseRefusal}
 use Rattle.graph.specs.Commands.{transferRefusal, startRefusal, stopRefusal, command}
 use Rattle.graph.proofs.SoundChecks.{sound-rows, searchable}
-use Rattle.graph.proofs.TestLaws.{both-true, both-false-left, both-false-right, not-of-true, not-of-false}
-use Rattle.graph.proofs.TakenLaws.{Runs, taken, taken-caller, unsound}
+use Rattle.graph.proofs.TestLaws.{both-true, both-false-left, both-false-right, either-left, either-right, not-of-true, not-of-false}
+use Rattle.graph.proofs.TakenLaws.{Runs, taken, taken-caller, taken-ends, taken-append, unsound}
 use Rattle.graph.proofs.RefusalLaws.{unless-pass, unless-stop, decided-is}
 
 due :
@@ -81,26 +81,38 @@ status-there v e t k p lt = omega (arith, sound-rows (lent v e t) p)
 pub edges-there : (v e : List ℕ) (t : Tally) → sound (lent v e t) ≡ true → edgeWords * t .held ≤ length e
 edges-there v e t p = sound-rows (lent v e t) p .1 .0
 
--- the refusals that begin the chain of a caller: one of them is due, or none is and the command's own follow
-due-first :
-    (b c d : Bool) (l n k : ℕ) (own : ℕ) → (unless b l (unless c n (unless d k 0)) ≡ 0 → ⊥)
-    → unless b l (unless c n (unless d k 0)) ≡ unless b l (unless c n (unless d k own))
+-- a number that is due behind a test is due whatever follows it
+due-behind :
+    (b : Bool) (n : ℕ) {r r' : ℕ} → ((r ≡ 0 → ⊥) → r ≡ r') → (unless b n r ≡ 0 → ⊥) → unless b n r ≡ unless b n r'
 unfolding unless
-due-first true true true l n k own h = absurd (h refl)
-due-first true true false l n k own h = refl
-due-first true false d l n k own h = refl
-due-first false c d l n k own h = refl
+due-behind true n f z = f z
+due-behind false n f z = refl
 
+-- the refusals that begin the chain of a caller: one of them is due, or none is and the command's own follow
 pub caller-due : (s : Lent) (t a b : ℕ) {m : ℕ} (own : ℕ) → m ≡ callerRefusal s t a b 0 → (m ≡ 0 → ⊥) → m ≡ callerRefusal s t a b own
 unfolding callerRefusal
-caller-due s t a b own p q = p ∙ due-first _ _ _ _ _ _ own (λ z. q (p ∙ z))
+caller-due s t a b own p q = p ∙ due-behind _ _ (due-behind _ _ (due-behind _ _ (λ z. absurd (z refl)))) (λ z. q (p ∙ z))
+
+caller-passes : (s : Lent) (t a b : ℕ) {r own : ℕ} → Runs s t → a < s .made → b < s .made → r ≡ own → r ≡ callerRefusal s t a b own
+unfolding callerRefusal
+caller-passes s t a b runs la lb h =
+    pass _ (runs .known)
+    (pass _ (both-true (lt-ltb _ _ (runs .is-made)) (both-true (lt-ltb _ _ la) (lt-ltb _ _ lb))) (pass _ (eq-eqb _ _ (runs .executing)) h))
 
 pub caller-free : (s : Lent) (t a b : ℕ) {m r own : ℕ} → m ≡ callerRefusal s t a b 0 → m ≡ 0 → r ≡ own → r ≡ callerRefusal s t a b own
-unfolding callerRefusal
-caller-free s t a b p q h =
-    let k = taken-caller s t a b 0 .0 (sym p ∙ q) in
-    pass _ (k .0 .known)
-    (pass _ (both-true (lt-ltb _ _ (k .0 .is-made)) (both-true (lt-ltb _ _ (k .1)) (lt-ltb _ _ (k .2)))) (pass _ (eq-eqb _ _ (k .0 .executing)) h))
+caller-free s t a b p q h = let k = taken-caller s t a b 0 .0 (sym p ∙ q) in caller-passes s t a b (k .0) (k .1) (k .2) h
+
+-- those that begin newEdge's, likewise
+pub ends-due : (s : Lent) (t a b : ℕ) {m : ℕ} (own : ℕ) → m ≡ endsRefusal s t a b 0 → (m ≡ 0 → ⊥) → m ≡ endsRefusal s t a b own
+unfolding endsRefusal callerRefusal
+ends-due s t a b own p q = p ∙ due-behind _ _ (due-behind _ _ (due-behind _ _ (due-behind _ _ (λ z. absurd (z refl))))) (λ z. q (p ∙ z))
+
+pub ends-free : (s : Lent) (t a b : ℕ) {m r own : ℕ} → m ≡ endsRefusal s t a b 0 → m ≡ 0 → r ≡ own → r ≡ endsRefusal s t a b own
+unfolding endsRefusal
+ends-free s t a b p q h =
+    let k = taken-ends s t a b 0 .0 (sym p ∙ q) in
+    let waits = ⊎-elim (λ z. either-left _ (eq-eqb _ _ z)) (λ z. either-right _ (eq-eqb _ _ z)) (k .3) in
+    caller-passes s t a b (k .0) (k .1) (k .2) (pass _ waits h)
 
 -- what can be read once none of the refusals that begin the chain of a caller is due
 module _ (v e : List ℕ) (s : Tally) (t a b : ℕ) {m : ℕ} (p : m ≡ callerRefusal (lent v e s) t a b 0) (q : m ≡ 0) where
@@ -116,11 +128,16 @@ module _ (v e : List ℕ) (s : Tally) (t a b : ℕ) {m : ℕ} (p : m ≡ callerR
   pub rows-there : edgeWords * s .held ≤ length e
   rows-there = sound-rows (lent v e s) (found .0 .known) .1 .0
 
-  pub path-back : Searchable e (s .held) b a
-  path-back = searchable (lent v e s) b a (found .0 .known) (found .2) (found .1)
-
   pub path-on : Searchable e (s .held) t a
   path-on = searchable (lent v e s) t a (found .0 .known) (found .0 .is-made) (found .1)
+
+-- what newEdge may do once none of the refusals that begin its chain is due
+module _ (v e : List ℕ) (s : Tally) (t a b : ℕ) {m : ℕ} (p : m ≡ endsRefusal (lent v e s) t a b 0) (q : m ≡ 0) where
+  pub source-made : (sound (lent v e s) ≡ true) × (a < s .made)
+  source-made = let k = taken-ends (lent v e s) t a b 0 .0 (sym p ∙ q) in (k .0 .known, k .1)
+
+  pub path-back : Searchable e (s .held) b a
+  path-back = let k = taken-ends (lent v e s) t a b 0 .0 (sym p ∙ q) in searchable (lent v e s) b a (k .0 .known) (k .2) (k .1)
 
 -- The code asks the definition's tests in the definition's order. So from the tests that it has passed `search chain` proves each answer
 -- of a refusal, and that what it reads next is there. Behind four tests and more it may take `depth 12`.
@@ -145,6 +162,8 @@ pub ruleset chain = (
   answered-free,
   caller-due,
   caller-free,
+  ends-due,
+  ends-free,
   first-there,
   second-there,
   rows-there,
@@ -163,14 +182,9 @@ newTd-room s t h =
     let free : s .made < vertexRows (s .vertices) = taken (NewTd t 0 0) s .0 h .1 in
     omega arith
 
-pub newEdge-source : (s : Lent) (t t1 t2 : ℕ) → newEdgeRefusal s t t1 t2 ≡ 0 → vertexWords * t1 + vertexWords ≤ length (s .vertices)
-newEdge-source s t t1 t2 h = let k = taken (NewEdge t t1 t2) s .0 h in row-room s t1 (k .0 .known) (k .1 .source-made)
-
-pub newEdge-room :
-    (s : Lent) (t t1 t2 : ℕ) → newEdgeRefusal s t t1 t2 ≡ 0 → (status (s .vertices) t1 ≡ FINISHED → ⊥)
-    → (edgeWords * s .held + edgeWords ≤ length (s .edges)) × (s .held < usableLimit)
-newEdge-room s t t1 t2 h p =
-    let free : s .held < edgeRows (s .edges) = ⊎-elim (λ q. absurd (p q)) (λ q. q .row-free) (taken (NewEdge t t1 t2) s .0 h .1 .adds) in
+pub append-room : (e : List ℕ) (n t1 t2 : ℕ) → appendRefusal e n t1 t2 ≡ 0 → (edgeWords * n + edgeWords ≤ length e) × (n < usableLimit)
+append-room e n t1 t2 h =
+    let free : n < edgeRows e = taken-append e n t1 t2 .0 h .2 in
     omega arith
 
 pub transfer-room : (s : Lent) (t t' : ℕ) → transferRefusal s t t' ≡ 0 → edgeWords * s .held ≤ length (s .edges)

@@ -1,23 +1,28 @@
 -- Demand 2 of a single command, in the words of specs/Demand2.antt. A command that is accepted passed its tests (`Taken`) and leaves
 -- what its definition says (`leaves`); the laws of these two give each theorem. Where each refusal is given, on any tables, is said in
 -- Reasons.
-use Prim.Native.Nat.{ℕ}
-use mathlib.Core.Path.{_≡_, sym, subst}
-use mathlib.Core.Logic.{_↔_}
-use mathlib.Core.Bool.{true, false}
+use Prim.Native.Nat.{ℕ, _<_}
+use mathlib.Core.Path.{_≡_, sym, _∙_, ap, subst}
+use mathlib.Core.Logic.{_⊎_, inl, inr, _↔_}
+use mathlib.Core.Bool.{Bool, true, false}
 use mathlib.Core.List.{List}
 use Rattle.graph.specs.declared.Command.{Command}
-use Rattle.graph.specs.Tables.{Lent}
-use Rattle.graph.specs.Answers.{accepted}
+use Rattle.graph.specs.declared.Command.the-variants.{NewEdge}
+use Rattle.graph.specs.Tests.{both}
+use Rattle.graph.specs.Tables.{Lent, NEW, RELEASED, EXECUTING}
+use Rattle.graph.specs.Answers.{CommandSaid, accepted}
 use Rattle.graph.specs.Sound.{sound}
 use Rattle.graph.specs.Paths.{CycleFree, reaches}
-use Rattle.graph.specs.Rules.{Graph, Printed}
+use Rattle.graph.specs.Rules.{Graph, TRANSFER, Printed, outOf, resourced, _∖_}
 use Rattle.graph.specs.Commands.{command, targetReaches}
-use Rattle.graph.specs.Demand2.{graph, RowFree, NoneTwice, Effect}
+use Rattle.graph.specs.Demand2.{graph, HasStatus, EdgeHeld, RowFree, NoneTwice, Effect}
 use Rattle.graph.proofs.SoundLaws.{sound-fits, fits-sound}
-use Rattle.graph.proofs.TakenLaws.{leaves, Taken, taken, not-refused, is-accepted, after-is, after-refused, after-either, row-free-of, taken-sound}
+use Rattle.graph.proofs.TakenLaws.{leaves, Taken, taken, not-refused, taken-is, is-accepted, after-is, after-refused, after-either}
+use Rattle.graph.proofs.TakenLaws.{row-free-of, taken-sound}
 use Rattle.graph.proofs.WordLaws.{vertex-words-of, edge-words-of, new-row-of, steps-kept-of}
-use Rattle.graph.proofs.EffectLaws.{rule-of}
+use Rattle.graph.proofs.EdgeLaws.{held-decides}
+use Rattle.graph.proofs.RuleLaws.{transferred-disjoint}
+use Rattle.graph.proofs.EffectLaws.{rule-of, leaves-all}
 use Rattle.graph.proofs.KeepLaws.{leaves-fits, leaves-once}
 use Rattle.graph.proofs.CycleLaws.{target-reaches}
 use Rattle.graph.proofs.AcceptLaws.{leaves-acyclic, rule-taken}
@@ -62,6 +67,23 @@ by-the-rule c s free h =
     subst (λ (s' : Lent). Printed c (graph s) (graph s')) (sym (after-is c s (not-refused c s h)))
     (rule-of CycleFree c s t (leaves-acyclic c s t free))
 
+-- "An edge held already is now accepted and changes nothing, tested before 35" (document 02, note 3): on a full table, on tables with a
+-- cycle, and where the edge leads from a vertex to itself.
+pub held-already :
+    (s : Lent) (t t1 t2 : ℕ) → sound s ≡ true → t < s .made → HasStatus s t EXECUTING → HasStatus s t2 NEW ⊎ HasStatus s t2 RELEASED
+    → EdgeHeld s t1 t2
+    → command (NewEdge t t1 t2) s ≡ record { answer = CommandSaid.edge t1 t2; after = s }
+held-already s t t1 t2 known made runs waits held =
+    taken-is (NewEdge t t1 t2) s (taken (NewEdge t t1 t2) s .1 passes)
+    ∙ ap (λ (s' : Lent). record { answer = CommandSaid.edge t1 t2; after = s' }) (leaves-all s t t1 t2 (inr held))
+  where
+    passes : Taken (NewEdge t t1 t2) s
+    passes =
+        let (source-made, target-made) = sound-fits s known .ends-made t1 t2 (held-decides s t1 t2 .1 held) in (
+          record { known = known; is-made = made; executing = runs },
+          record { source-made = source-made; target-made = target-made; waits = waits; adds = inl (inr held) },
+        )
+
 -- No command closes a cycle.
 pub stays-acyclic : (c : Command) (s : Lent) → CycleFree (graph s .edge) → CycleFree (graph (command c s .after) .edge)
 stays-acyclic c s free =
@@ -76,6 +98,13 @@ none-held-twice c s none =
 pub stays-sound : (c : Command) (s : Lent) → sound s ≡ true → sound (command c s .after) ≡ true
 stays-sound c s known =
     after-either (λ s'. sound s' ≡ true) c s known (λ h. fits-sound (leaves c s) (leaves-fits c s (taken c s .0 h)))
+
+-- The slides' ⊎ is read as a plain union. In TRANSFER its two sets are disjoint by the other premises, so that rule is the same however it
+-- is read.
+pub transfer-disjoint :
+    (Free : (ℕ → ℕ → Bool) → Type 0) (G : Graph) (t t' : ℕ) (G' : Graph) → TRANSFER Free G t t' G' → (a b : ℕ)
+    → both ((G .edge ∖ outOf G t) a b) (resourced G t t' a b) ≡ false
+transfer-disjoint Free G t t' G' r = transferred-disjoint G t t' (r .no-edge-out)
 
 -- Document 01's words for transfer's cycle, "some target of t is t' or reaches t'", are one search: t reaches t'.
 pub transfer-test : (e : List ℕ) (n t t' : ℕ) → targetReaches e n t t' ≡ reaches e n t t'

@@ -8,10 +8,10 @@ use mathlib.Core.List.{List}
 use native.Mathlib.Omega.{arith}
 use native.Mathlib.Numerals.{add-one}
 use borrow.Author.Tests.{eq-eqb, ne-eqb}
-use Rattle.graph.specs.Tables.{edgeWords, sourceWord, targetWord, edgeRows, edgeWord, source, target}
+use Rattle.graph.specs.Tables.{Lent, edgeWords, sourceWord, targetWord, edgeRows, edgeWord, source, target}
 use Rattle.graph.specs.Paths.{holds, leadsInto, leadsOutOf}
 use Rattle.graph.specs.Commands.{appended, moved, keptRows, kept, withoutEdgesOf}
-use Rattle.graph.specs.Demand2.{NoneTwice}
+use Rattle.graph.specs.Demand2.{EdgeHeld, NoneTwice}
 use Rattle.graph.proofs.TestLaws.{true-false, not-so, same, equal?, below-suc, any-at, any-none}
 use Rattle.graph.proofs.PathLaws.{holds-at, held-row, holds-less, holds-more}
 use Rattle.graph.proofs.TableLaws.{keptRows-le, appended-other, appended-source, appended-target, moved-from, moved-rest}
@@ -38,6 +38,12 @@ Moved E t t' a b = NotFrom E t a b ⊎ ((a ≡ t') × (E t b ≡ true))
 
 pub row-holds : (e : List ℕ) (n a b i : ℕ) → i < n → source e i ≡ a → target e i ≡ b → holds e n a b ≡ true
 row-holds e n a b i lt p q = subst (λ (x : ℕ). holds e n x b ≡ true) p (subst (λ (y : ℕ). holds e n (source e i) y ≡ true) q (holds-at e n i lt))
+
+pub held-decides : (s : Lent) (a b : ℕ) → (holds (s .edges) (s .held) a b ≡ true) ↔ EdgeHeld s a b
+held-decides s a b = (
+  λ h. let (i, lt, p, q) = held-row (s .edges) (s .held) a b h in (i, lt, (p, q)),
+  λ h. row-holds (s .edges) (s .held) a b (h .0) (h .1) (h .2 .0) (h .2 .1),
+)
 
 -- the tests for an edge into t, and out of t
 pub none-into : (e : List ℕ) (n t : ℕ) → (leadsInto e n t ≡ false) ↔ ((a : ℕ) → holds e n a t ≡ false)

@@ -1,20 +1,19 @@
 -- What a command that is taken does to the graph that the tables hold: its rule.
 use Prim.Native.Nat.{ℕ, _<_}
 use mathlib.Core.Path.{_≡_, refl, sym, _∙_, ap}
-use mathlib.Core.Logic.{inl, inr, ⊎-elim}
-use mathlib.Core.Bool.{Bool, cond}
+use mathlib.Core.Logic.{_⊎_, inl, inr, ⊎-elim}
+use mathlib.Core.Bool.{Bool, true, cond}
 use native.Mathlib.Omega.{arith}
-use borrow.Author.Tests.{eq-eqb, ne-eqb}
 use Rattle.graph.specs.declared.Command.{Command}
 use Rattle.graph.specs.declared.Command.the-variants.{NewTd, NewEdge, Release, Transfer, Start, Stop}
 use Rattle.graph.specs.Tables.{Lent, NEW, RELEASED, EXECUTING, FINISHED, edgeRows, status}
-use Rattle.graph.specs.Rules.{X, NEWTD, RELEASE, START, STOP, NEWEDGE, TRANSFER, Rule, Disjoint, added, _∪_}
+use Rattle.graph.specs.Rules.{X, NEWTD, RELEASE, START, STOP, NEWEDGE, TRANSFER, Rule, isFinished, added, _∪_}
 use Rattle.graph.specs.Commands.{withStatus, withVertex, withEdge, withMoved, stopped}
-use Rattle.graph.specs.Demand2.{graph}
-use Rattle.graph.proofs.EdgeLaws.{Is, OneMore, Moved, none-into, none-out-of, is-same, appended-is, moved-is, without-is}
+use Rattle.graph.specs.Demand2.{graph, AddsNothing}
+use Rattle.graph.proofs.EdgeLaws.{Is, OneMore, Moved, held-decides, none-into, none-out-of, is-same, appended-is, moved-is, without-is}
 use Rattle.graph.proofs.SoundLaws.{Fits, sound-fits}
-use Rattle.graph.proofs.TakenLaws.{leaves, Runs, TakenNewEdge, Taken}
-use Rattle.graph.proofs.RuleLaws.{same-graph, Inside, added-disjoint, transferred-disjoint, added-none, added-is, minus-is, transferred-is}
+use Rattle.graph.proofs.TakenLaws.{leaves, Runs, Adds, TakenNewEdge, Taken, adds-nothing, adds-one}
+use Rattle.graph.proofs.RuleLaws.{same-graph, Inside, added-none, added-is, minus-is, transferred-is}
 use Rattle.graph.proofs.GraphLaws.{shown-as, shown-not, shown-domain, shown-over, shown-live, shown-set, shown-new}
 
 -- the caller's status in the graph
@@ -61,12 +60,12 @@ stop-rule s t h =
           (is-same (without-is t (s .edges) (s .held)) (minus-is (graph s) t (inside s t f)));
     }
 
--- newEdge out of a finished vertex leaves everything, any other appends its edge
-pub leaves-all : (s : Lent) (t t1 t2 : ℕ) → status (s .vertices) t1 ≡ FINISHED → leaves (NewEdge t t1 t2) s ≡ s
-leaves-all s t t1 t2 p = ap (λ (b : Bool). cond b s (withEdge s t1 t2)) (eq-eqb (status (s .vertices) t1) FINISHED p)
+-- newEdge leaves everything, or appends its edge
+pub leaves-all : (s : Lent) (t t1 t2 : ℕ) → AddsNothing s t1 t2 → leaves (NewEdge t t1 t2) s ≡ s
+leaves-all s t t1 t2 p = ap (λ (b : Bool). cond b s (withEdge s t1 t2)) (adds-nothing s t1 t2 .1 p)
 
-pub leaves-edge : (s : Lent) (t t1 t2 : ℕ) → (status (s .vertices) t1 ≡ FINISHED → ⊥) → leaves (NewEdge t t1 t2) s ≡ withEdge s t1 t2
-leaves-edge s t t1 t2 ne = ap (λ (b : Bool). cond b s (withEdge s t1 t2)) (ne-eqb (status (s .vertices) t1) FINISHED ne)
+pub leaves-edge : (s : Lent) (t t1 t2 : ℕ) → Adds s t1 t2 → leaves (NewEdge t t1 t2) s ≡ withEdge s t1 t2
+leaves-edge s t t1 t2 p = ap (λ (b : Bool). cond b s (withEdge s t1 t2)) (adds-one s t1 t2 .1 (p .not-finished, p .not-held))
 
 pub withEdge-is : (s : Lent) (t1 t2 : ℕ) → s .held < edgeRows (s .edges) → Is (graph (withEdge s t1 t2) .edge) (OneMore (graph s .edge) t1 t2)
 unfolding withEdge
@@ -83,22 +82,18 @@ newEdge-after :
 unfolding withEdge
 newEdge-after s t t1 t2 h =
     ⊎-elim
+    (λ p. ap graph (leaves-all s t t1 t2 p) ∙ same-graph (λ x. refl) (λ a b. sym (added-none (graph s) t1 t2 (nothing p) a b)))
     (λ p.
-    ap graph (leaves-all s t t1 t2 p)
-    ∙ same-graph (λ x. refl) (λ a b. sym (added-none (graph s) t1 t2 (shown-over (s .vertices) (s .made) t1 (h .source-made) p) a b)))
-    (λ p.
-    ap graph (leaves-edge s t t1 t2 (p .not-finished))
+    ap graph (leaves-edge s t t1 t2 p)
     ∙ same-graph (λ x. refl)
     (is-same (withEdge-is s t1 t2 (p .row-free)) (added-is (graph s) t1 t2 (shown-live (s .vertices) (s .made) t1 (h .source-made) (p .not-finished)))))
     (h .adds)
-
-newEdge-disjoint : (s : Lent) (t1 t2 : ℕ) → TakenNewEdge s t1 t2 → Disjoint (graph s .edge) (added (graph s) t1 t2)
-newEdge-disjoint s t1 t2 h =
-    added-disjoint (graph s) t1 t2
-    (⊎-elim
-    (λ p. inl (shown-over (s .vertices) (s .made) t1 (h .source-made) p))
-    (λ p. inr (p .not-held))
-    (h .adds))
+  where
+    nothing : AddsNothing s t1 t2 → (isFinished (graph s .status t1) ≡ true) ⊎ (graph s .edge t1 t2 ≡ true)
+    nothing =
+        ⊎-elim
+        (λ p. inl (shown-over (s .vertices) (s .made) t1 (h .source-made) p))
+        (λ p. inr (held-decides s t1 t2 .1 p))
 
 module _ (Free : (ℕ → ℕ → Bool) → Type 0) where
   newEdge-rule :
@@ -114,7 +109,6 @@ module _ (Free : (ℕ → ℕ → Bool) → Type 0) where
             (λ p. inl (shown-as (s .vertices) (s .made) t2 NEW (h .1 .target-made) p))
             (λ p. inr (shown-as (s .vertices) (s .made) t2 RELEASED (h .1 .target-made) p))
             (h .1 .waits);
-        disjoint = newEdge-disjoint s t1 t2 (h .1);
         after = newEdge-after s t t1 t2 (h .1);
         cycle-free = free;
       }
@@ -128,7 +122,6 @@ module _ (Free : (ℕ → ℕ → Bool) → Type 0) where
         caller = runs-shown s t (h .0);
         is-new = shown-as (s .vertices) (s .made) t' NEW (h .1 .is-made) (h .1 .is-new);
         no-edge-out = none-out-of (s .edges) (s .held) t' .0 (h .1 .no-edge-out);
-        disjoint = transferred-disjoint (graph s) t t' (none-out-of (s .edges) (s .held) t' .0 (h .1 .no-edge-out));
         after = same-graph (λ x. refl) (is-same (withMoved-is s t t' f) (transferred-is (graph s) t t' (inside s t f)));
         cycle-free = free;
       }

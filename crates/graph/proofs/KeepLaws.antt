@@ -102,7 +102,7 @@ leaves-fits (NewTd t place scope) s h = withVertex-fits s place scope (h .1) (so
 leaves-fits (NewEdge t t1 t2) s h =
     ⊎-elim
     (λ p. rw (leaves-all s t t1 t2 p) (sound-fits s (h .0 .known)))
-    (λ p. rw (leaves-edge s t t1 t2 (p .not-finished))
+    (λ p. rw (leaves-edge s t t1 t2 p)
     (withEdge-fits s t1 t2 (h .1 .source-made) (h .1 .target-made) (p .row-free) (sound-fits s (h .0 .known))))
     (h .1 .adds)
 leaves-fits (Release t t') s h = withStatus-fits s t' RELEASED (h .1) (omega arith) (sound-fits s (h .0 .known))
@@ -118,7 +118,7 @@ leaves-once (NewEdge t t1 t2) s h none =
     ⊎-elim
     (λ p. subst (λ (z : Lent). NoneTwice (z .edges) (z .held)) (sym (leaves-all s t t1 t2 p)) none)
     (λ p.
-    subst (λ (z : Lent). NoneTwice (z .edges) (z .held)) (sym (leaves-edge s t t1 t2 (p .not-finished)))
+    subst (λ (z : Lent). NoneTwice (z .edges) (z .held)) (sym (leaves-edge s t t1 t2 p))
     (appended-once (s .edges) (s .held) t1 t2 (p .row-free) (λ q. true-false q (p .not-held)) none))
     (h .1 .adds)
 leaves-once (Release t t') s h none = none

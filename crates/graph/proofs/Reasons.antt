@@ -3,6 +3,7 @@
 --
 --     command-refused    refused with n at p: p is 0, and n is the first reason's number that holds
 --     refused-place      so the place of every refusal is 0
+--     never-34           and 34 is none of these numbers
 --     command-accepted   accepted: no refusal is due
 --     newEdge-cycle      35 of newEdge: nothing before it holds, and t1 is t2 or a path leads from t2 to t1
 --     transfer-cycle     35 of transfer: nothing before it holds, and some target of t is t' or a path leads from it to t'
@@ -20,17 +21,17 @@ use Rattle.graph.specs.Tables.{Lent, NEW, RELEASED, EXECUTING, FINISHED,
 use Rattle.refusal.specs.Refusals.{closes-cycle, unsound-tables, no-such-vertex, caller-not-executing}
 use Rattle.graph.specs.Answers.{CommandSaid, accepted, unless}
 use Rattle.graph.specs.Sound.{tallyFits, statusKnown, statusesKnown, endsMade, edgesMade, sound}
-use Rattle.graph.specs.Paths.{holds, leadsInto, leadsOutOf, reaches}
-use Rattle.graph.specs.Commands.{isMade, targetReaches, callerRefusal, newTdRefusal, newEdgeRefusal, releaseRefusal}
-use Rattle.graph.specs.Commands.{transferRefusal, startRefusal, stopRefusal, command}
+use Rattle.graph.specs.Paths.{leadsInto, leadsOutOf, reaches}
+use Rattle.graph.specs.Commands.{isMade, targetReaches, callerRefusal, newTdRefusal, endsRefusal, appendRefusal, newEdgeRefusal}
+use Rattle.graph.specs.Commands.{releaseRefusal, transferRefusal, startRefusal, stopRefusal, command}
 use Rattle.graph.specs.Demand2.{Reasons, no-more, refused-where, accepted-where, RefusalDue, NoneDue, NoneBefore, reasons}
-use Rattle.graph.specs.Demand2.{Unsound, HasStatus, EdgeOutOf, EdgeInto, EdgeHeld, NewEdgeCycle, TransferCycle}
+use Rattle.graph.specs.Demand2.{Unsound, HasStatus, EdgeOutOf, EdgeInto, NewEdgeCycle, TransferCycle}
 use Rattle.graph.proofs.TestLaws.{true-false, equal?, not-of-true, both-true, both-left, both-right, either-left, either-right}
 use Rattle.graph.proofs.TestLaws.{either-cases, either-false, either-false-left, either-false-right}
 use Rattle.graph.proofs.TestLaws.{any-found, any-at, every-found, every-stop}
 use Rattle.graph.proofs.PathLaws.{reaches-decides}
 use Rattle.graph.proofs.SoundLaws.{Known, sound-fits}
-use Rattle.graph.proofs.TakenLaws.{refusal, not-refused, is-accepted, answer-refused}
+use Rattle.graph.proofs.TakenLaws.{refusal, not-refused, is-accepted, answer-refused, adds-nothing}
 
 -- A chain gives the number that is due, and 0 where none is.
 data Tells (R : Reasons) (r : ℕ) : Type 0 where
@@ -159,10 +160,6 @@ module _ (s : Lent) where
   unfolding leadsInto
   into-decides b = any-decides (s .held) (λ i. eq-decides _ b)
 
-  held-decides : (a b : ℕ) → (holds (s .edges) (s .held) a b ≡ true) ↔ EdgeHeld s a b
-  unfolding holds
-  held-decides a b = any-decides (s .held) (λ i. both-decides (eq-decides _ a) (eq-decides _ b))
-
   newEdge-decides : (t1 t2 : ℕ) → (either (eqb t1 t2) (reaches (s .edges) (s .held) t2 t1) ≡ true) ↔ NewEdgeCycle s t1 t2
   newEdge-decides t1 t2 = either-decides (eq-decides t1 t2) (reaches-decides (s .edges) (s .held) t2 t1)
 
@@ -189,7 +186,7 @@ caller-tells s t a b d own =
 
 -- The chain of each command, link by link: each test decides its reason.
 refusal-tells : (c : Command) (s : Lent) → Tells (reasons c s) (refusal c s)
-unfolding newTdRefusal newEdgeRefusal releaseRefusal transferRefusal startRefusal stopRefusal
+unfolding newTdRefusal endsRefusal appendRefusal newEdgeRefusal releaseRefusal transferRefusal startRefusal stopRefusal
 refusal-tells (NewTd t place scope) s =
     let made = full-decides t (s .made) in
     caller-tells s t t t (both-same made (both-same made made)) (λ known.
@@ -198,11 +195,10 @@ refusal-tells (NewTd t place scope) s =
 refusal-tells (NewEdge t t1 t2) s =
     caller-tells s t t1 t2 (both-fails (full-decides t _) (both-fails (full-decides t1 _) (full-decides t2 _))) (λ known.
     refuses (not-waiting _ known) (λ waits.
-    accepts (eq-decides _ FINISHED) (λ live.
-    refuses (negated (held-decides s t1 t2)) (λ not-held.
+    accepts (adds-nothing s t1 t2) (λ adds.
     refuses (negated (newEdge-decides s t1 t2)) (λ no-path.
     refuses (full-decides _ _) (λ free.
-    ends))))))
+    ends)))))
 refusal-tells (Release t t') s =
     let made = full-decides t' (s .made) in
     caller-tells s t t' t' (both-fails (full-decides t _) (both-same made made)) (λ known.
@@ -250,6 +246,32 @@ command-refused c s n p = (λ h. there (refusal-tells c s) (said .0 h), λ h. sa
 -- "The place is an offset for 2 to 7, else 0": of every refusal of a command it is 0.
 pub refused-place : (c : Command) (s : Lent) (n p : ℕ) → command c s .answer ≡ CommandSaid.refused n p → p ≡ 0
 refused-place c s n p h = command-refused c s n p .0 h .0
+
+-- no reason of R has the number n
+Without : ℕ → Reasons → Type 0
+Without n no-more = Unit {0}
+Without n (refused-where P m R) = (n ≡ m → ⊥) × Without n R
+Without n (accepted-where P R) = Without n R
+
+never-due : (n : ℕ) (R : Reasons) → Without n R → RefusalDue n R → ⊥
+unfolding Without
+never-due n no-more w h = h
+never-due n (refused-where P m R) w (inl h) = w .0 (h .1)
+never-due n (refused-where P m R) w (inr h) = never-due n R (w .1) (h .1)
+never-due n (accepted-where P R) w h = never-due n R w (h .1)
+
+-- "Refusal 34 is never given" (document 02, note 3).
+pub never-34 : (c : Command) (s : Lent) (p : ℕ) → command c s .answer ≡ CommandSaid.refused 34 p → ⊥
+unfolding Without
+never-34 c s p h = never-due 34 (reasons c s) (without c) (command-refused c s 34 p .0 h .1)
+  where
+    without : (d : Command) → Without 34 (reasons d s)
+    without (NewTd t place scope) = (omega arith, (omega arith, (omega arith, (omega arith, tt))))
+    without (NewEdge t t1 t2) = (omega arith, (omega arith, (omega arith, (omega arith, (omega arith, (omega arith, tt))))))
+    without (Release t t') = (omega arith, (omega arith, (omega arith, (omega arith, tt))))
+    without (Transfer t t') = (omega arith, (omega arith, (omega arith, (omega arith, (omega arith, (omega arith, tt))))))
+    without (Start t) = (omega arith, (omega arith, (omega arith, (omega arith, (omega arith, (omega arith, tt))))))
+    without (Stop t) = (omega arith, (omega arith, (omega arith, tt)))
 
 -- A command is accepted exactly where no refusal is due.
 pub command-accepted : (c : Command) (s : Lent) → (accepted (command c s .answer) ≡ true) ↔ NoneDue (reasons c s)
@@ -300,8 +322,7 @@ newEdge-cycle s t t1 t2 =
     (behind (omega arith)
     (behind (omega arith)
     (past
-    (behind (omega arith)
-    (here (⊎-elim (λ q. let z = q .1 in omega arith) (λ q. q .1)))))))))
+    (here (⊎-elim (λ q. let z = q .1 in omega arith) (λ q. q .1))))))))
 
 -- "For transfer: some target of t is t' or reaches t'."
 pub transfer-cycle :

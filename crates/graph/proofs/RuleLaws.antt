@@ -1,14 +1,14 @@
 -- The sets of edges that the rules of document 002 write down, told by their members; and two graphs that agree are the same.
 use Prim.Native.Nat.{ℕ}
-use mathlib.Core.Path.{_≡_, refl, sym, _∙_, ap, ap₂, subst}
+use mathlib.Core.Path.{_≡_, sym, _∙_, ap, ap₂, subst}
 use mathlib.Core.Logic.{_⊎_, inl, inr, ⊎-elim}
 use mathlib.Core.Bool.{Bool, true, false, cond}
 use mathlib.Core.Option.{Option}
 use lib.Dec.{eqb}
 use borrow.Author.Tests.{eq-eqb, ne-eqb, eqb-true, not-true}
 use Rattle.graph.specs.Tests.{both, either}
-use Rattle.graph.specs.Rules.{Graph, inDomain, isFinished, outOf, resourced, added, _∖_, _∪_, Disjoint}
-use Rattle.graph.proofs.TestLaws.{true-false, decide, not-so, both-true, both-left, both-right, both-false-left, both-false-right}
+use Rattle.graph.specs.Rules.{Graph, inDomain, isFinished, outOf, resourced, added, _∖_, _∪_}
+use Rattle.graph.proofs.TestLaws.{true-false, same, decide, not-so, both-true, both-left, both-right, both-false-left}
 use Rattle.graph.proofs.TestLaws.{either-cases, either-left, either-right, either-none, not-of-false}
 use Rattle.graph.proofs.EdgeLaws.{Is, OneMore, NotFrom, Moved}
 
@@ -28,24 +28,37 @@ added-nothing G t1 t2 p a b = ap (λ (x : Bool). cond x false (both (eqb a t1) (
 pub added-edge : (G : Graph) (t1 t2 : ℕ) → isFinished (G .status t1) ≡ false → (a b : ℕ) → added G t1 t2 a b ≡ both (eqb a t1) (eqb b t2)
 added-edge G t1 t2 p a b = ap (λ (x : Bool). cond x false (both (eqb a t1) (eqb b t2))) p
 
-pub added-none : (G : Graph) (t1 t2 : ℕ) → isFinished (G .status t1) ≡ true → (a b : ℕ) → (G .edge ∪ added G t1 t2) a b ≡ G .edge a b
-added-none G t1 t2 p a b =
+added-only : (G : Graph) (t1 t2 a b : ℕ) → added G t1 t2 a b ≡ true → (a ≡ t1) × (b ≡ t2)
+added-only G t1 t2 a b h =
+    ⊎-elim
+    (λ p. true-false h (added-nothing G t1 t2 p a b))
+    (λ p.
+    let q = sym (added-edge G t1 t2 p a b) ∙ h in
+    (eqb-true a t1 (both-left _ _ q), eqb-true b t2 (both-right _ _ q)))
+    (decide (isFinished (G .status t1)))
+
+-- nothing is added by a finished source, nor where the edge is there
+pub added-none :
+    (G : Graph) (t1 t2 : ℕ) → (isFinished (G .status t1) ≡ true) ⊎ (G .edge t1 t2 ≡ true) → (a b : ℕ)
+    → (G .edge ∪ added G t1 t2) a b ≡ G .edge a b
+added-none G t1 t2 (inl p) a b =
     ap (λ (x : Bool). either (G .edge a b) x) (added-nothing G t1 t2 p a b) ∙ either-none (G .edge a b)
+added-none G t1 t2 (inr p) a b =
+    same _ (G .edge a b)
+    (λ h.
+    ⊎-elim
+    (λ q. q)
+    (λ q. let (r, z) = added-only G t1 t2 a b q in ap₂ (G .edge) r z ∙ p)
+    (either-cases _ _ h))
+    (either-left _)
 
 pub added-is : (G : Graph) (t1 t2 : ℕ) → isFinished (G .status t1) ≡ false → Is (G .edge ∪ added G t1 t2) (OneMore (G .edge) t1 t2)
-added-is G t1 t2 p a b =
-    let q = added-edge G t1 t2 p a b in (
-      λ h.
-          ⊎-elim
-          (λ r. inl r)
-          (λ r. let z = sym q ∙ r in inr (eqb-true a t1 (both-left _ _ z), eqb-true b t2 (both-right _ _ z)))
-          (either-cases _ _ h),
-      λ h.
-          ⊎-elim
-          (λ r. either-left _ r)
-          (λ r. either-right _ (q ∙ both-true (eq-eqb a t1 (r .0)) (eq-eqb b t2 (r .1))))
-          h,
-    )
+added-is G t1 t2 p a b = (
+  λ h. ⊎-elim (λ r. inl r) (λ r. inr (added-only G t1 t2 a b r)) (either-cases _ _ h),
+  ⊎-elim
+      (λ r. either-left _ r)
+      (λ r. either-right _ (added-edge G t1 t2 p a b ∙ both-true (eq-eqb a t1 (r .0)) (eq-eqb b t2 (r .1)))),
+)
 
 -- E \ {(t, t'') | t'' ∈ dom(V)}
 pub minus-is : (G : Graph) (t : ℕ) → Inside G t → Is (G .edge ∖ outOf G t) (NotFrom (G .edge) t)
@@ -72,29 +85,9 @@ transferred-is G t t' inside a b = (
       h,
 )
 
--- ⊎ is of disjoint sets: the edge added is not held, and t' has no edge out
-pub added-disjoint : (G : Graph) (t1 t2 : ℕ) → (isFinished (G .status t1) ≡ true) ⊎ (G .edge t1 t2 ≡ false) → Disjoint (G .edge) (added G t1 t2)
-added-disjoint G t1 t2 (inl p) a b = both-false-right _ (added-nothing G t1 t2 p a b)
-added-disjoint G t1 t2 (inr p) a b =
-    not-so _
-    (λ h.
-    ⊎-elim
-    (λ q. true-false (both-right _ _ h) (added-nothing G t1 t2 q a b))
-    (λ q.
-    let z = sym (added-edge G t1 t2 q a b) ∙ both-right _ _ h in
-    let there : G .edge a b ≡ G .edge t1 t2 = ap₂ (G .edge) (eqb-true a t1 (both-left _ _ z)) (eqb-true b t2 (both-right _ _ z)) in
-    true-false (both-left _ _ h) (there ∙ p))
-    (decide (isFinished (G .status t1))))
-
-pub disjoint-added : (G : Graph) (t1 t2 : ℕ) → Disjoint (G .edge) (added G t1 t2) → isFinished (G .status t1) ≡ false → G .edge t1 t2 ≡ false
-disjoint-added G t1 t2 d p =
-    not-so _
-    (λ h.
-    true-false
-    (both-true h (added-edge G t1 t2 p t1 t2 ∙ both-true (eq-eqb t1 t1 refl) (eq-eqb t2 t2 refl)))
-    (d t1 t2))
-
-pub transferred-disjoint : (G : Graph) (t t' : ℕ) → ((b : ℕ) → G .edge t' b ≡ false) → Disjoint (G .edge ∖ outOf G t) (resourced G t t')
+-- its two sets are disjoint where t' has no edge out
+pub transferred-disjoint :
+    (G : Graph) (t t' : ℕ) → ((b : ℕ) → G .edge t' b ≡ false) → (a b : ℕ) → both ((G .edge ∖ outOf G t) a b) (resourced G t t' a b) ≡ false
 transferred-disjoint G t t' none a b =
     not-so _
     (λ h.

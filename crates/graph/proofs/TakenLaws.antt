@@ -4,6 +4,7 @@ use Prim.Native.Nat.{ℕ, _<_}
 use mathlib.Core.Path.{_≡_, refl, _∙_, ap}
 use mathlib.Core.Logic.{_⊎_, inl, inr, ⊎-elim, _↔_}
 use mathlib.Core.Bool.{Bool, true, false, cond}
+use mathlib.Core.List.{List}
 use native.Mathlib.Omega.{arith}
 use lib.Dec.{eqb}
 use borrow.Author.Tests.{lt-ltb, ltb-true, eq-eqb, ne-eqb, eqb-true, eqb-false, not-true}
@@ -14,12 +15,13 @@ use Rattle.refusal.specs.Refusals.{unsound-tables}
 use Rattle.graph.specs.Answers.{CommandSaid, accepted, decided}
 use Rattle.graph.specs.Sound.{sound}
 use Rattle.graph.specs.Paths.{holds, leadsInto, leadsOutOf, reaches}
-use Rattle.graph.specs.Commands.{hasStatus, withStatus, withVertex, withEdge, withMoved, stopped, callerRefusal, newTdRefusal}
-use Rattle.graph.specs.Commands.{newEdgeRefusal, releaseRefusal, transferRefusal, startRefusal, stopRefusal, targetReaches, newTd}
-use Rattle.graph.specs.Commands.{newEdge, release, transfer, start, stop, command}
-use Rattle.graph.specs.Demand2.{RowFree}
+use Rattle.graph.specs.Commands.{withStatus, withVertex, withEdge, withMoved, stopped, callerRefusal, newTdRefusal, endsRefusal}
+use Rattle.graph.specs.Commands.{addsNothing, appendRefusal, newEdgeRefusal, releaseRefusal, transferRefusal, startRefusal, stopRefusal}
+use Rattle.graph.specs.Commands.{targetReaches, newTd, newEdge, release, transfer, start, stop, command}
+use Rattle.graph.specs.Demand2.{AddsNothing, RowFree}
 use Rattle.graph.proofs.TestLaws.{both-true, both-left, both-right, either-cases, either-left, either-right, either-false}
 use Rattle.graph.proofs.TestLaws.{either-false-left, either-false-right, not-of-false}
+use Rattle.graph.proofs.EdgeLaws.{held-decides}
 use Rattle.graph.proofs.SoundLaws.{Known, sound-fits}
 use Rattle.graph.proofs.RefusalLaws.{unless-stop, unless-none, unless-all, decided-taken, decided-is, decided-keeps, decided-refused, decided-either}
 
@@ -42,7 +44,7 @@ says (Stop t) s = CommandSaid.stop
 
 abbrev pub leaves : Command → Lent → Lent
 leaves (NewTd t place scope) s = withVertex s place scope
-leaves (NewEdge t t1 t2) s = cond (hasStatus s t1 FINISHED) s (withEdge s t1 t2)
+leaves (NewEdge t t1 t2) s = cond (addsNothing s t1 t2) s (withEdge s t1 t2)
 leaves (Release t t') s = withStatus s t' RELEASED
 leaves (Transfer t t') s = withMoved s t t'
 leaves (Start t) s = withStatus s t EXECUTING
@@ -93,7 +95,7 @@ after-either P c s p q = rw (command-is c s) (decided-either P s (refusal c s) (
 
 -- unsound tables refuse every command first of all
 unsound-refusal : (c : Command) (s : Lent) → sound s ≡ false → refusal c s ≡ unsound-tables
-unfolding callerRefusal newTdRefusal newEdgeRefusal releaseRefusal transferRefusal startRefusal stopRefusal
+unfolding callerRefusal newTdRefusal endsRefusal newEdgeRefusal releaseRefusal transferRefusal startRefusal stopRefusal
 unsound-refusal (NewTd t place scope) s h = unless-stop _ _ h
 unsound-refusal (NewEdge t t1 t2) s h = unless-stop _ _ h
 unsound-refusal (Release t t') s h = unless-stop _ _ h
@@ -123,7 +125,7 @@ pub record TakenNewEdge (s : Lent) (t1 t2 : ℕ) : Type 0 where
   pub source-made : t1 < s .made
   pub target-made : t2 < s .made
   pub waits : (status (s .vertices) t2 ≡ NEW) ⊎ (status (s .vertices) t2 ≡ RELEASED)
-  pub adds : (status (s .vertices) t1 ≡ FINISHED) ⊎ Adds s t1 t2
+  pub adds : AddsNothing s t1 t2 ⊎ Adds s t1 t2
 
 pub record TakenTransfer (s : Lent) (t t' : ℕ) : Type 0 where
   pub is-made : t' < s .made
@@ -167,7 +169,58 @@ taken-newTd s t = (
   λ h. taken-caller s t t t _ .1 (h .0, h .0 .is-made, h .0 .is-made, unless-all _ (lt-ltb _ _ (h .1)) refl),
 )
 
--- the last part of newEdge's chain, by whether the source is finished
+-- the three parts of newEdge's chain
+pub taken-ends :
+    (s : Lent) (t t1 t2 own : ℕ)
+    → (endsRefusal s t t1 t2 own ≡ 0)
+    ↔ (Runs s t × (t1 < s .made) × (t2 < s .made) × ((status (s .vertices) t2 ≡ NEW) ⊎ (status (s .vertices) t2 ≡ RELEASED)) × (own ≡ 0))
+unfolding endsRefusal
+taken-ends s t t1 t2 own = (
+  λ h.
+      let (runs, source-made, target-made, rest) = taken-caller s t t1 t2 _ .0 h in
+      let (waits, last) = unless-none _ _ _ rest in
+      (runs, source-made, target-made, ⊎-elim (λ p. inl (eqb-true _ _ p)) (λ p. inr (eqb-true _ _ p)) (either-cases _ _ waits), last),
+  λ h.
+      taken-caller s t t1 t2 _ .1 (
+        h .0,
+        h .1,
+        h .2,
+        unless-all _ (⊎-elim (λ p. either-left _ (eq-eqb _ _ p)) (λ p. either-right _ (eq-eqb _ _ p)) (h .3)) (h .4),
+      ),
+)
+
+pub adds-nothing : (s : Lent) (t1 t2 : ℕ) → (addsNothing s t1 t2 ≡ true) ↔ AddsNothing s t1 t2
+unfolding addsNothing
+adds-nothing s t1 t2 = (
+  λ h.
+      ⊎-elim
+      (λ p. inl (eqb-true _ _ p))
+      (λ p. inr (held-decides s t1 t2 .0 p))
+      (either-cases _ _ h),
+  ⊎-elim
+      (λ p. either-left _ (eq-eqb _ _ p))
+      (λ p. either-right _ (held-decides s t1 t2 .1 p)),
+)
+
+pub adds-one :
+    (s : Lent) (t1 t2 : ℕ) → (addsNothing s t1 t2 ≡ false) ↔ ((status (s .vertices) t1 ≡ FINISHED → ⊥) × (holds (s .edges) (s .held) t1 t2 ≡ false))
+unfolding addsNothing
+adds-one s t1 t2 = (
+  λ h. (eqb-false _ _ (either-false-left _ _ h), either-false-right _ _ h),
+  λ h. either-false (ne-eqb _ _ (h .0)) (h .1),
+)
+
+pub taken-append :
+    (e : List ℕ) (n t1 t2 : ℕ) → (appendRefusal e n t1 t2 ≡ 0) ↔ ((t1 ≡ t2 → ⊥) × (reaches e n t2 t1 ≡ false) × (n < edgeRows e))
+unfolding appendRefusal
+taken-append e n t1 t2 = (
+  λ h.
+      let (cycle, rest) = unless-none _ _ _ h in
+      let (free, last) = unless-none _ _ _ rest in
+      (eqb-false _ _ (either-false-left _ _ (not-true _ cycle)), either-false-right _ _ (not-true _ cycle), ltb-true _ _ free),
+  λ h. unless-all _ (not-of-false (either-false (ne-eqb _ _ (h .0)) (h .1))) (unless-all _ (lt-ltb _ _ (h .2)) refl),
+)
+
 cond-cases : (b : Bool) (m : ℕ) → cond b 0 m ≡ 0 → (b ≡ true) ⊎ ((b ≡ false) × (m ≡ 0))
 cond-cases true m h = inl refl
 cond-cases false m h = inr (refl, h)
@@ -183,45 +236,21 @@ taken-newEdge : (s : Lent) (t t1 t2 : ℕ) → (newEdgeRefusal s t t1 t2 ≡ 0) 
 unfolding newEdgeRefusal
 taken-newEdge s t t1 t2 = (
   λ h.
-      let (runs, source-made, target-made, own) = taken-caller s t t1 t2 _ .0 h in
-      let (waits, h4) = unless-none _ _ _ own in (
-        runs,
-        record {
-          source-made = source-made;
-          target-made = target-made;
-          waits = ⊎-elim (λ p. inl (eqb-true _ _ p)) (λ p. inr (eqb-true _ _ p)) (either-cases _ _ waits);
-          adds =
-              ⊎-elim (λ p. inl (eqb-true _ _ p))
-              (λ p.
-              let (held, h5) = unless-none _ _ _ (p .1) in
-              let (cycle, h6) = unless-none _ _ _ h5 in
-              let (free, h7) = unless-none _ _ _ h6 in
-              inr
-              (record {
-                not-finished = eqb-false _ _ (p .0);
-                not-held = not-true _ held;
-                not-same = eqb-false _ _ (either-false-left _ _ (not-true _ cycle));
-                no-path = either-false-right _ _ (not-true _ cycle);
-                row-free = ltb-true _ _ free;
-              }))
-              (cond-cases _ _ h4);
-        },
-      ),
+      let (runs, source-made, target-made, waits, own) = taken-ends s t t1 t2 _ .0 h in
+      let adds : AddsNothing s t1 t2 ⊎ Adds s t1 t2 =
+      ⊎-elim (λ p. inl (adds-nothing s t1 t2 .0 p))
+      (λ p.
+      let (not-finished, not-held) = adds-one s t1 t2 .0 (p .0) in
+      let (not-same, no-path, row-free) = taken-append _ _ _ _ .0 (p .1) in
+      inr (record { not-finished = not-finished; not-held = not-held; not-same = not-same; no-path = no-path; row-free = row-free }))
+      (cond-cases _ _ own) in
+      (runs, record { source-made = source-made; target-made = target-made; waits = waits; adds = adds }),
   λ h.
-      taken-caller s t t1 t2 _ .1 (
-        h .0,
-        h .1 .source-made,
-        h .1 .target-made,
-        unless-all _
-            (⊎-elim (λ p. either-left _ (eq-eqb _ _ p)) (λ p. either-right _ (eq-eqb _ _ p)) (h .1 .waits))
-            (⊎-elim (λ p. cond-left _ (eq-eqb _ _ p))
-            (λ p.
-            cond-right (hasStatus s t1 FINISHED)
-            (unless-all _ (not-of-false (p .not-held))
-            (unless-all _ (not-of-false (either-false (ne-eqb _ _ (p .not-same)) (p .no-path)))
-            (unless-all _ (lt-ltb _ _ (p .row-free)) refl))))
-            (h .1 .adds)),
-      ),
+      let own : cond (addsNothing s t1 t2) 0 (appendRefusal (s .edges) (s .held) t1 t2) ≡ 0 =
+      ⊎-elim (λ p. cond-left _ (adds-nothing s t1 t2 .1 p))
+      (λ p. cond-right (addsNothing s t1 t2) (taken-append _ _ _ _ .1 (p .not-same, p .no-path, p .row-free)))
+      (h .1 .adds) in
+      taken-ends s t t1 t2 _ .1 (h .0, h .1 .source-made, h .1 .target-made, h .1 .waits, own),
 )
 
 taken-release : (s : Lent) (t t' : ℕ) → (releaseRefusal s t t' ≡ 0) ↔ (Runs s t × (t' < s .made) × (status (s .vertices) t' ≡ NEW))

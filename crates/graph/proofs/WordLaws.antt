@@ -8,16 +8,16 @@ use mathlib.Core.Logic.{⊎-elim}
 use lib.ListN.{getD, length-set}
 use lib.Seq.{getD-set-other}
 use lib.Dec.{ltb}
-use borrow.Author.Tests.{ltb-true, ltb-false, eqb-false}
+use borrow.Author.Tests.{ltb-true, ltb-false}
 use Rattle.graph.specs.declared.Command.{Command}
 use Rattle.graph.specs.declared.Command.the-variants.{NewTd, NewEdge, Release, Transfer, Start, Stop}
-use Rattle.graph.specs.Tables.{Lent, RELEASED, EXECUTING, FINISHED, vertexWords, edgeWords, statusWord, sourceWord, edgeRows, status, source, setStatus}
-use Rattle.graph.specs.Commands.{hasStatus, withVertex, withEdge, withMoved, moved, stopped}
+use Rattle.graph.specs.Tables.{Lent, RELEASED, EXECUTING, FINISHED, vertexWords, edgeWords, statusWord, sourceWord, edgeRows, source, setStatus}
+use Rattle.graph.specs.Commands.{addsNothing, withVertex, withEdge, withMoved, moved, stopped}
 use Rattle.graph.specs.Demand2.{VertexWordOf, EdgeWordOf, SameBut, NewRowOf}
-use Rattle.graph.proofs.TestLaws.{decide, equal?}
+use Rattle.graph.proofs.TestLaws.{true-false, decide, equal?}
 use Rattle.graph.proofs.TableLaws.{length-newRow, newRow-out, newRow-status, newRow-place, newRow-scope, newRow-zero}
 use Rattle.graph.proofs.TableLaws.{length-appended, appended-out, length-moved, moved-out, moved-rest, length-without, without-later}
-use Rattle.graph.proofs.TakenLaws.{leaves, Taken}
+use Rattle.graph.proofs.TakenLaws.{leaves, Taken, adds-nothing}
 
 same-all : (P : ℕ → Type 0) (l : List ℕ) → SameBut P l l
 same-all P l = (refl, λ i f. refl)
@@ -44,7 +44,7 @@ moved-else t t' e n i le f =
 pub vertex-words-of : (c : Command) (s : Lent) → SameBut (VertexWordOf c s) (s .vertices) (leaves c s .vertices)
 unfolding withVertex withEdge withMoved stopped
 vertex-words-of (NewTd t place scope) s = (length-newRow (s .vertices) (s .made) place scope, newRow-out (s .vertices) (s .made) place scope)
-vertex-words-of (NewEdge t t1 t2) s = go (hasStatus s t1 FINISHED)
+vertex-words-of (NewEdge t t1 t2) s = go (addsNothing s t1 t2)
   where
     go : (b : Bool) → SameBut (λ i. ⊥) (s .vertices) (cond b s (withEdge s t1 t2) .vertices)
     go true = same-all (λ i. ⊥) (s .vertices)
@@ -57,13 +57,13 @@ vertex-words-of (Stop t) s = same-but-status (s .vertices) t FINISHED
 pub edge-words-of : (c : Command) (s : Lent) → s .held ≤ edgeRows (s .edges) → SameBut (EdgeWordOf c s) (s .edges) (leaves c s .edges)
 unfolding withVertex withEdge withMoved stopped
 edge-words-of (NewTd t place scope) s le = same-all (λ i. ⊥) (s .edges)
-edge-words-of (NewEdge t t1 t2) s le = go (hasStatus s t1 FINISHED) refl
+edge-words-of (NewEdge t t1 t2) s le = go (addsNothing s t1 t2) refl
   where
-    go : (b : Bool) → hasStatus s t1 FINISHED ≡ b → SameBut (EdgeWordOf (NewEdge t t1 t2) s) (s .edges) (cond b s (withEdge s t1 t2) .edges)
+    go : (b : Bool) → addsNothing s t1 t2 ≡ b → SameBut (EdgeWordOf (NewEdge t t1 t2) s) (s .edges) (cond b s (withEdge s t1 t2) .edges)
     go true q = same-all (EdgeWordOf (NewEdge t t1 t2) s) (s .edges)
     go false q = (
       length-appended (s .edges) (s .held) t1 t2,
-      λ i f. appended-out (s .edges) (s .held) t1 t2 i (λ r. f (eqb-false (status (s .vertices) t1) FINISHED q, r .0, r .1)),
+      λ i f. appended-out (s .edges) (s .held) t1 t2 i (λ r. f (λ n. true-false (adds-nothing s t1 t2 .1 n) q, r .0, r .1)),
     )
 edge-words-of (Release t t') s le = same-all (λ i. ⊥) (s .edges)
 edge-words-of (Transfer t t') s le = (length-moved t t' (s .edges) (s .held), λ i f. moved-else t t' (s .edges) (s .held) i le f)
@@ -92,7 +92,7 @@ new-row-of (Stop t) s h = tt
 pub steps-kept-of : (c : Command) (s : Lent) → leaves c s .steps ≡ s .steps
 unfolding withVertex withEdge withMoved stopped
 steps-kept-of (NewTd t place scope) s = refl
-steps-kept-of (NewEdge t t1 t2) s = go (hasStatus s t1 FINISHED)
+steps-kept-of (NewEdge t t1 t2) s = go (addsNothing s t1 t2)
   where
     go : (b : Bool) → cond b s (withEdge s t1 t2) .steps ≡ s .steps
     go true = refl

@@ -11,7 +11,7 @@ use Rattle.graph.specs.Tables.{Lent, NEW, RELEASED, EXECUTING, FINISHED,
 use Rattle.graph.specs.Tables.{targetWord, vertexRows, edgeRows, status, setStatus, setVertexWord, setEdgeWord, source, target, clear}
 use Rattle.refusal.specs.Refusals.{too-few-vertex-rows, unsound-tables, no-such-vertex, edge-leads-in, vertex-is-new, vertex-is-finished}
 use Rattle.refusal.specs.Refusals.{vertex-is-executing, caller-not-executing}
-use Rattle.refusal.specs.Refusals.{no-vertex-row, no-edge-row, target-not-waiting, edge-held, closes-cycle, release-not-new}
+use Rattle.refusal.specs.Refusals.{no-vertex-row, no-edge-row, target-not-waiting, closes-cycle, release-not-new}
 use Rattle.refusal.specs.Refusals.{transfer-not-new, transfer-has-edge-out}
 use Rattle.graph.specs.Answers.{CommandSaid, Outcome, opened, opening-refused, unless, decided, OpeningSaid}
 use Rattle.graph.specs.Sound.{sound}
@@ -77,16 +77,25 @@ withVertex s place scope =
 unfoldable pub newTd : Lent → ℕ → ℕ → ℕ → Outcome CommandSaid
 newTd s t place scope = decided s (newTdRefusal s t) (CommandSaid.new (s .made)) (withVertex s place scope)
 
--- "newEdge t1 to t2: t2 is new or released. A finished t1 adds nothing and is accepted. Otherwise the edge must not be held
--- already, and is appended." "Cycle for newEdge: t1 is t2 or t2 reaches t1."
+-- "newEdge t1 to t2: t2 is new or released." What else can be due follows.
+unfoldable pub endsRefusal : Lent → ℕ → ℕ → ℕ → ℕ → ℕ
+endsRefusal s t t1 t2 own =
+    callerRefusal s t t1 t2 (unless (either (hasStatus s t2 NEW) (hasStatus s t2 RELEASED)) target-not-waiting own)
+
+-- "A finished t1 adds nothing and is accepted." "An edge held already is now accepted and changes nothing, tested before 35."
+-- (document 02, note 3)
+unfoldable pub addsNothing : Lent → ℕ → ℕ → Bool
+addsNothing s t1 t2 = either (hasStatus s t1 FINISHED) (holds (s .edges) (s .held) t1 t2)
+
+-- Any other edge is appended. "Cycle for newEdge: t1 is t2 or t2 reaches t1."
+unfoldable pub appendRefusal : List ℕ → ℕ → ℕ → ℕ → ℕ
+appendRefusal e n t1 t2 =
+    unless (not (either (eqb t1 t2) (reaches e n t2 t1))) closes-cycle
+    (unless (ltb n (edgeRows e)) no-edge-row 0)
+
 unfoldable pub newEdgeRefusal : Lent → ℕ → ℕ → ℕ → ℕ
 newEdgeRefusal s t t1 t2 =
-    callerRefusal s t t1 t2
-    (unless (either (hasStatus s t2 NEW) (hasStatus s t2 RELEASED)) target-not-waiting
-    (cond (hasStatus s t1 FINISHED) 0
-    (unless (not (holds (s .edges) (s .held) t1 t2)) edge-held
-    (unless (not (either (eqb t1 t2) (reaches (s .edges) (s .held) t2 t1))) closes-cycle
-    (unless (ltb (s .held) (edgeRows (s .edges))) no-edge-row 0)))))
+    endsRefusal s t t1 t2 (cond (addsNothing s t1 t2) 0 (appendRefusal (s .edges) (s .held) t1 t2))
 
 unfoldable pub appended : List ℕ → ℕ → ℕ → ℕ → List ℕ
 appended e n t1 t2 = setEdgeWord (setEdgeWord e n sourceWord t1) n targetWord t2
@@ -103,7 +112,7 @@ withEdge s t1 t2 =
 
 unfoldable pub newEdge : Lent → ℕ → ℕ → ℕ → Outcome CommandSaid
 newEdge s t t1 t2 =
-    decided s (newEdgeRefusal s t t1 t2) (CommandSaid.edge t1 t2) (cond (hasStatus s t1 FINISHED) s (withEdge s t1 t2))
+    decided s (newEdgeRefusal s t t1 t2) (CommandSaid.edge t1 t2) (cond (addsNothing s t1 t2) s (withEdge s t1 t2))
 
 -- "release turns a new vertex released."
 unfoldable pub releaseRefusal : Lent → ℕ → ℕ → ℕ

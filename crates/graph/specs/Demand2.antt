@@ -14,7 +14,7 @@ use Rattle.graph.specs.Tables.{Lent, NEW, EXECUTING, FINISHED, vertexWor
 use Rattle.graph.specs.Tables.{vertexRows, edgeRows, vertexWord, status, source, target}
 use Rattle.refusal.specs.Refusals.{unsound-tables, no-such-vertex, edge-leads-in, vertex-is-new, vertex-is-finished, vertex-is-executing}
 use Rattle.refusal.specs.Refusals.{caller-not-executing, no-vertex-row}
-use Rattle.refusal.specs.Refusals.{no-edge-row, target-not-waiting, edge-held, closes-cycle, release-not-new, transfer-not-new, transfer-has-edge-out}
+use Rattle.refusal.specs.Refusals.{no-edge-row, target-not-waiting, closes-cycle, release-not-new, transfer-not-new, transfer-has-edge-out}
 use Rattle.graph.specs.Paths.{Leads, holds}
 use Rattle.graph.specs.Rules.{Graph, Unguarded}
 
@@ -26,10 +26,27 @@ graph s =
       edge = holds (s .edges) (s .held);
     }
 
--- "any row it needs is free"; an edge out of a finished vertex needs none
+abbrev pub HasStatus : Lent → ℕ → ℕ → Type 0
+HasStatus s t x = status (s .vertices) t ≡ x
+
+-- an edge is held: out of a, into b, from a to b
+abbrev pub EdgeOutOf : Lent → ℕ → Type 0
+EdgeOutOf s a = (i : ℕ) × (i < s .held) × (source (s .edges) i ≡ a)
+
+abbrev pub EdgeInto : Lent → ℕ → Type 0
+EdgeInto s b = (i : ℕ) × (i < s .held) × (target (s .edges) i ≡ b)
+
+abbrev pub EdgeHeld : Lent → ℕ → ℕ → Type 0
+EdgeHeld s a b = (i : ℕ) × (i < s .held) × ((source (s .edges) i ≡ a) × (target (s .edges) i ≡ b))
+
+-- newEdge adds nothing: "A finished t1 adds nothing"; "An edge held already .. changes nothing" (document 02, note 3)
+abbrev pub AddsNothing : Lent → ℕ → ℕ → Type 0
+AddsNothing s t1 t2 = HasStatus s t1 FINISHED ⊎ EdgeHeld s t1 t2
+
+-- "any row it needs is free"; an edge that adds nothing needs none
 abbrev pub RowFree : Command → Lent → Type 0
 RowFree (NewTd t place scope) s = s .made < vertexRows (s .vertices)
-RowFree (NewEdge t t1 t2) s = (status (s .vertices) t1 ≡ FINISHED) ⊎ (s .held < edgeRows (s .edges))
+RowFree (NewEdge t t1 t2) s = AddsNothing s t1 t2 ⊎ (s .held < edgeRows (s .edges))
 RowFree (Release t t') s = Unit {0}
 RowFree (Transfer t t') s = Unit {0}
 RowFree (Start t) s = Unit {0}
@@ -45,12 +62,12 @@ VertexWordOf (Transfer t t') s i = ⊥
 VertexWordOf (Start t) s i = i ≡ vertexWords * t + statusWord
 VertexWordOf (Stop t) s i = i ≡ vertexWords * t + statusWord
 
--- The words of the edge table that a command may change: the row of the edge that it adds, which a finished source
--- does not, the sources that it moves, the rows held before a stop.
+-- The words of the edge table that a command may change: the row of the edge that it adds, if it adds one, the sources that it moves,
+-- the rows held before a stop.
 abbrev pub EdgeWordOf : Command → Lent → ℕ → Type 0
 EdgeWordOf (NewTd t place scope) s i = ⊥
 EdgeWordOf (NewEdge t t1 t2) s i =
-    (status (s .vertices) t1 ≡ FINISHED → ⊥) × (edgeWords * s .held ≤ i) × (i < edgeWords * s .held + edgeWords)
+    (AddsNothing s t1 t2 → ⊥) × (edgeWords * s .held ≤ i) × (i < edgeWords * s .held + edgeWords)
 EdgeWordOf (Release t t') s i = ⊥
 EdgeWordOf (Transfer t t') s i = (j : ℕ) × (j < s .held) × (source (s .edges) j ≡ t) × (i ≡ edgeWords * j + sourceWord)
 EdgeWordOf (Start t) s i = ⊥
@@ -142,19 +159,6 @@ NoSuchVertex s (Transfer t t') = (s .made ≤ t) ⊎ (s .made ≤ t')
 NoSuchVertex s (Start t) = s .made ≤ t
 NoSuchVertex s (Stop t) = s .made ≤ t
 
-abbrev pub HasStatus : Lent → ℕ → ℕ → Type 0
-HasStatus s t x = status (s .vertices) t ≡ x
-
--- an edge is held: out of a, into b, from a to b
-abbrev pub EdgeOutOf : Lent → ℕ → Type 0
-EdgeOutOf s a = (i : ℕ) × (i < s .held) × (source (s .edges) i ≡ a)
-
-abbrev pub EdgeInto : Lent → ℕ → Type 0
-EdgeInto s b = (i : ℕ) × (i < s .held) × (target (s .edges) i ≡ b)
-
-abbrev pub EdgeHeld : Lent → ℕ → ℕ → Type 0
-EdgeHeld s a b = (i : ℕ) × (i < s .held) × ((source (s .edges) i ≡ a) × (target (s .edges) i ≡ b))
-
 -- a path of held edges leads from a to b
 abbrev pub Reaches : Lent → ℕ → ℕ → Type 0
 Reaches s a b = Leads (holds (s .edges) (s .held)) a b
@@ -167,8 +171,8 @@ abbrev pub TransferCycle : Lent → ℕ → ℕ → Type 0
 TransferCycle s t t' =
     (i : ℕ) × (i < s .held) × ((source (s .edges) i ≡ t) × ((target (s .edges) i ≡ t') ⊎ Reaches s (target (s .edges) i) t'))
 
--- "newTd 30, 31; newEdge 30, 33, (finished source accepted), 34, 35, 32; release 30, 36; transfer 30, 37, 38, 35; start 22, 39, 23, 21;
--- stop 30"
+-- "newTd 30, 31; newEdge 30, 33, (finished source accepted), .. 35, 32; release 30, 36; transfer 30, 37, 38, 35; start 22, 39, 23, 21;
+-- stop 30"; "An edge held already is now accepted and changes nothing, tested before 35." (document 02, note 3)
 abbrev pub ownReasons : Command → Lent → Reasons
 ownReasons (NewTd t place scope) s =
     refused-where (HasStatus s t EXECUTING → ⊥) caller-not-executing
@@ -176,10 +180,9 @@ ownReasons (NewTd t place scope) s =
 ownReasons (NewEdge t t1 t2) s =
     refused-where (HasStatus s t EXECUTING → ⊥) caller-not-executing
     (refused-where (HasStatus s t2 EXECUTING ⊎ HasStatus s t2 FINISHED) target-not-waiting
-    (accepted-where (HasStatus s t1 FINISHED)
-    (refused-where (EdgeHeld s t1 t2) edge-held
+    (accepted-where (AddsNothing s t1 t2)
     (refused-where (NewEdgeCycle s t1 t2) closes-cycle
-    (refused-where (edgeRows (s .edges) ≤ s .held) no-edge-row no-more)))))
+    (refused-where (edgeRows (s .edges) ≤ s .held) no-edge-row no-more))))
 ownReasons (Release t t') s =
     refused-where (HasStatus s t EXECUTING → ⊥) caller-not-executing
     (refused-where (HasStatus s t' NEW → ⊥) release-not-new no-more)

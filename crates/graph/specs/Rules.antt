@@ -63,12 +63,9 @@ added G t1 t2 a b = cond (isFinished (G .status t1)) false (both (eqb a t1) (eqb
 abbrev pub _∖_ : (ℕ → ℕ → Bool) → (ℕ → ℕ → Bool) → ℕ → ℕ → Bool
 _∖_ E D a b = both (E a b) (not (D a b))
 
--- The union of E and D; the slides' ⊎ asks besides that they are disjoint.
+-- The slides' ⊎, a plain union: "In the calculus the edges are a set" (document 02, note 3).
 abbrev pub _∪_ : (ℕ → ℕ → Bool) → (ℕ → ℕ → Bool) → ℕ → ℕ → Bool
 _∪_ E D a b = either (E a b) (D a b)
-
-abbrev pub Disjoint : (ℕ → ℕ → Bool) → (ℕ → ℕ → Bool) → Type 0
-Disjoint E D = (a b : ℕ) → both (E a b) (D a b) ≡ false
 
 pub record NEWTD (G : Graph) (t t' : ℕ) (G' : Graph) : Type 0 where
   pub caller : G .status t ≡ X
@@ -95,7 +92,6 @@ pub record NEWEDGE (Free : (ℕ → ℕ → Bool) → Type 0) (G : Graph) (t t1 
   pub source-in : inDomain G t1 ≡ true
   pub target-in : inDomain G t2 ≡ true
   pub target-waits : (G .status t2 ≡ N) ⊎ (G .status t2 ≡ R)
-  pub disjoint : Disjoint (G .edge) (added G t1 t2)
   pub after : G' ≡ record { status = G .status; edge = G .edge ∪ added G t1 t2 }
   pub cycle-free : Free (G' .edge)
 
@@ -103,7 +99,6 @@ pub record TRANSFER (Free : (ℕ → ℕ → Bool) → Type 0) (G : Graph) (t t'
   pub caller : G .status t ≡ X
   pub is-new : G .status t' ≡ N
   pub no-edge-out : (t'' : ℕ) → G .edge t' t'' ≡ false
-  pub disjoint : Disjoint (G .edge ∖ outOf G t) (resourced G t t')
   pub after : G' ≡ record { status = G .status; edge = (G .edge ∖ outOf G t) ∪ resourced G t t' }
   pub cycle-free : Free (G' .edge)
 

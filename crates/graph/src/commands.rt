@@ -9,7 +9,9 @@ use crate::Tally;
 use crate::edges::drop_edges;
 use crate::edges::move_sources;
 use crate::refusals::ACCEPTED;
-use crate::refusals::new_edge_refusal;
+use crate::refusals::adds_nothing;
+use crate::refusals::append_refusal;
+use crate::refusals::ends_refusal;
 use crate::refusals::new_td_refusal;
 use crate::refusals::release_refusal;
 use crate::refusals::start_refusal;
@@ -19,7 +21,6 @@ use crate::rows::EDGE_WORDS;
 use crate::rows::EXECUTING;
 use crate::rows::FINISHED;
 use crate::rows::RELEASED;
-use crate::rows::STATUS;
 use crate::rows::VERTEX_WORDS;
 use crate::rows::append_edge;
 use crate::rows::clear;
@@ -104,7 +105,7 @@ fn new_td(
     }
 }
 
-// Adds the edge from `source` to `target`; a finished source adds nothing and is accepted.
+// Adds the edge from `source` to `target`. Out of a finished vertex, or held already, it adds nothing and is accepted.
 fn new_edge(
     vertices: &[u32],
     edges: &mut [u32],
@@ -116,17 +117,21 @@ fn new_edge(
     requires { ⌜ sound (lent (now vertices) (now edges) tally) ≡ true ⌝ }
     ensures { λ r. ⌜ outcome r (now (vertices .entry)) (now (edges .exit)) ≡ newEdge (lent (now (vertices .entry)) (now (edges .entry)) tally) caller source target ⌝ }
 {
-    let refusal = new_edge_refusal(vertices, edges, tally, caller, source, target);
-    if refusal != ACCEPTED {
-        return refused(refusal, tally);
+    let first = ends_refusal(vertices, edges, tally, caller, source, target);
+    if first != ACCEPTED {
+        return refused(first, tally);
     }
-    if vertices[VERTEX_WORDS * (source as usize) + STATUS] == FINISHED {
+    if adds_nothing(vertices, edges, tally, source, target) {
         return Done {
             answer: Answer::Edge(source, target),
             tally,
         };
     }
     let held = tally.held;
+    let last = append_refusal(edges, held as usize, source, target);
+    if last != ACCEPTED {
+        return refused(last, tally);
+    }
     append_edge(edges, held as usize, source, target);
     Done {
         answer: Answer::Edge(source, target),

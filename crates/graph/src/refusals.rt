@@ -16,7 +16,6 @@ use crate::rows::edge_rows;
 use crate::rows::vertex_rows;
 use refusal::CALLER_NOT_EXECUTING;
 use refusal::CLOSES_CYCLE;
-use refusal::EDGE_HELD;
 use refusal::EDGE_LEADS_IN;
 use refusal::NO_EDGE_ROW;
 use refusal::NO_SUCH_VERTEX;
@@ -30,13 +29,15 @@ use refusal::VERTEX_IS_FINISHED;
 use refusal::VERTEX_IS_NEW;
 ghost use mathlib.Core.Path.{_≡_};
 ghost use mathlib.Core.Bool.{true};
+ghost use Prim.Native.Nat.{_<_};
 ghost use lib.Dec.{eqb};
 ghost use Rattle.graph.specs.Tests.{either};
 ghost use Rattle.graph.specs.Tables.{lent, NEW, RELEASED};
 ghost use Rattle.graph.specs.Sound.{sound};
 ghost use Rattle.graph.specs.Paths.{reaches};
 ghost use Rattle.graph.specs.Internal.Search.{Searchable};
-ghost use Rattle.graph.specs.Commands.{callerRefusal, newTdRefusal, newEdgeRefusal, releaseRefusal, transferRefusal, startRefusal, stopRefusal};
+ghost use Rattle.graph.specs.Commands.{callerRefusal, newTdRefusal, endsRefusal, addsNothing, appendRefusal, newEdgeRefusal, releaseRefusal};
+ghost use Rattle.graph.specs.Commands.{transferRefusal, startRefusal, stopRefusal};
 
 // No refusal is due.
 pub const ACCEPTED: u32 = 0;
@@ -98,7 +99,60 @@ fn closes_cycle(edges: &[u32], held: usize, source: u32, target: u32) -> bool
     reaches(edges, held, target, source)
 }
 
-// newEdge: 20, 30, 33, then nothing for a finished source, 34, 35, 32.
+// newEdge's refusals that its caller and its ends cause: 20, 30, 33.
+pub(crate) fn ends_refusal(
+    vertices: &[u32],
+    edges: &[u32],
+    tally: Tally,
+    caller: u32,
+    source: u32,
+    target: u32,
+) -> u32
+    requires { ⌜ sound (lent (now vertices) (now edges) tally) ≡ true ⌝ }
+    ensures { λ r. ⌜ r ≡ endsRefusal (lent (now (vertices .entry)) (now (edges .entry)) tally) caller source target 0 ⌝ }
+{
+    let first = caller_refusal(vertices, edges, tally, caller, source, target);
+    if first != ACCEPTED {
+        return first;
+    }
+    if !waits(vertices[VERTEX_WORDS * (target as usize) + STATUS]) {
+        return TARGET_NOT_WAITING;
+    }
+    ACCEPTED
+}
+
+// An edge from `source` to `target` adds nothing: its source is finished, or it is held already.
+pub(crate) fn adds_nothing(
+    vertices: &[u32],
+    edges: &[u32],
+    tally: Tally,
+    source: u32,
+    target: u32,
+) -> bool
+    requires { ⌜ (sound (lent (now vertices) (now edges) tally) ≡ true) × (source < tally .made) ⌝ }
+    ensures { λ r. ⌜ r ≡ addsNothing (lent (now (vertices .entry)) (now (edges .entry)) tally) source target ⌝ }
+{
+    if vertices[VERTEX_WORDS * (source as usize) + STATUS] == FINISHED {
+        return true;
+    }
+    is_held(edges, tally.held as usize, source, target)
+}
+
+// The refusals of an edge that is to be appended: 35, 32.
+pub(crate) fn append_refusal(edges: &[u32], held: usize, source: u32, target: u32) -> u32
+    requires { ⌜ Searchable (now edges) held target source ⌝ }
+    ensures { λ r. ⌜ r ≡ appendRefusal (now (edges .entry)) held source target ⌝ }
+{
+    if closes_cycle(edges, held, source, target) {
+        return CLOSES_CYCLE;
+    }
+    if edge_rows(edges) <= held {
+        return NO_EDGE_ROW;
+    }
+    ACCEPTED
+}
+
+// newEdge: 20, 30, 33, then none for an edge that adds nothing, 35, 32.
 pub fn new_edge_refusal(
     vertices: &[u32],
     edges: &[u32],
@@ -110,27 +164,14 @@ pub fn new_edge_refusal(
     requires { ⌜ sound (lent (now vertices) (now edges) tally) ≡ true ⌝ }
     ensures { λ r. ⌜ r ≡ newEdgeRefusal (lent (now (vertices .entry)) (now (edges .entry)) tally) caller source target ⌝ }
 {
-    let held = tally.held as usize;
-    let first = caller_refusal(vertices, edges, tally, caller, source, target);
+    let first = ends_refusal(vertices, edges, tally, caller, source, target);
     if first != ACCEPTED {
         return first;
     }
-    if !waits(vertices[VERTEX_WORDS * (target as usize) + STATUS]) {
-        return TARGET_NOT_WAITING;
-    }
-    if vertices[VERTEX_WORDS * (source as usize) + STATUS] == FINISHED {
+    if adds_nothing(vertices, edges, tally, source, target) {
         return ACCEPTED;
     }
-    if is_held(edges, held, source, target) {
-        return EDGE_HELD;
-    }
-    if closes_cycle(edges, held, source, target) {
-        return CLOSES_CYCLE;
-    }
-    if edge_rows(edges) <= held {
-        return NO_EDGE_ROW;
-    }
-    ACCEPTED
+    append_refusal(edges, tally.held as usize, source, target)
 }
 
 // release: 20, 30, 36.

@@ -92,10 +92,6 @@ no-edge-row = 32
 abbrev pub target-not-waiting : ℕ
 target-not-waiting = 33
 
--- "34 edge held already"
-abbrev pub edge-held : ℕ
-edge-held = 34
-
 -- "35 cycle"
 abbrev pub closes-cycle : ℕ
 closes-cycle = 35

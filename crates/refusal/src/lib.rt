@@ -53,8 +53,6 @@ pub const NO_EDGE_ROW: u32 = 32;
 
 pub const TARGET_NOT_WAITING: u32 = 33;
 
-pub const EDGE_HELD: u32 = 34;
-
 pub const CLOSES_CYCLE: u32 = 35;
 
 pub const RELEASE_NOT_NEW: u32 = 36;

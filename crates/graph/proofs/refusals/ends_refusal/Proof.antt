@@ -1,0 +1,18 @@
+-- The tests are the definition's, in the same order: `search chain` answers by those passed.
+use borrow.Author.Needs.{needs}
+use Rattle.graph.specs.Commands.{endsRefusal}
+use Rattle.graph.proofs.CallLaws.{chain}
+use Rattle.graph.proofs.refusals.ends_refusal.Statement.{statement}
+use Rattle.graph.proofs.refusals.ends_refusal.Tie as tie
+
+pub ends-refusal-spec : {M : Type 1} → statement M
+unfolding endsRefusal
+ends-refusal-spec = tie.close (tie.spec (λ c κs. search needs)
+    (λ c. search chain)
+    (λ c. search needs)
+    (λ c. search needs)
+    (λ c. search needs)
+    (λ c. search chain)
+    (λ c κs. search needs)
+    (λ c. search chain)
+    (λ c. search chain))
