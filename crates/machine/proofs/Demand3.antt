@@ -95,7 +95,7 @@ answers-at :
     → (r : Code) × (S .control v ≡ busy (job-at o n r) [])
 answers-at says-start h = clash cc
 answers-at says-new h = clash cc
-answers-at (says-edge a b) h = clash cc
+answers-at (says-edge a b new) h = clash cc
 answers-at (says-release m) h = clash cc
 answers-at (says-transfer m) h = clash cc
 answers-at {S} {v} {n} {o} (says-job {o = o'} {n = n'} {r} at) h =

@@ -15,7 +15,7 @@
 --     AheadUnique     the body that this order looks at is the only one there is, and so the innermost
 --     AheadExamples   this order, on two of document 01's programs
 --     OrderExamples   and in every list of steps of one of them
---     ReachedLaws     more of whatever is reached: the rows suffice, and an executing vertex can step
+--     ReachedLaws     more of whatever is reached: the rows suffice, an executing vertex can step, and a step's edge is a new one
 -- In rooms of their own, each with its list:
 --     GhostMachine    the ghost machine, and what holds of every state that it reaches
 --     Counting        counting what is left to do

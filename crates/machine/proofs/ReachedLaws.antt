@@ -1,23 +1,33 @@
--- More that holds of whatever is reached from a loading: the rows that loading asked for are enough, and an executing vertex can always step.
+-- More that holds of whatever is reached from a loading: the rows that loading asked for are enough, an executing vertex can always step, and
+-- a step's edge is a new one.
 use Prim.Native.Nat.{ℕ, _-_, _<_, _≤_}
-use mathlib.Core.Path.{_≡_, refl, sym, _∙_, subst}
-use mathlib.Core.Bool.{true}
+use mathlib.Core.Path.{_≡_, refl, sym, _∙_, ap, ap₂, subst}
+use mathlib.Core.Bool.{true, false}
 use mathlib.Core.List.{List}
 use native.Mathlib.Omega.{arith}
 use lib.ListN.{length}
 use Rattle.graph.specs.Tables.{Lent, EXECUTING, status}
+use Rattle.graph.specs.Answers.{Outcome}
+use Rattle.graph.specs.Demand2.{EdgeHeld}
+use Rattle.graph.proofs.TestLaws.{true-false}
+use Rattle.graph.proofs.EdgeLaws.{held-decides}
 use Rattle.program.specs.Trees.{Body, counts}
 use Rattle.program.specs.Encodings.{vertexFormula, edgeRowFormula}
 use Rattle.program.specs.Reader.{reading, program}
+use Rattle.program.specs.Located.{locate}
 use Rattle.program.proofs.Formulas.{vertices-formula, edgeRows-formula}
 use Rattle.machine.specs.Answers.{StepSaid}
+use Rattle.machine.specs.Stepping.{step}
 use Rattle.machine.specs.Running.{canStep}
 use Rattle.machine.specs.Reached.{Reached}
-use Rattle.machine.proofs.GhostMachine.Ghost.{Control, draft, fresh, ready, busy, joining, over, State}
+use Rattle.machine.proofs.GhostMachine.Ghost.{Event, Control, draft, fresh, ready, busy, joining, over, State}
+use Rattle.machine.proofs.GhostMachine.GhostLaws.{clash}
 use Rattle.machine.proofs.Counting.CountLaws.{vertices-bound, edges-bound}
 use Rattle.machine.proofs.GhostMachine.Progress.{Free, at-code, at-work}
+use Rattle.machine.proofs.TablesFollow.Follows.{Answers, says-start, says-new, says-edge, says-release, says-transfer, says-job}
+use Rattle.machine.proofs.TablesFollow.Follows.{says-stop, Followed, refused, moved}
 use Rattle.machine.proofs.TablesFollow.FollowLaws.{statusOf, follows-status}
-use Rattle.machine.proofs.TablesFollow.Tracked.{tracked}
+use Rattle.machine.proofs.TablesFollow.Tracked.{Tracked, stepped-as, rows-lent, tracked}
 use Rattle.machine.proofs.Demand3.{free-steps}
 
 -- At most V vertices are made, and at most the edge rows needed are held.
@@ -46,3 +56,31 @@ executing-steps bytes t {s = s} r q v lt h =
     let T = tracked bytes t r q in
     let l : v < T .state .count = subst (λ (n : ℕ). v < n) (T .follows .made-is) lt in
     free-steps bytes t r q v (status-free (T .state .control v) refl (sym (follows-status s (T .state) v (T .follows) l) ∙ h))
+
+-- "A loaded program never meets this case" (document 02, note 3): an edge that a step says was not held already.
+pub edge-is-new : (bytes : List ℕ) (t : Body) {s₀ : Lent} {answers : List StepSaid} {s : Lent} → reading bytes ≡ program t
+    → Reached bytes s₀ answers s → (v a b : ℕ) → step bytes s v .answer ≡ StepSaid.edge a b → EdgeHeld s a b → ⊥
+edge-is-new bytes t {s₀} {answers} {s} r q v a b h held =
+    true-false (sym (T .follows .edges-are a b) ∙ held-decides s a b .1 held)
+    (of-step (step bytes s v) (stepped-as bytes t s₀ r (rows-lent bytes t r q) T v) h)
+  where
+    T : Tracked bytes t s₀ answers s
+    T = tracked bytes t r q
+
+    of-answer : {e : Event} {said : StepSaid} → Answers (T .state) v e said → said ≡ StepSaid.edge a b → T .state .edge a b ≡ false
+    of-answer says-start z = clash cc
+    of-answer says-new z = clash cc
+    of-answer (says-edge x y new) z =
+        let p : x ≡ a = cc in
+        let p' : y ≡ b = cc in
+        sym (ap₂ (T .state .edge) p p') ∙ new
+    of-answer (says-release m) z = clash cc
+    of-answer (says-transfer m) z = clash cc
+    of-answer (says-job c) z = clash cc
+    of-answer says-stop z = clash cc
+
+    of-step :
+        (o : Outcome StepSaid) → Followed (locate 0 t) (length bytes - 1) s (T .state) v o → o .answer ≡ StepSaid.edge a b
+        → T .state .edge a b ≡ false
+    of-step o (refused n w e) z = let y = sym (ap (λ (x : Outcome StepSaid). x .answer) e) ∙ z in clash cc
+    of-step o (moved e S' m f says tally) z = of-answer says z

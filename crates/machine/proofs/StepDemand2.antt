@@ -13,6 +13,7 @@
 --     released-step     a released vertex: started, or refused by 21
 --     blocked-step      refused where an edge leads in
 --     step-place        a refusal has the place 0
+--     step-never-34     and never the number 34
 use Prim.Native.Nat.{ℕ, _+_, _-_, _<_, _≤_}
 use mathlib.Core.Path.{_≡_, refl, sym, _∙_, ap, subst}
 use mathlib.Core.Bool.{Bool, true, false, not, cond}
@@ -37,7 +38,7 @@ use Rattle.graph.specs.declared.Command as single
 use Rattle.graph.proofs.TestLaws.{true-false, both-left, both-right, not-of-false}
 use Rattle.graph.proofs.RefusalLaws.{unless-pass}
 use Rattle.graph.proofs.SoundLaws.{sound-fits}
-use Rattle.graph.proofs.Reasons.{refused-place}
+use Rattle.graph.proofs.Reasons.{refused-place, never-34}
 use Rattle.graph.proofs.Demand2.{refused-keeps, effect, acceptance}
 use Rattle.program.specs.Encodings.{Spot, Command, perform, newTd, newEdge, transfer, release, Row}
 use Rattle.program.specs.Located.{itemAt}
@@ -289,3 +290,18 @@ step-place bytes s v n p h = there (step-refused bytes s v n p .0 h)
     there : {n p : ℕ} → Refused bytes s v n p → p ≡ 0
     there (before e b) = refl
     there {n} {p} (by-command c w e q) = refused-place c s n p q
+
+-- "Refusal 34 is never given" (document 02, note 3), by a step either.
+pub step-never-34 : (bytes : List ℕ) (s : Lent) (v p : ℕ) → step bytes s v .answer ≡ StepSaid.refused 34 p → ⊥
+step-never-34 bytes s v p h = there (step-refused bytes s v 34 p .0 h) refl
+  where
+    not-before : {n : ℕ} → Before n → n ≡ 34 → ⊥
+    not-before (inl z) q = omega arith
+    not-before (inr (inl z)) q = omega arith
+    not-before (inr (inr (inl z))) q = omega arith
+    not-before (inr (inr (inr (inl z)))) q = omega arith
+    not-before (inr (inr (inr (inr z)))) q = omega arith
+
+    there : {n p : ℕ} → Refused bytes s v n p → n ≡ 34 → ⊥
+    there (before e b) q = not-before b q
+    there {p = p} (by-command c w e r) q = never-34 c s p (subst (λ (n : ℕ). command c s .answer ≡ of-graph.refused n p) q r)

@@ -1,14 +1,14 @@
 -- Document 01's "Bench examples" that are starred, as document 02's notes change them, and examples of these notes: one table over the
 -- definitions of the calls. The proof of the table is in proofs/Examples.antt.
-use Prim.Native.Nat.{ℕ, _*_}
+use Prim.Native.Nat.{ℕ, _-_, _*_}
 use mathlib.Core.Path.{_≡_}
 use mathlib.Core.Bool.{Bool, true}
-use mathlib.Core.List.{List, [], _∷_, map}
+use mathlib.Core.List.{List, [], _∷_, _++_, map}
 use mathlib.Core.Option.{Option, some}
 use lib.ListN.{replicate}
-use Rattle.graph.specs.Tables.{Lent, vertexWords, edgeWords}
+use Rattle.graph.specs.Tables.{Lent, NEW, EXECUTING, vertexWords, edgeWords}
 use Rattle.graph.specs.Answers as of-graph
-use Rattle.graph.specs.Commands.{opening, command}
+use Rattle.graph.specs.Commands.{opening, withEdge, command}
 use Rattle.graph.specs.declared.Command as single
 use Rattle.graph.specs.declared.Command.the-variants.{NewTd, NewEdge, Transfer, Start}
 use Rattle.graph.specs.Answers.{Outcome}
@@ -27,13 +27,29 @@ pub data Example : Type 0 where
   comes : List ℕ → ℕ → StepSaid → Example
   -- this program loads, steps that name these vertices say this, one after the other, and then all are finished
   goes : List ℕ → List (ℕ × StepSaid) → Example
+  -- this program loads and takes steps of these vertices, then the host writes this edge into its table, and steps that name these
+  -- vertices say this, one after the other, and then all are finished
+  altered : List ℕ → List ℕ → ℕ × ℕ → List (ℕ × StepSaid) → Example
   -- the bare machine opens, and these commands say this, one after the other
   bare : List (single.Command × of-graph.CommandSaid) → Example
+  -- on these tables these commands say this, one after the other, and leave everything as it was
+  keeps : Lent → List (single.Command × of-graph.CommandSaid) → Example
 
 -- what is lent: five vertex rows and four edge rows, where anything stands
 unfoldable pub anything : Lent
 anything =
     record { vertices = replicate (vertexWords * 5) 9; edges = replicate (edgeWords * 4) 9; made = 7; held = 7; steps = 7 }
+
+-- three vertices, the first executing and the others new, and a full table of edges: from 1 to 2, from 2 to 1 and from 2 to 2
+unfoldable pub cycleLent : Lent
+cycleLent =
+    record {
+      vertices = EXECUTING ∷ replicate (vertexWords - 1) 0 ++ NEW ∷ replicate (vertexWords - 1) 0 ++ NEW ∷ replicate (vertexWords - 1) 0;
+      edges = 1 ∷ 2 ∷ 2 ∷ 1 ∷ 2 ∷ 2 ∷ [];
+      made = 3;
+      held = 3;
+      steps = 0;
+    }
 
 -- more than any example takes
 abbrev pub enough : ℕ
@@ -48,10 +64,18 @@ unfoldable pub leftBy : List ℕ → Lent → List ℕ → Lent
 leftBy bytes s [] = s
 leftBy bytes s (v ∷ vs) = leftBy bytes (step bytes s v .after) vs
 
--- what single commands say
+-- a loading, the steps after it that name these vertices, and one edge more in the table
+unfoldable pub edgeWritten : List ℕ → List ℕ → ℕ × ℕ → Outcome LoadingSaid → Outcome LoadingSaid
+edgeWritten bytes vs ends o = record { answer = o .answer; after = withEdge (leftBy bytes (o .after) vs) (ends .0) (ends .1) }
+
+-- what single commands say, and what the last of them leaves
 unfoldable pub saidBare : Lent → List single.Command → List of-graph.CommandSaid
 saidBare s [] = []
 saidBare s (c ∷ cs) = command c s .answer ∷ saidBare (command c s .after) cs
+
+unfoldable pub leftBare : Lent → List single.Command → Lent
+leftBare s [] = s
+leftBare s (c ∷ cs) = leftBare (command c s .after) cs
 
 -- the calls of a list of calls and answers, and the answers
 abbrev pub firsts : {A B : Type 0} → List (A × B) → List A
@@ -61,13 +85,14 @@ abbrev pub seconds : {A B : Type 0} → List (A × B) → List B
 seconds l = map (λ x. x .1) l
 
 -- What the calls of an example come to: loading's answer, then the run's ending, last step and number of steps; or what the steps say,
--- and whether all are finished then; or the opening's answer and what the commands say.
+-- and whether all are finished then; or the opening's answer and what the commands say; or what commands say and leave.
 pub data Result : Type 0 where
   ran : LoadingSaid → Ending → Option StepSaid → ℕ → Result
   stepped : LoadingSaid → List StepSaid → Bool → Result
   commanded : of-graph.OpeningSaid → List of-graph.CommandSaid → Result
+  left : List of-graph.CommandSaid → Lent → Result
 
--- a run of a program that was loaded; steps of it; commands after the opening
+-- a run of a program that was loaded; steps of it; commands after the opening, and on tables as they are lent
 unfoldable pub runs : List ℕ → ℕ → Outcome LoadingSaid → Result
 runs p budget o =
     ran (o .answer) (run p (o .after) budget .ending) (run p (o .after) budget .last) (run p (o .after) budget .taken)
@@ -78,13 +103,19 @@ takesSteps p vs o = stepped (o .answer) (saidBy p (o .after) vs) (allFinished (l
 unfoldable pub commands : List single.Command → Outcome of-graph.OpeningSaid → Result
 commands cs o = commanded (o .answer) (saidBare (o .after) cs)
 
+unfoldable pub commandsOn : List single.Command → Lent → Result
+commandsOn cs s = left (saidBare s cs) (leftBare s cs)
+
 -- that an example holds is an equation
 abbrev pub ComesTrue : Example → Type 0
 ComesTrue (refuses p n q) = load p anything ≡ refuseLoading anything n q
 ComesTrue (takes p n) = runs p enough (load p anything) ≡ ran loaded done (some stop) n
 ComesTrue (comes p n said) = runs p n (load p anything) ≡ ran loaded spent (some said) n
 ComesTrue (goes p turns) = takesSteps p (firsts turns) (load p anything) ≡ stepped loaded (seconds turns) true
+ComesTrue (altered p vs ends turns) =
+    takesSteps p (firsts turns) (edgeWritten p vs ends (load p anything)) ≡ stepped loaded (seconds turns) true
 ComesTrue (bare calls) = commands (firsts calls) (opening anything) ≡ commanded of-graph.opened (seconds calls)
+ComesTrue (keeps s calls) = commandsOn (firsts calls) s ≡ left (seconds calls) s
 
 -- "Bench examples (hexadecimal; * proved)"
 abbrev pub table : List Example
@@ -174,8 +205,8 @@ table =
     -- "5 bytes run out, in a number before the last byte that it may have": before the fifth, and behind it no more
     ∷ refuses (0x01 ∷ 0x80 ∷ 0x80 ∷ 0x80 ∷ 0x80 ∷ []) 5 5
     ∷ refuses (0x01 ∷ 0x80 ∷ 0x80 ∷ 0x80 ∷ 0x80 ∷ 0x80 ∷ []) 2 1
-    -- "Bare: start 0, new 1, new 2, edge 1 2; then edge 2 1 and edge 1 1 give 35; edge 1 2 gives 34; edge 0 1 is taken; transfer to 1
-    -- gives 38, to 2 gives 35."
+    -- "Bare: start 0, new 1, new 2, edge 1 2; then edge 2 1 and edge 1 1 give 35"; edge 1 2 is taken (document 02, note 3); "edge 0 1 is
+    -- taken; transfer to 1 gives 38, to 2 gives 35."
     ∷ bare
     ((Start 0, of-graph.start)
     ∷ (NewTd 0 0 0, of-graph.new 1)
@@ -183,10 +214,42 @@ table =
     ∷ (NewEdge 0 1 2, of-graph.edge 1 2)
     ∷ (NewEdge 0 2 1, of-graph.refused 35 0)
     ∷ (NewEdge 0 1 1, of-graph.refused 35 0)
-    ∷ (NewEdge 0 1 2, of-graph.refused 34 0)
+    ∷ (NewEdge 0 1 2, of-graph.edge 1 2)
     ∷ (NewEdge 0 0 1, of-graph.edge 0 1)
     ∷ (Transfer 0 1, of-graph.refused 38 0)
     ∷ (Transfer 0 2, of-graph.refused 35 0)
+    ∷ [])
+    -- "An edge held already is now accepted and changes nothing, tested before 35" (document 02, note 3): on a table whose last row it
+    -- filled; where a cycle and an edge from a vertex to itself are lent; at a step
+    ∷ bare
+    ((Start 0, of-graph.start)
+    ∷ (NewTd 0 0 0, of-graph.new 1)
+    ∷ (NewTd 0 0 0, of-graph.new 2)
+    ∷ (NewTd 0 0 0, of-graph.new 3)
+    ∷ (NewEdge 0 0 1, of-graph.edge 0 1)
+    ∷ (NewEdge 0 1 2, of-graph.edge 1 2)
+    ∷ (NewEdge 0 2 3, of-graph.edge 2 3)
+    ∷ (NewEdge 0 1 3, of-graph.edge 1 3)
+    ∷ (NewEdge 0 1 3, of-graph.edge 1 3)
+    ∷ (NewEdge 0 0 1, of-graph.edge 0 1)
+    ∷ (NewEdge 0 0 2, of-graph.refused 32 0)
+    ∷ [])
+    ∷ keeps cycleLent
+    ((NewEdge 0 1 2, of-graph.edge 1 2)
+    ∷ (NewEdge 0 2 1, of-graph.edge 2 1)
+    ∷ (NewEdge 0 2 2, of-graph.edge 2 2)
+    ∷ (NewEdge 0 1 1, of-graph.refused 35 0)
+    ∷ [])
+    ∷ altered (0x02 ∷ 0x01 ∷ 0x01 ∷ 0x00 ∷ 0x01 ∷ 0x02 ∷ 0x00 ∷ []) (0 ∷ 0 ∷ []) (2, 1)
+    ((0, edge 2 1)
+    ∷ (0, release 2)
+    ∷ (0, job 2 4)
+    ∷ (0, stop)
+    ∷ (2, start)
+    ∷ (2, job 1 1)
+    ∷ (2, stop)
+    ∷ (1, start)
+    ∷ (1, stop)
     ∷ [])
     ∷ []
 

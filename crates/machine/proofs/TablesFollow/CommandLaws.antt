@@ -18,7 +18,7 @@ use Rattle.graph.proofs.PathLaws.{holds-at, reaches-path}
 use Rattle.graph.proofs.EdgeLaws.{none-out-of}
 use Rattle.graph.proofs.CycleLaws.{target-reaches}
 use Rattle.graph.proofs.TakenLaws as of-taken
-use Rattle.graph.proofs.TakenLaws.{leaves, says-accepted, taken-is, after-is, Runs, Taken, taken}
+use Rattle.graph.proofs.TakenLaws.{leaves, says-accepted, taken-is, after-is, Runs, Adds, Taken, taken}
 use Rattle.graph.proofs.Demand2.{stays-sound}
 use Rattle.program.specs.Located.{Code}
 use Rattle.machine.specs.Answers.{StepSaid, oneStep, saidAs}
@@ -112,10 +112,10 @@ module _ {p : Code} {L : ℕ} {s : Lent} {S : State} (shape : Shape S) (F : Foll
       not-so (reaches (s .edges) (s .held) a b)
       (λ h. absurd (omega (arith, le, path-rises shape ranks (F .edges-are) (reaches-path (s .edges) (s .held) a b h) .0)))
 
-  -- newEdge
+  -- newEdge, which appends its edge: no step names one that is held, or one out of a finished vertex
   pub takes-edge :
       Ranks S → Roads S → (v a b : ℕ) → statusOf (S .control v) ≡ EXECUTING → In (link a b) (tasksOf S v)
-      → s .held < edgeRows (s .edges) → Taken (NewEdge v a b) s × (status (s .vertices) a ≡ FINISHED → ⊥)
+      → s .held < edgeRows (s .edges) → Taken (NewEdge v a b) s × Adds s a b
   takes-edge ranks roads v a b q i room =
       let tasks = shape .todo-fits v in
       let new-a = new-of v a (tasks .link-from a b i) in
@@ -123,26 +123,16 @@ module _ {p : Code} {L : ℕ} {s : Lent} {S : State} (shape : Shape S) (F : Foll
       let le-a = ranks .rank-le a (live S shape a NEW new-a (omega arith)) in
       let up = ranks .link-rank v a b i in
       let waiting = waits-status (S .control b) (roads .into a b (planned v i)) in
-      let (made-b, status-b) = target-of waiting in (
-        (
-          runs v q,
-          record {
-            source-made = made-a;
-            target-made = made-b;
-            waits = status-b;
-            adds =
-                inr
-                (record {
-                  not-finished = λ z. omega (arith, z, status-a);
-                  not-held = F .edges-are a b ∙ tasks .link-new a b i;
-                  not-same = λ z. apart z up le-a;
-                  no-path = no-way ranks b a (omega (arith, up, le-a, ranks .rank-le b (subst (λ (k : ℕ). b < k) (F .made-is) made-b)));
-                  row-free = room;
-                });
-          },
-        ),
-        λ z. omega (arith, z, status-a),
-      )
+      let (made-b, status-b) = target-of waiting in
+      let adds : Adds s a b =
+      record {
+        not-finished = λ z. omega (arith, z, status-a);
+        not-held = F .edges-are a b ∙ tasks .link-new a b i;
+        not-same = λ z. apart z up le-a;
+        no-path = no-way ranks b a (omega (arith, up, le-a, ranks .rank-le b (subst (λ (k : ℕ). b < k) (F .made-is) made-b)));
+        row-free = room;
+      } in
+      ((runs v q, record { source-made = made-a; target-made = made-b; waits = status-b; adds = inr adds }), adds)
     where
       target-of :
           {b : ℕ} → (statusOf (S .control b) ≡ NEW) ⊎ (statusOf (S .control b) ≡ RELEASED)

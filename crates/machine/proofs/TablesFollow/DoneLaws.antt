@@ -18,7 +18,7 @@ use Rattle.graph.specs.declared.Command.the-variants.{NewTd, NewEdge, Release, 
 use Rattle.graph.proofs.TestLaws.{both-true, both-left, both-right, either-cases, either-left, either-right, not-of-false}
 use Rattle.graph.proofs.EdgeLaws.{Is, OneMore, NotFrom, Moved, is-same, without-is}
 use Rattle.graph.proofs.SoundLaws.{sound-fits}
-use Rattle.graph.proofs.TakenLaws.{leaves, Taken}
+use Rattle.graph.proofs.TakenLaws.{leaves, Adds, Taken}
 use Rattle.graph.proofs.EffectLaws.{leaves-edge, withEdge-is, withMoved-is}
 use Rattle.program.specs.Located.{Code, startOf, last}
 use Rattle.machine.proofs.GhostMachine.Ghost.{Do, link, hand, free, Control, fresh, ready, busy, over, State, put, freed, withControl, withEdges}
@@ -104,7 +104,7 @@ module _ {p : Code} {L : ℕ} {s : Lent} {S : State} (F : Follows p L s S) where
       → Follows p L (leaves (NewTd v (startOf k) σ) s) (grown S v x σ (startOf k) (last k))
   new-done v x k σ shown h = vertex-follows s S v x k σ F (h .1) (leaves-sound (NewTd v (startOf k) σ) s (F .sound-is) h) shown
 
-  -- newEdge, out of a vertex that is not finished
+  -- newEdge, which appends its edge
   edge-follows :
       (a b : ℕ) → s .held < edgeRows (s .edges) → sound (withEdge s a b) ≡ true
       → Follows p L (withEdge s a b) (withEdges S (linked (S .edge) a b))
@@ -117,11 +117,10 @@ module _ {p : Code} {L : ℕ} {s : Lent} {S : State} (F : Follows p L s S) where
       known
 
   pub edge-done :
-      (v a b : ℕ) → Taken (NewEdge v a b) s → (status (s .vertices) a ≡ FINISHED → ⊥) → s .held < edgeRows (s .edges)
-      → Follows p L (leaves (NewEdge v a b) s) (withEdges S (linked (S .edge) a b))
-  edge-done v a b h live room =
-      rw (leaves-edge s v a b live)
-      (edge-follows a b room (rw (leaves-edge s v a b live) at (leaves-sound (NewEdge v a b) s (F .sound-is) h)))
+      (v a b : ℕ) → Taken (NewEdge v a b) s → Adds s a b → Follows p L (leaves (NewEdge v a b) s) (withEdges S (linked (S .edge) a b))
+  edge-done v a b h adds =
+      rw (leaves-edge s v a b adds)
+      (edge-follows a b (adds .row-free) (rw (leaves-edge s v a b adds) at (leaves-sound (NewEdge v a b) s (F .sound-is) h)))
 
   -- transfer
   pub hand-done :
@@ -170,13 +169,13 @@ row-beside : (s : Lent) (v m x : ℕ) → m < vertexRows (s .vertices) → (v �
 row-beside s v m x lt ne = rowed-status s m x lt .others v ne
 
 -- newEdge and transfer change no row of a vertex, and hold one edge more, or none
-edge-row : (s : Lent) (v a b u : ℕ) → (status (s .vertices) a ≡ FINISHED → ⊥) → wordsOf (leaves (NewEdge v a b) s) u ≡ wordsOf s u
+edge-row : (s : Lent) (v a b u : ℕ) → Adds s a b → wordsOf (leaves (NewEdge v a b) s) u ≡ wordsOf s u
 unfolding wordsOf withEdge
-edge-row s v a b u live = rw (leaves-edge s v a b live) refl
+edge-row s v a b u adds = rw (leaves-edge s v a b adds) refl
 
-edge-held : (s : Lent) (v a b : ℕ) → (status (s .vertices) a ≡ FINISHED → ⊥) → leaves (NewEdge v a b) s .held ≤ s .held + 1
+edge-held : (s : Lent) (v a b : ℕ) → Adds s a b → leaves (NewEdge v a b) s .held ≤ s .held + 1
 unfolding withEdge
-edge-held s v a b live = rw (leaves-edge s v a b live) (omega arith)
+edge-held s v a b adds = rw (leaves-edge s v a b adds) (omega arith)
 
 moved-row : (s : Lent) (v h u : ℕ) → wordsOf (leaves (Transfer v h) s) u ≡ wordsOf s u
 unfolding wordsOf withMoved
@@ -192,14 +191,14 @@ pub joined :
     → statusOf (S .control v) ≡ EXECUTING → In d (tasksOf S v) → Room s d → Joined p L s S v d
 unfolding asked Room done eventOf links
 joined {s = s} shape ranks roads F v (link a b) q i room =
-    let (t, live) = takes-edge shape F ranks roads v a b q i room in
+    let (t, adds) = takes-edge shape F ranks roads v a b q i room in
     record {
       is-taken = t;
-      follows = edge-done F v a b t live room;
-      row-same = edge-row s v a b v live;
+      follows = edge-done F v a b t adds;
+      row-same = edge-row s v a b v adds;
       scope-same = refl;
-      held-le = edge-held s v a b live;
-      answers = says-edge a b;
+      held-le = edge-held s v a b adds;
+      answers = says-edge a b (shape .todo-fits v .link-new a b i);
     }
 joined {s = s} shape ranks roads F v (hand h) q i room =
     let t = takes-transfer shape F ranks v h q i in

@@ -2,7 +2,7 @@
 -- machine's (`Follows`). A step is refused for a reason that the state shows, or it is a move, which its answer tells (`Followed`).
 use Prim.Native.Nat.{ℕ, _+_, _<_, _≤_}
 use mathlib.Core.Path.{_≡_}
-use mathlib.Core.Bool.{true}
+use mathlib.Core.Bool.{true, false}
 use mathlib.Core.List.{List, [], _∷_}
 use mathlib.Core.Option.{some}
 use lib.ListN.{length, drop, getD}
@@ -61,11 +61,11 @@ pub data Refuses (S : State) (v : ℕ) : ℕ → Type 0 where
   is-new : isNew (S .control v) ≡ true → Refuses S v vertex-is-new
   is-over : v < S .count → S .control v ≡ over → Refuses S v vertex-is-finished
 
--- what a move is answered with
+-- what a move is answered with; an edge that is said was not there
 pub data Answers (S : State) (v : ℕ) : Event → StepSaid → Type 0 where
   says-start : Answers S v a-start StepSaid.start
   says-new : Answers S v a-new (StepSaid.new (S .count))
-  says-edge : (a b : ℕ) → Answers S v an-edge (StepSaid.edge a b)
+  says-edge : (a b : ℕ) → S .edge a b ≡ false → Answers S v an-edge (StepSaid.edge a b)
   says-release : (m : ℕ) → Answers S v a-release (StepSaid.release m)
   says-transfer : (h : ℕ) → Answers S v a-transfer (StepSaid.transfer h)
   says-job : {o n : ℕ} {r : Code} → S .control v ≡ busy (job-at o n r) [] → Answers S v (a-job o) (StepSaid.job n o)

@@ -109,7 +109,7 @@ module _ {S : State} {v : ℕ} where
   pub answers-accepted : {e : Event} {a : StepSaid} → Answers S v e a → accepted a ≡ true
   answers-accepted says-start = refl
   answers-accepted says-new = refl
-  answers-accepted (says-edge a b) = refl
+  answers-accepted (says-edge a b new) = refl
   answers-accepted (says-release m) = refl
   answers-accepted (says-transfer h) = refl
   answers-accepted (says-job at) = refl
@@ -119,7 +119,7 @@ module _ {S : State} {v : ℕ} where
   unfolding answersJob jobAt
   answers-jobs says-start o = refl
   answers-jobs says-new o = refl
-  answers-jobs (says-edge a b) o = refl
+  answers-jobs (says-edge a b new) o = refl
   answers-jobs (says-release m) o = refl
   answers-jobs (says-transfer h) o = refl
   answers-jobs (says-job at) o = refl
@@ -129,7 +129,7 @@ module _ {S : State} {v : ℕ} where
   unfolding codeOf startOf
   answers-written coded says-start h = clash cc
   answers-written coded says-new h = clash cc
-  answers-written coded (says-edge a b) h = clash cc
+  answers-written coded (says-edge a b new) h = clash cc
   answers-written coded (says-release m) h = clash cc
   answers-written coded (says-transfer x) h = clash cc
   answers-written {t} {n} {o} coded (says-job {o = o'} {n = n'} {r} at) h =
