@@ -1,6 +1,7 @@
 #!/usr/bin/env python3
-"""The lines that the program `engine_cases` must write, from a model of document 01's loading, steps and runs that shares no code
-with the engine. Of the drawn programs it is checked that each order takes all steps, and each job once and behind those ahead of it.
+"""The lines that the program `engine_cases` must write, from a model of document 01's loading, steps and runs, with notes 1 and 3 of
+document 02, that shares no code with the engine. Of the drawn programs it is checked that each order takes all steps, and each job once
+and behind those ahead of it.
 
     tests/engine_cases.py > crates/engine_cases/stdout
 
@@ -11,7 +12,7 @@ from copy import deepcopy
 from functools import lru_cache
 
 from cases import next_state, total
-from rows import EDGE_TABLE, EDGE_WORDS, VERTEX_TABLE, VERTEX_WORDS
+from rows import EDGE_WORDS, USABLE, VERTEX_WORDS
 
 NEW, RELEASED, EXECUTING, FINISHED = 1, 2, 3, 4
 
@@ -200,8 +201,7 @@ class Shop:
     def edge(self, own, me, a, b):
         source, target = self.named(a), self.named(b)
         need(target.status in (NEW, RELEASED), 33)
-        if source.status != FINISHED:
-            need(not [1 for edge in self.edges if (edge.source, edge.target) == (a, b)], 34)
+        if source.status != FINISHED and not [1 for edge in self.edges if (edge.source, edge.target) == (a, b)]:
             need(a not in self.behind(b) | {b}, 35)
             need(len(self.edges) < self.edge_rows, 32)
             self.edges.append(Edge(a, b))
@@ -332,6 +332,10 @@ def run(text, vertex_rows, edge_rows, seed):
     lowest = attempt(shop.lowest)
     print("lowest", "none" if lowest is None else lowest)
     ran(shop, 3)
+    turned(shop)
+
+
+def turned(shop):
     counts, mixed = {}, 0
     for turn in range(1200):
         vertex, number = (turn * 5 + turn // 9) % (shop.numbers()[0] + 2), 0
@@ -345,10 +349,11 @@ def run(text, vertex_rows, edge_rows, seed):
     ran(shop, 60)
 
 
-def to_the_end(program):
-    shop = Shop(program, [0] * VERTEX_TABLE, [0] * EDGE_TABLE, 0, 0, 0)
+def loaded(program, vertex_rows, edge_rows, budget):
+    shop = Shop(program, [0] * VERTEX_WORDS * vertex_rows, [0] * EDGE_WORDS * edge_rows, 0, 0, 0)
     print(attempt(shop.load), left(shop))
-    ran(shop, 8192)
+    ran(shop, budget)
+    return shop
 
 
 def examples():
@@ -356,13 +361,18 @@ def examples():
         print(f"asyncs {count}: ", end="")
         program = bytearray(2 * count + 1)
         program[: apart * count : apart] = bytes([2]) * count
-        to_the_end(bytes(program))
-    shop = Shop(bytes([1, 1, 0]), [0] * 2 * VERTEX_WORDS, [0] * EDGE_WORDS, 0, 0, 0)
-    shop.load()
-    shop.step(0)
+        loaded(bytes(program), USABLE, USABLE, 8192)
+    print("altered: ", end="")
+    shop = loaded(bytes([1, 1, 0]), 2, 1, 1)
     shop.vertices[0].place = 1
-    print("altered:", attempt(shop.step, 0), left(shop))
-    ran(shop, 5)
+    turned(shop)
+    for name, edge_rows, written in ("held already: ", 2, [(2, 1)]), ("held with a cycle: ", 4, [(2, 1), (1, 2)]):
+        print(name, end="")
+        shop = loaded(bytes([2, 1, 1, 0, 1, 2, 0]), 3, edge_rows, 2)
+        for ends in written:
+            shop.edges.append(Edge(*ends))
+            del shop.spare[1][:EDGE_WORDS]
+        turned(shop)
 
 
 def draw_program(seed, room):

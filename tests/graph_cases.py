@@ -1,5 +1,6 @@
 #!/usr/bin/env python3
-"""The lines that the program `graph_cases` must write, from a model of document 01's commands that shares no code with the engine.
+"""The lines that the program `graph_cases` must write, from a model of document 01's commands, with note 3 of document 02, that shares
+no code with the engine.
 
     tests/graph_cases.py > crates/graph_cases/stdout
 
@@ -77,8 +78,7 @@ class Machine:
         self.begin(t, a, b)
         self.need(self.status(t) == EXECUTING, 30)
         self.need(self.status(b) in (NEW, RELEASED), 33)
-        if self.status(a) != FINISHED:
-            self.need((a, b) not in self.edges(), 34)
+        if self.status(a) != FINISHED and (a, b) not in self.edges():
             self.need(a != b and not self.reaches(b, a), 35)
             self.need(self.held < self.edge_rows(), 32)
             self.e[EDGE_WORDS * self.held : EDGE_WORDS * (self.held + 1)] = [a, b]
@@ -153,7 +153,7 @@ def words(count, draw, low):
     return drawn, now
 
 
-def drawn(seed):
+def drawn(seed, repeats):
     vertices, d = words(4 * VERTEX_WORDS + 4, Draw(seed), 1)
     if seed % 4 != 0:
         vertices[0] = EXECUTING
@@ -167,7 +167,10 @@ def drawn(seed):
     d = d.next()
     kind, caller, a, b = d.next().below(12), d.next(2).below(9), d.next(3).below(17), d.next(4).below(4)
     caller, a = max(caller - 4, 0), a % 4 if a < 16 else 4
-    if kind == 0:
+    if repeats:
+        row = d.next(3).below(max(machine.held, 1))
+        machine.call("edge", caller, *edges[EDGE_WORDS * row : EDGE_WORDS * (row + 1)])
+    elif kind == 0:
         machine.call("new", caller, a, b)
     elif kind < 5:
         machine.call("edge", caller, a, b)
@@ -226,6 +229,52 @@ edge 0 0 3
 edge 0 0 2
 edge 0 3 2
 stop 0""")
+print("twice")
+run(Machine([77] * (4 * VERTEX_WORDS), [77] * (2 * EDGE_WORDS + 1)), """open
+start 0
+new 0 1 0
+new 0 2 0
+new 0 3 0
+edge 0 1 2
+edge 0 1 2
+edge 0 2 3
+edge 0 1 3
+edge 0 2 3
+edge 0 1 2
+edge 0 1 3
+edge 0 3 1
+release 0 1
+start 1
+edge 1 1 2
+stop 1
+edge 0 2 3
+edge 0 1 2
+edge 0 0 2
+edge 0 0 2
+edge 0 0 3""")
+print("cycle")
+rows = [[status] + [1] * (VERTEX_WORDS - 1) for status in (EXECUTING, NEW, RELEASED, NEW, EXECUTING, FINISHED)]
+run(Machine(sum(rows, []), [1, 2, 2, 1, 2, 3, 3, 3, 1, 4, 5, 1, 77, 77], 6, 6, 0), """edge 0 1 2
+edge 0 2 1
+edge 0 3 3
+edge 0 5 1
+edge 0 1 1
+edge 0 2 2
+edge 0 3 1
+edge 0 3 2
+edge 0 1 4
+edge 1 1 2
+edge 5 3 3
+edge 4 1 2
+edge 0 1 3
+edge 0 1 3
+edge 0 3 3
+edge 0 0 3
+edge 0 3 1
+tally 6 7 9000
+edge 0 2 1
+tally 5 7 0
+edge 0 1 2""")
 print("short")
 run(Machine([2] * (VERTEX_WORDS - 1), [2] * (EDGE_WORDS - 1)), """open
 start 0
@@ -251,4 +300,7 @@ transfer 0 1023
 transfer 0 1024""")
 print("drawn")
 for seed in range(600):
-    drawn(seed)
+    drawn(seed, False)
+print("repeated")
+for seed in range(600, 1000):
+    drawn(seed, True)

@@ -1,18 +1,24 @@
-// Document 01's examples at the limits, each run to its end on tables of 1,024 rows, and a vertex altered to a place inside a number.
+// Document 01's examples at the limits, each run to its end on tables of 1,024 rows; a vertex altered to a place inside a number; and edges
+// that the host writes before the step that names them (note 3 of document 02).
 use crate::show;
 use crate::turns::ran;
+use crate::turns::turned;
 use cases::number;
 use cases::text;
 use engine::load::load_by_value;
-use engine::steps::step_by_value;
 use graph::Tally;
 use graph::rows::EDGE_TABLE;
 use graph::rows::EDGE_WORDS;
 use graph::rows::PLACE;
+use graph::rows::SOURCE;
+use graph::rows::TARGET;
 use graph::rows::VERTEX_TABLE;
 use graph::rows::VERTEX_WORDS;
 ghost use Prim.Native.Nat.{_*_, _≤_};
 ghost use lib.ListN.{length};
+
+// An async of job 1, and job 2.
+const ASYNC: [u8; 7] = [2, 1, 1, 0, 1, 2, 0];
 
 pub(crate) fn all() {
     asyncs(31, 1);
@@ -20,6 +26,8 @@ pub(crate) fn all() {
     asyncs(1022, 2);
     asyncs(1023, 2);
     altered();
+    held_already();
+    held_with_a_cycle();
 }
 
 // So many asyncs, each inside the one before where the next byte is the next async, each behind the one before where the next byte but
@@ -46,18 +54,23 @@ fn place(program: &mut [u8], count: usize, apart: usize)
 fn to_the_end(program: &[u8]) {
     let mut vertices = [0u32; VERTEX_TABLE];
     let mut edges = [0u32; EDGE_TABLE];
+    text(b": ");
+    loaded(program, &mut vertices, &mut edges, 8192);
+}
+
+// A loading, and a run, whose tally it hands on.
+fn loaded(program: &[u8], vertices: &mut [u32], edges: &mut [u32], budget: u32) -> Tally {
     let none = Tally {
         made: 0,
         held: 0,
         steps: 0,
     };
-    let loaded = load_by_value(program, &mut vertices, &mut edges, none);
-    let answer = loaded.answer;
-    let tally = loaded.tally;
-    text(b": ");
+    let done = load_by_value(program, vertices, edges, none);
+    let answer = done.answer;
+    let tally = done.tally;
     show::loading(answer);
-    show::left(tally, &vertices, &edges);
-    ran(program, &mut vertices, &mut edges, tally, 8192);
+    show::left(tally, vertices, edges);
+    ran(program, vertices, edges, tally, budget)
 }
 
 // In `01 01 00` nothing starts at 1.
@@ -65,21 +78,42 @@ fn altered() {
     let program = [1u8, 1, 0];
     let mut vertices = [0u32; 2 * VERTEX_WORDS];
     let mut edges = [0u32; EDGE_WORDS];
-    let none = Tally {
-        made: 0,
-        held: 0,
-        steps: 0,
-    };
-    let loaded = load_by_value(&program, &mut vertices, &mut edges, none);
-    let begun = loaded.tally;
-    let started = step_by_value(&program, &mut vertices, &mut edges, begun, 0);
-    let tally = started.tally;
-    vertices[PLACE] = 1;
-    let done = step_by_value(&program, &mut vertices, &mut edges, tally, 0);
-    let answer = done.answer;
-    let after = done.tally;
     text(b"altered: ");
-    show::answer(answer);
-    show::left(after, &vertices, &edges);
-    ran(&program, &mut vertices, &mut edges, after, 5);
+    let tally = loaded(&program, &mut vertices, &mut edges, 1);
+    vertices[PLACE] = 1;
+    turned(&program, &mut vertices, &mut edges, tally);
+}
+
+// Vertex 0 has made vertex 2, and the host writes the edge 2 → 1 of the next step into the last row.
+fn held_already() {
+    let mut vertices = [0u32; 3 * VERTEX_WORDS];
+    let mut edges = [0u32; 2 * EDGE_WORDS];
+    text(b"held already: ");
+    let tally = loaded(&ASYNC, &mut vertices, &mut edges, 2);
+    edges[EDGE_WORDS + SOURCE] = 2;
+    edges[EDGE_WORDS + TARGET] = 1;
+    let written = Tally {
+        made: tally.made,
+        held: 2,
+        steps: tally.steps,
+    };
+    turned(&ASYNC, &mut vertices, &mut edges, written);
+}
+
+// The same with a row to spare and with 1 → 2 besides: the step is taken, and in the end 1 and 2 wait for each other.
+fn held_with_a_cycle() {
+    let mut vertices = [0u32; 3 * VERTEX_WORDS];
+    let mut edges = [0u32; 4 * EDGE_WORDS];
+    text(b"held with a cycle: ");
+    let tally = loaded(&ASYNC, &mut vertices, &mut edges, 2);
+    edges[EDGE_WORDS + SOURCE] = 2;
+    edges[EDGE_WORDS + TARGET] = 1;
+    edges[2 * EDGE_WORDS + SOURCE] = 1;
+    edges[2 * EDGE_WORDS + TARGET] = 2;
+    let written = Tally {
+        made: tally.made,
+        held: 3,
+        steps: tally.steps,
+    };
+    turned(&ASYNC, &mut vertices, &mut edges, written);
 }

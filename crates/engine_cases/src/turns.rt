@@ -31,8 +31,13 @@ pub(crate) fn run(program: &[u8], vertices: &mut [u32], edges: &mut [u32]) {
 // A short run, the turns, and a run.
 fn loaded(program: &[u8], vertices: &mut [u32], edges: &mut [u32], tally: Tally) {
     let begun = ran(program, vertices, edges, tally, 3);
+    turned(program, vertices, edges, begun);
+}
+
+// The turns, and a run.
+pub(crate) fn turned(program: &[u8], vertices: &mut [u32], edges: &mut [u32], tally: Tally) {
     let mut counts = [0u32; 40];
-    let now = all(program, vertices, edges, begun, &mut counts);
+    let now = all(program, vertices, edges, tally, &mut counts);
     ran(program, vertices, edges, now, 60);
 }
 

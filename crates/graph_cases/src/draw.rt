@@ -4,7 +4,9 @@ use graph::Command;
 use graph::Tally;
 use graph::rows::EDGE_WORDS;
 use graph::rows::EXECUTING;
+use graph::rows::SOURCE;
 use graph::rows::STATUS;
+use graph::rows::TARGET;
 use graph::rows::USABLE_LIMIT;
 ghost use Prim.Native.Nat.{_≤_};
 
@@ -53,13 +55,39 @@ pub(crate) fn tally(d: Draw) -> Tally {
     }
 }
 
-// The caller is mostly vertex 0, and the others mostly vertices of the first four.
-pub(crate) fn command(d: Draw) -> Command {
-    let kind = d.next().below(12);
+pub(crate) fn command(d: Draw, edges: &[u32], held: u32, repeats: bool) -> Command {
+    if repeats {
+        repeated(d, edges, held)
+    } else {
+        any_command(d)
+    }
+}
+
+// Mostly vertex 0.
+fn caller(d: Draw) -> u32 {
     let c = d.next().next().below(9);
+    if c < 4 { 0 } else { c - 4 }
+}
+
+// The edge of a held row once more.
+fn repeated(d: Draw, edges: &[u32], held: u32) -> Command {
+    let row = d.next().next().next().below(held) as usize;
+    if edges.len() < EDGE_WORDS * (row + 1) {
+        return any_command(d);
+    }
+    Command::NewEdge {
+        caller: caller(d),
+        source: edges[EDGE_WORDS * row + SOURCE],
+        target: edges[EDGE_WORDS * row + TARGET],
+    }
+}
+
+// The vertices are mostly of the first four.
+fn any_command(d: Draw) -> Command {
+    let kind = d.next().below(12);
+    let caller = caller(d);
     let v = d.next().next().next().below(17);
     let target = d.next().next().next().next().below(4);
-    let caller = if c < 4 { 0 } else { c - 4 };
     let vertex = if v < 16 { v % 4 } else { 4 };
     if kind == 0 {
         return Command::NewTd {

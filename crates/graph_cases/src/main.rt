@@ -1,5 +1,6 @@
 // Runs the opening and the commands on many tables, and writes what each call answers and leaves: document 01's bare example, full
-// and freed tables, tables shorter than a row and longer than 1,024 rows, a long path, and some hundred tables of drawn words.
+// and freed tables, edges named twice, on full tables and beside a cycle too, tables shorter than a row and longer than 1,024 rows, a long
+// path, and some hundred tables of drawn words.
 // tests/graph_cases.py computes the same lines from a model of its own; `stdout` holds them.
 mod draw;
 mod script;
@@ -12,6 +13,9 @@ use graph::Tally;
 use graph::rows::EDGE_TABLE;
 use graph::rows::EDGE_WORDS;
 use graph::rows::EXECUTING;
+use graph::rows::FINISHED;
+use graph::rows::NEW;
+use graph::rows::RELEASED;
 use graph::rows::STATUS;
 use graph::rows::VERTEX_TABLE;
 use graph::rows::VERTEX_WORDS;
@@ -27,10 +31,15 @@ fn none() -> Tally {
 fn main() {
     bare();
     full();
+    twice();
+    cycle();
     short();
     long();
     path();
-    all_drawn();
+    text(b"drawn\n");
+    all_drawn(0, 600, false);
+    text(b"repeated\n");
+    all_drawn(600, 1000, true);
 }
 
 fn bare() {
@@ -45,6 +54,24 @@ fn full() {
     let mut edges = [77u32; 3 * EDGE_WORDS + 1];
     text(b"full\n");
     script::run(&mut vertices, &mut edges, none(), &script::FULL);
+}
+
+fn twice() {
+    let mut vertices = [77u32; 4 * VERTEX_WORDS];
+    let mut edges = [77u32; 2 * EDGE_WORDS + 1];
+    text(b"twice\n");
+    script::run(&mut vertices, &mut edges, none(), &script::TWICE);
+}
+
+fn cycle() {
+    let mut vertices = [NEW; 6 * VERTEX_WORDS];
+    let mut edges = [1u32, 2, 2, 1, 2, 3, 3, 3, 1, 4, 5, 1, 77, 77];
+    vertices[STATUS] = EXECUTING;
+    vertices[2 * VERTEX_WORDS + STATUS] = RELEASED;
+    vertices[4 * VERTEX_WORDS + STATUS] = EXECUTING;
+    vertices[5 * VERTEX_WORDS + STATUS] = FINISHED;
+    text(b"cycle\n");
+    script::run(&mut vertices, &mut edges, none(), &script::CYCLE);
 }
 
 fn short() {
@@ -71,29 +98,29 @@ fn path() {
     script::run(&mut vertices, &mut edges, none(), &script::PATH);
 }
 
-fn all_drawn() {
-    text(b"drawn\n");
-    for seed in 0..600 {
-        drawn(seed);
+// The tables of the seeds from `first` up to `end`.
+fn all_drawn(first: u32, end: u32, repeats: bool) {
+    for seed in first..end {
+        drawn(seed, repeats);
     }
 }
 
-// Small tables of drawn words and lengths, a drawn tally and a drawn command.
-fn drawn(seed: u32) {
+// Small tables of drawn words and lengths, a drawn tally and a drawn command, which may be to repeat a held edge.
+fn drawn(seed: u32, repeats: bool) {
     let mut vertices = [0u32; 4 * VERTEX_WORDS + 4];
     let mut edges = [0u32; 5 * EDGE_WORDS];
     let d = draw::words(&mut vertices, begin(seed), 1);
     draw::mostly_executing(&mut vertices, seed);
     let d = draw::words(&mut edges, d, 0);
-    drawn_call(&mut vertices, &mut edges, d);
+    drawn_call(&mut vertices, &mut edges, d, repeats);
 }
 
-fn drawn_call(vertices: &mut [u32], edges: &mut [u32], d: Draw) {
+fn drawn_call(vertices: &mut [u32], edges: &mut [u32], d: Draw, repeats: bool) {
     let n = draw::length(d, vertices.len(), 600);
     let d = d.next();
     let m = draw::length(d, edges.len(), 200);
     let d = d.next();
     let tally = draw::tally(d);
-    let command = draw::command(d.next());
+    let command = draw::command(d.next(), edges, tally.held, repeats);
     script::call(&mut vertices[..n], &mut edges[..m], tally, command);
 }

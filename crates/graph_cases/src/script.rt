@@ -21,8 +21,8 @@ const TRANSFER: u32 = 5;
 // 6 is stop; 7 is no call: the tally is altered
 const TALLY: u32 = 7;
 
-// Document 01: "start 0, new 1, new 2, edge 1 2; then edge 2 1 and edge 1 1 give 35; edge 1 2 gives 34; edge 0 1 is taken;
-// transfer to 1 gives 38, to 2 gives 35."
+// Document 01's bare example with note 3 of document 02: start 0, new 1, new 2, edge 1 2; then edge 2 1 and edge 1 1 give 35; edge 1 2 is
+// taken; edge 0 1 is taken; transfer to 1 gives 38, to 2 gives 35.
 pub(crate) const BARE: [u64; 12] = [
     7_0009_0009_0009,
     0_0000_0000_0000,
@@ -63,6 +63,59 @@ pub(crate) const FULL: [u64; 23] = [
     3_0000_0000_0002,
     3_0000_0003_0002,
     6_0000_0000_0000,
+];
+
+// Four vertices and two edge rows: an edge held already is taken while a row is free, once none is, and after a stop.
+pub(crate) const TWICE: [u64; 22] = [
+    0_0000_0000_0000,
+    1_0000_0000_0000,
+    2_0000_0001_0000,
+    2_0000_0002_0000,
+    2_0000_0003_0000,
+    3_0000_0001_0002,
+    3_0000_0001_0002,
+    3_0000_0002_0003,
+    3_0000_0001_0003,
+    3_0000_0002_0003,
+    3_0000_0001_0002,
+    3_0000_0001_0003,
+    3_0000_0003_0001,
+    4_0000_0001_0000,
+    1_0001_0000_0000,
+    3_0001_0001_0002,
+    6_0001_0000_0000,
+    3_0000_0002_0003,
+    3_0000_0001_0002,
+    3_0000_0000_0002,
+    3_0000_0000_0002,
+    3_0000_0000_0003,
+];
+
+// Vertices 0 and 4 execute, 2 is released, 5 is finished; of seven rows six hold 1 → 2, 2 → 1, 2 → 3, 3 → 3, 1 → 4, 5 → 1. Held edges are
+// taken, but for refusals 12, 30 and 33; others that would close a cycle are not, and one fills the last row.
+pub(crate) const CYCLE: [u64; 22] = [
+    7_0006_0006_0000,
+    3_0000_0001_0002,
+    3_0000_0002_0001,
+    3_0000_0003_0003,
+    3_0000_0005_0001,
+    3_0000_0001_0001,
+    3_0000_0002_0002,
+    3_0000_0003_0001,
+    3_0000_0003_0002,
+    3_0000_0001_0004,
+    3_0001_0001_0002,
+    3_0005_0003_0003,
+    3_0004_0001_0002,
+    3_0000_0001_0003,
+    3_0000_0001_0003,
+    3_0000_0003_0003,
+    3_0000_0000_0003,
+    3_0000_0003_0001,
+    7_0006_0007_9000,
+    3_0000_0002_0001,
+    7_0005_0007_0000,
+    3_0000_0001_0002,
 ];
 
 // Tables that are shorter than a row.
