@@ -122,7 +122,7 @@ enum {
     KESHTIWOL_NO_VERTEX_ROW = 31,
     KESHTIWOL_NO_EDGE_ROW = 32,
     KESHTIWOL_TARGET_NOT_WAITING = 33, /* the edge's target executes or is finished */
-    KESHTIWOL_EDGE_HELD = 34,
+    /* 34 is not used: an edge that is held already is taken and changes nothing */
     KESHTIWOL_CLOSES_CYCLE = 35,
     KESHTIWOL_RELEASE_NOT_NEW = 36,
     KESHTIWOL_TRANSFER_NOT_NEW = 37,
@@ -169,7 +169,7 @@ struct keshtiwol_reply keshtiwol_open(uint32_t *vertices, size_t vertex_words,
 /* The commands. What a command does not name is not looked at. */
 enum {
     KESHTIWOL_DO_NEW = 1,      /* caller; first: place; second: scope. Makes the next vertex. */
-    KESHTIWOL_DO_EDGE = 2,     /* caller; first: source; second: target */
+    KESHTIWOL_DO_EDGE = 2,     /* caller; first: source; second: target. From a finished source, or held already, it changes nothing. */
     KESHTIWOL_DO_RELEASE = 3,  /* caller; first: the vertex */
     KESHTIWOL_DO_TRANSFER = 4, /* caller; first: the vertex that gets the caller's edges out */
     KESHTIWOL_DO_START = 5,    /* caller: the vertex started */
@@ -188,7 +188,7 @@ struct keshtiwol_reply keshtiwol_command(uint32_t *vertices, size_t vertex_words
  * enough for every chain. Words past the chain are not touched; tables and tally are only read.
  *
  * The cycle test of KESHTIWOL_DO_EDGE refuses, with 35, exactly where this finds a chain, and that of KESHTIWOL_DO_TRANSFER exactly where
- * this finds one with the vertex as source and the caller as target.
+ * this finds one with the vertex as source and the caller as target. An edge that is held already is taken before its test.
  *
  * Says KESHTIWOL_CHAIN, or refuses and writes nothing: 12, whatever the tally's steps; 20, of either vertex; 41 where no chain leads back;
  * 42 where the list has fewer words than the chain has vertices. */

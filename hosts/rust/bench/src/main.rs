@@ -122,19 +122,34 @@ fn whole_chain(backwards: bool) -> [f64; 2] {
     medians(1.0, side::<Engine>(backwards), side::<Paper>(backwards))
 }
 
+/// The edge of row `row`, where vertices 0 and 1 have an edge to each other vertex in turn.
+fn fanned_edge(row: u32) -> Do {
+    Do::Edge(row % 2, 2 + row / 2)
+}
+
+fn fanned<S: Side>(held: u32) -> S {
+    let mut side = S::new();
+    bare(&mut side);
+    for row in 0..held {
+        side.command(fanned_edge(row)).unwrap();
+    }
+    side
+}
+
+/// The edge asked for is held already, in this row of 1,024.
+fn held_edge(row: u32) -> [f64; 2] {
+    fn side<S: Side>(row: u32) -> impl FnMut() {
+        let mut side: S = fanned(1024);
+        move || assert_eq!(side.command(fanned_edge(row)), Ok(()))
+    }
+    medians(1.0, side::<Engine>(row), side::<Paper>(row))
+}
+
 /// A stop among so many edges, every second its own. Putting the edges back is timed alone and subtracted.
 fn stop(held: u32) -> [f64; 2] {
-    fn side<S: Side>(held: u32) -> (S, Vec<u32>) {
-        let mut side = S::new();
-        bare(&mut side);
-        for n in 0..held {
-            side.command(Do::Edge(n % 2, 2 + n / 2)).unwrap();
-        }
-        let edges = side.edges().to_vec();
-        (side, edges)
-    }
     fn stopping<S: Side>(held: u32, stops: bool) -> impl FnMut() {
-        let (mut side, edges) = side::<S>(held);
+        let mut side: S = fanned(held);
+        let edges = side.edges().to_vec();
         move || {
             side.unstop(&edges, held);
             black_box(&mut side);
@@ -213,6 +228,8 @@ fn main() {
     let commands = [
         ("newEdge that would close a chain of 1,023, front to back", closing_edge(false)),
         ("newEdge that would close a chain of 1,023, back to front", closing_edge(true)),
+        ("newEdge of an edge held in the first of 1,024 rows", held_edge(0)),
+        ("newEdge of an edge held in the last of 1,024 rows", held_edge(1023)),
         ("chain of 1,024 vertices, front to back", whole_chain(false)),
         ("chain of 1,024 vertices, back to front", whole_chain(true)),
         ("stop among 512 edges, 256 its own", stop(512)),

@@ -13,7 +13,7 @@ pub const WORDS: [&str; 15] =
     ["refused", "ready", "start", "new", "edge", "release", "transfer", "job", "stop", "none", "vertex", "done", "stuck", "spent", "chain"];
 
 /// The numbers that a refusal can have through the safe functions.
-pub const REFUSALS: [u32; 28] = [1, 2, 3, 4, 5, 6, 7, 8, 10, 11, 12, 13, 20, 21, 22, 23, 30, 31, 32, 33, 34, 35, 36, 37, 38, 39, 41, 42];
+pub const REFUSALS: [u32; 27] = [1, 2, 3, 4, 5, 6, 7, 8, 10, 11, 12, 13, 20, 21, 22, 23, 30, 31, 32, 33, 35, 36, 37, 38, 39, 41, 42];
 
 #[derive(Clone, Default)]
 pub struct Counts {
@@ -33,6 +33,29 @@ pub struct Counts {
     lists_filled: u64,
     /// Commands whose cycle test found or found not what a chain had told before.
     ties: [u64; 2],
+    /// Edges that were held already and taken again, by commands and by steps.
+    repeats: [Repeats; 2],
+}
+
+/// How often an edge that was held already was taken.
+#[derive(Clone, Copy, Debug, Default)]
+pub struct Repeats {
+    pub all: u64,
+    /// On an edge table with no row left.
+    pub full: u64,
+    /// Where a chain leads back, so that held edges close a cycle.
+    pub cycle: u64,
+    /// Of these, from a vertex to itself.
+    pub itself: u64,
+}
+
+impl Repeats {
+    fn add(&mut self, more: Repeats) {
+        self.all += more.all;
+        self.full += more.full;
+        self.cycle += more.cycle;
+        self.itself += more.itself;
+    }
 }
 
 impl Counts {
@@ -106,6 +129,11 @@ impl Counts {
         self.ties[usize::from(chain)] += 1;
     }
 
+    /// Notes edges that were held already and taken, by commands or by steps.
+    pub fn repeated(&mut self, by_step: bool, repeats: Repeats) {
+        self.repeats[usize::from(by_step)].add(repeats);
+    }
+
     fn enlarge(&mut self, by: [usize; 3]) {
         for (largest, number) in self.largest.iter_mut().zip(by) {
             *largest = number.max(*largest);
@@ -126,6 +154,9 @@ impl Counts {
         self.lists_filled += other.lists_filled;
         for (ties, more) in self.ties.iter_mut().zip(other.ties) {
             *ties += more;
+        }
+        for (repeats, more) in self.repeats.iter_mut().zip(other.repeats) {
+            repeats.add(more);
         }
     }
 
@@ -162,6 +193,11 @@ impl Counts {
     pub fn ties(&self) -> [u64; 2] {
         self.ties
     }
+
+    /// How often an edge that was held already was taken, by commands and by steps.
+    pub fn repeats(&self) -> [Repeats; 2] {
+        self.repeats
+    }
 }
 
 impl fmt::Display for Counts {
@@ -187,6 +223,10 @@ impl fmt::Display for Counts {
         let [without, with] = self.ties;
         writeln!(f, "chains had up to {} vertices and filled their list {} times", self.longest_chain, self.lists_filled)?;
         writeln!(f, "newEdge and transfer found a cycle {with} times where a chain was, and none {without} times where none was")?;
+        for (by, Repeats { all, full, cycle, itself }) in ["newEdge", "a step"].iter().zip(self.repeats) {
+            write!(f, "{by} took an edge held already {all} times: {full} on a full table, {cycle} where a chain was, ")?;
+            writeln!(f, "{itself} of these from a vertex to itself")?;
+        }
         write!(f, "refusals")?;
         for number in REFUSALS {
             write!(f, " {number}: {}", self.refusals(number))?;

@@ -3,9 +3,9 @@
 use std::fmt::Write;
 use std::ops::Range;
 
-use keshtiwol::{refusal, Answer, Chain, Command, Ending, Lowest, Run, Tally, EDGE_WORDS, ROWS, VERTEX_WORDS};
+use keshtiwol::{refusal, Answer, Chain, Command, Ending, Lowest, Run, Tally, EDGE_WORDS, ROWS, STATUS, VERTEX_FINISHED, VERTEX_WORDS};
 
-use crate::counts::Counts;
+use crate::counts::{Counts, Repeats};
 
 #[derive(Clone, Copy, Debug, PartialEq)]
 pub enum Call {
@@ -140,7 +140,8 @@ impl Pair {
     }
 
     /// A command on both sides. Before one with a cycle test the chain is asked for that this test is about: where the command gets as
-    /// far as the test, it is refused with 35 where there was one, and passes where there was none.
+    /// far as the test, it is refused with 35 where there was one, and passes where there was none. An edge that is held already never
+    /// gets as far.
     pub fn command(&mut self, command: Command) -> Result<Said, Difference> {
         let (source, target) = match command {
             Command::NewEdge { source, target, .. } => (source, target),
@@ -153,12 +154,19 @@ impl Pair {
         let closes = match said {
             Said::Answer(Answer::Refused { number: refusal::CLOSES_CYCLE, .. }) => true,
             Said::Answer(Answer::Transfer(_)) => false,
+            Said::Answer(Answer::Edge(..)) if self.is_repeated(source, target, held)? => {
+                self.note_repeated(false, source == target, chain);
+                return Ok(said);
+            }
             // An edge from a finished source is not tested, nor appended.
             Said::Answer(Answer::Edge(..)) if self.state.tally.held > held => false,
             // Refused after the test.
             Said::Answer(Answer::Refused { number: refusal::NO_EDGE_ROW, .. }) => false,
             _ => return Ok(said),
         };
+        if matches!(command, Command::NewEdge { .. }) && self.stands_in(source, target, held) {
+            return Err(self.disagreement("an edge that is held already was refused"));
+        }
         match chain {
             Said::Chain(Chain::Written(_)) if closes => {}
             Said::Chain(Chain::Refused { number: refusal::NO_CHAIN, .. }) if !closes => {}
@@ -166,6 +174,43 @@ impl Pair {
         }
         self.counts.tied(closes);
         Ok(said)
+    }
+
+    /// A step on both sides. After one that took an edge held already the chain is asked for that leads back from its target.
+    pub fn step(&mut self, vertex: u32) -> Result<Said, Difference> {
+        let held = self.state.tally.held;
+        let said = self.call(Call::Step(vertex))?;
+        if let Said::Answer(Answer::Edge(source, target)) = said {
+            if self.is_repeated(source, target, held)? {
+                let chain = self.call(Call::Chain { source, target, words: ROWS as u32 })?;
+                self.note_repeated(true, source == target, chain);
+            }
+        }
+        Ok(said)
+    }
+
+    /// Whether an edge that was taken where so many were held is one of these. It is appended exactly where it is not, except from a
+    /// finished source.
+    fn is_repeated(&self, source: u32, target: u32, held: u32) -> Result<bool, Difference> {
+        let finished = self.state.vertices[VERTEX_WORDS * source as usize + STATUS] == VERTEX_FINISHED;
+        let repeated = !finished && self.stands_in(source, target, held);
+        let appended = self.state.tally.held > held;
+        if appended == (finished || repeated) {
+            return Err(self.disagreement("an edge was appended though it adds nothing, or was not though it is a new one"));
+        }
+        Ok(repeated)
+    }
+
+    /// Whether an edge stands in one of the first so many rows.
+    fn stands_in(&self, source: u32, target: u32, rows: u32) -> bool {
+        self.state.edges.chunks_exact(EDGE_WORDS).take(rows as usize).any(|row| row == [source, target])
+    }
+
+    fn note_repeated(&mut self, by_step: bool, itself: bool, chain: Said) {
+        let State { edges, tally, .. } = &self.state;
+        let full = tally.held as usize == (edges.len() / EDGE_WORDS).min(ROWS);
+        let cycle = matches!(chain, Said::Chain(Chain::Written(_)));
+        self.counts.repeated(by_step, Repeats { all: 1, full: full.into(), cycle: cycle.into(), itself: itself.into() });
     }
 
     /// A list for each side, filled with marks.

@@ -3,9 +3,9 @@
 use crate::draw::Draw;
 
 const JOB: u8 = 1;
-const ASYNC: u8 = 2;
-const FINISH: u8 = 3;
-const FORK: u8 = 4;
+pub const ASYNC: u8 = 2;
+pub const FINISH: u8 = 3;
+pub const FORK: u8 = 4;
 
 /// The least and the greatest number of one to five bytes.
 const NUMBERS: [(u32, u32); 5] = [(0, 127), (128, 16_383), (16_384, 2_097_151), (2_097_152, 268_435_455), (268_435_456, 4_294_967_295)];

@@ -16,7 +16,7 @@ type Kind = fn(&mut Scene) -> Outcome;
 /// Plays the scenario of a seed: what was called and said, or the first difference.
 pub fn play(seed: u64) -> Result<Counts, Difference> {
     let mut draw = Draw::new(seed);
-    let kinds: [(&str, u32, Kind); 7] = [
+    let kinds: [(&str, u32, Kind); 8] = [
         ("a bare machine", 3, Scene::bare),
         ("random tables", 3, Scene::random_tables),
         ("a schedule", 4, Scene::schedule),
@@ -24,6 +24,7 @@ pub fn play(seed: u64) -> Result<Counts, Difference> {
         ("a damaged program", 3, Scene::damaged),
         ("altered words", 4, Scene::altered),
         ("chains", 4, Scene::chains),
+        ("the same edge twice", 4, Scene::repeats),
     ];
     let (name, _, kind) = kinds[draw.weighted(&kinds.map(|kind| kind.1))];
     let size = [Size::Small, Size::Middle, Size::Large][draw.weighted(&[80, 14, 6])];
@@ -240,8 +241,141 @@ impl Scene {
         Ok(())
     }
 
+    /// Edges that are held already, named again.
+    fn repeats(&mut self) -> Outcome {
+        if self.draw.one_in(2) {
+            self.repeats_by_commands()
+        } else {
+            self.repeats_by_steps()
+        }
+    }
+
+    /// By commands, on tables that no calls led to.
+    fn repeats_by_commands(&mut self) -> Outcome {
+        let mut state = self.random_state();
+        self.shape_edges(&mut state);
+        let made = state.tally.made;
+        let more = if made > 0 { self.draw.below(3) } else { 0 };
+        for _ in 0..more {
+            let (source, target) = (self.draw.below(made), self.draw.below(made));
+            self.hold(&mut state, source, target);
+            match self.draw.below(3) {
+                0 => self.hold(&mut state, source, source),
+                1 => self.hold_way_back(&mut state, source, target),
+                _ => {}
+            }
+        }
+        if self.draw.one_in(2) {
+            self.fill(&mut state);
+        }
+        self.pair.set(state);
+        for _ in 0..self.draw.between(5, 25) {
+            let command = match (self.caller(), self.held_edge()) {
+                (Some(caller), Some((source, target))) if !self.draw.one_in(3) => Command::NewEdge { caller, source, target },
+                _ => self.command(),
+            };
+            self.call(Call::Command(command))?;
+        }
+        Ok(())
+    }
+
+    /// By steps of a loaded program, into whose table the edge was put before.
+    fn repeats_by_steps(&mut self) -> Outcome {
+        self.load()?;
+        for _ in 0..self.draw.between(2, 12) {
+            let Some((vertex, ends)) = self.step_to_an_edge()? else { break };
+            let sound = self.pair.state().clone();
+            self.hold_next_edge(vertex, ends);
+            let call = if self.draw.one_in(6) { Call::Run(self.draw.between(1, 4)) } else { Call::Step(vertex) };
+            self.call(call)?;
+            for _ in 0..self.draw.below(4) {
+                let call = if self.draw.one_in(2) { Call::Step(vertex) } else { self.any_call() };
+                self.call(call)?;
+            }
+            if !self.draw.one_in(3) {
+                self.pair.set(sound);
+            }
+        }
+        Ok(())
+    }
+
+    /// Steps vertices in any order until the next command of one is a newEdge, if that comes soon: the vertex, and where in its row the
+    /// edge's ends stand.
+    fn step_to_an_edge(&mut self) -> Result<Option<(u32, [usize; 2])>, Difference> {
+        for _ in 0..self.draw.between(1, 60) {
+            let able = self.able();
+            if able.is_empty() {
+                break;
+            }
+            let vertex = self.draw.pick(&able);
+            self.call(Call::Step(vertex))?;
+            if let Some(ends) = self.next_edge(vertex) {
+                return Ok(Some((vertex, ends)));
+            }
+        }
+        Ok(None)
+    }
+
+    /// Where in a vertex's row the source and the target stand that its next step's newEdge names, if it is one.
+    fn next_edge(&self, vertex: u32) -> Option<[usize; 2]> {
+        let row = &self.pair.state().vertices[VERTEX_WORDS * vertex as usize..][..VERTEX_WORDS];
+        match (*self.pair.program.get(row[PLACE] as usize)?, row[PHASE]) {
+            (programs::ASYNC, 1) => Some([MADE, SCOPE]),
+            (programs::FINISH, 2) => Some([MADE + 1, MADE]),
+            (programs::FORK, 3) => Some([MADE, MADE + 2]),
+            (programs::FORK, 4) => Some([MADE + 1, MADE + 2]),
+            _ => None,
+        }
+    }
+
+    /// Puts that edge into the table, often so that no row is left or a way leads back. Now and then it is made one from a vertex to
+    /// itself.
+    fn hold_next_edge(&mut self, vertex: u32, [source, target]: [usize; 2]) {
+        let mut state = self.pair.state().clone();
+        let row = &mut state.vertices[VERTEX_WORDS * vertex as usize..][..VERTEX_WORDS];
+        if self.draw.one_in(8) {
+            row[source] = row[target];
+        }
+        let (source, target) = (row[source], row[target]);
+        if self.draw.one_in(3) {
+            self.hold_way_back(&mut state, source, target);
+        }
+        self.hold(&mut state, source, target);
+        if self.draw.one_in(2) {
+            self.fill(&mut state);
+        }
+        self.pair.set(state);
+    }
+
+    /// Puts edges into a table that lead from target back to source: one, or two over any vertex made.
+    fn hold_way_back(&mut self, state: &mut State, source: u32, target: u32) {
+        if self.draw.one_in(3) {
+            let between = self.draw.below(state.tally.made);
+            self.hold(state, target, between);
+            self.hold(state, between, source);
+        } else {
+            self.hold(state, target, source);
+        }
+    }
+
+    /// Puts an edge into a table, after those held or between them. Where all 1,024 rows are held, the last of them goes.
+    fn hold(&mut self, state: &mut State, source: u32, target: u32) {
+        let State { edges, tally, .. } = state;
+        tally.held = tally.held.min(ROWS as u32 - 1);
+        let row = if self.draw.one_in(2) { tally.held } else { self.draw.below(tally.held + 1) };
+        let at = EDGE_WORDS * row as usize;
+        edges.splice(at..at, [source, target]);
+        tally.held += 1;
+    }
+
+    /// Ends the edge table after the edges held, so that no row is left.
+    fn fill(&mut self, state: &mut State) {
+        state.edges.truncate(EDGE_WORDS * state.tally.held as usize + self.draw.index(EDGE_WORDS));
+    }
+
     fn call(&mut self, call: Call) -> Result<Said, Difference> {
         let said = match call {
+            Call::Step(vertex) => self.pair.step(vertex)?,
             Call::Command(command) => self.pair.command(command)?,
             _ => self.pair.call(call)?,
         };
@@ -293,6 +427,18 @@ impl Scene {
             }
         }
         Some((at, target))
+    }
+
+    /// An edge that is held, often that of the first row or the last.
+    fn held_edge(&mut self) -> Option<(u32, u32)> {
+        let State { edges, tally, .. } = self.pair.state();
+        let mut rows = edges.chunks_exact(EDGE_WORDS).take(tally.held as usize);
+        let at = match self.draw.below(4) {
+            0 => 0,
+            1 => rows.len().saturating_sub(1),
+            _ => self.draw.index(rows.len()),
+        };
+        rows.nth(at).map(|row| (row[SOURCE], row[TARGET]))
     }
 
     /// Lends tables and loads the program. Where they were too short, some calls are made on them as they are, then others are lent.
@@ -475,22 +621,38 @@ impl Scene {
 
     /// A command that is not far from being accepted, mostly.
     fn command(&mut self) -> Command {
-        let executing = self.having(|status| status == VERTEX_EXECUTING);
-        if executing.is_empty() && !self.draw.one_in(8) {
-            return Command::Start { vertex: self.able_or_name() };
-        }
-        let caller = if executing.is_empty() || self.draw.one_in(20) { self.name() } else { self.draw.pick(&executing) };
+        let caller = match self.caller() {
+            Some(caller) => caller,
+            None if self.draw.one_in(8) => self.name(),
+            None => return Command::Start { vertex: self.able_or_name() },
+        };
         match self.draw.weighted(&[6, 12, 4, 3, 4, 1]) {
             0 => {
                 let bytes = self.pair.program.len() as u32;
                 let place = if self.draw.one_in(8) { self.draw.wild() } else { self.draw.below(bytes + 1) };
                 Command::NewTd { caller, place, scope: self.name() }
             }
-            1 => Command::NewEdge { caller, source: self.name(), target: self.name() },
+            1 => {
+                let (source, target) = match self.held_edge() {
+                    Some(ends) if self.draw.one_in(3) => ends,
+                    _ => (self.name(), self.name()),
+                };
+                Command::NewEdge { caller, source, target }
+            }
             2 => Command::Release { caller, vertex: self.name() },
             3 => Command::Transfer { caller, vertex: self.name() },
             4 => Command::Start { vertex: self.able_or_name() },
             _ => Command::Stop { caller },
+        }
+    }
+
+    /// An executing vertex if there is one, now and then another.
+    fn caller(&mut self) -> Option<u32> {
+        let executing = self.having(|status| status == VERTEX_EXECUTING);
+        match executing.is_empty() {
+            true => None,
+            false if self.draw.one_in(20) => Some(self.name()),
+            false => Some(self.draw.pick(&executing)),
         }
     }
 

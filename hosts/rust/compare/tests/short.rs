@@ -1,6 +1,6 @@
 //! A short comparison that yet sees every word, every refusal and programs at the limits.
 
-use compare::counts::{REFUSALS, WORDS};
+use compare::counts::{Repeats, REFUSALS, WORDS};
 
 #[test]
 fn no_difference() {
@@ -24,6 +24,10 @@ fn no_difference() {
     assert!(filled > 1000, "only {filled} chains filled their list");
     let ties = counts.ties();
     assert!(ties.iter().all(|&times| times > 1000), "cycle tests that a chain was compared with: {ties:?}");
+    for (by, repeats) in ["commands", "steps"].iter().zip(counts.repeats()) {
+        let Repeats { all, full, cycle, itself } = repeats;
+        assert!(all > 500 && full > 200 && cycle > 100 && itself > 50, "edges held already, taken by {by}: {repeats:?}");
+    }
 }
 
 /// The generator's valid programs do load, its damaged ones mostly don't, and the mixed one is what the benchmark says of it.

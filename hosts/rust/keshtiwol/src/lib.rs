@@ -156,6 +156,7 @@ pub enum Command {
         place: u32,
         scope: u32,
     },
+    /// Appends the edge. From a finished source, or held already, it is taken as well and changes nothing.
     NewEdge {
         caller: u32,
         source: u32,

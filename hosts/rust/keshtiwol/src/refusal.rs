@@ -27,7 +27,6 @@ pub const CALLER_NOT_EXECUTING: u32 = 30;
 pub const NO_VERTEX_ROW: u32 = 31;
 pub const NO_EDGE_ROW: u32 = 32;
 pub const TARGET_NOT_WAITING: u32 = 33;
-pub const EDGE_HELD: u32 = 34;
 pub const CLOSES_CYCLE: u32 = 35;
 pub const RELEASE_NOT_NEW: u32 = 36;
 pub const TRANSFER_NOT_NEW: u32 = 37;
@@ -70,7 +69,6 @@ pub fn text(number: u32) -> &'static str {
         NO_VERTEX_ROW => "no vertex row is left",
         NO_EDGE_ROW => "no edge row is left",
         TARGET_NOT_WAITING => "the edge's target executes or is finished",
-        EDGE_HELD => "the edge is held already",
         CLOSES_CYCLE => "this would close a cycle",
         RELEASE_NOT_NEW => "only a new vertex is released",
         TRANSFER_NOT_NEW => "edges are handed to a new vertex only",

@@ -161,7 +161,7 @@ fn what_is_not_looked_at() {
     assert_eq!(nothing.chain_in(0, 0, 0), Err(refusal::NO_SUCH_VERTEX));
 }
 
-/// A newEdge and a transfer are refused with 35 exactly where there is a chain.
+/// A newEdge, where the edge is not held already, and a transfer are refused with 35 exactly where there is a chain.
 #[test]
 fn the_loop_behind_a_refusal() {
     let mut lent = Lent::new(6, &[]);

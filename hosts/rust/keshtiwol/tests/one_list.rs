@@ -23,7 +23,7 @@ fn one_list_of_refusals() {
     let (_, refusals) = header.split_once("The numbers of refusals").unwrap();
     let (refusals, _) = refusals.split_once("};").unwrap();
     let header = list(refusals, "KESHTIWOL_", " = ");
-    assert_eq!(code.len(), 29);
+    assert_eq!(code.len(), 28);
     assert_eq!(code, definitions);
     assert_eq!(code, header);
     assert_eq!(code, wrapper);

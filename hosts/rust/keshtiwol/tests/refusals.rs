@@ -57,6 +57,13 @@ impl Lent {
         self.command(Command::NewEdge { caller: 0, source, target })
     }
 
+    /// The same, where the edge is taken and no word changes.
+    fn edge_held_already(&mut self, source: u32, target: u32) {
+        let before = self.clone();
+        assert_eq!(self.edge(source, target), Answer::Edge(source, target));
+        assert_eq!(*self, before);
+    }
+
     fn release(&mut self, vertex: u32) -> Answer {
         self.command(Command::Release { caller: 0, vertex })
     }
@@ -86,7 +93,7 @@ fn the_bare_example() {
     assert_eq!(lent.edge(1, 2), Answer::Edge(1, 2));
     assert_eq!(lent.edge(2, 1), refused(refusal::CLOSES_CYCLE));
     assert_eq!(lent.edge(1, 1), refused(refusal::CLOSES_CYCLE));
-    assert_eq!(lent.edge(1, 2), refused(refusal::EDGE_HELD));
+    lent.edge_held_already(1, 2);
     assert_eq!(lent.edge(0, 1), Answer::Edge(0, 1));
     assert_eq!(lent.transfer(1), refused(refusal::TRANSFER_HAS_EDGE_OUT));
     assert_eq!(lent.transfer(2), refused(refusal::CLOSES_CYCLE));
@@ -123,6 +130,69 @@ fn commands() {
     assert_eq!(lent.tally.held, 0);
     assert_eq!(lent.edge(1, 3), Answer::Edge(1, 3));
     assert_eq!(lent.edges, [1, 3]);
+}
+
+#[test]
+fn an_edge_held_already() {
+    let mut lent = Lent::bare(5, 2);
+    for vertex in 1..5 {
+        assert_eq!(lent.new_vertex(), Answer::New(vertex));
+    }
+    assert_eq!(lent.edge(1, 2), Answer::Edge(1, 2));
+    lent.edge_held_already(1, 2);
+    assert_eq!(lent.edge(2, 3), Answer::Edge(2, 3));
+    // The table is full now.
+    lent.edge_held_already(1, 2);
+    lent.edge_held_already(2, 3);
+    assert_eq!(lent.edge(1, 3), refused(refusal::NO_EDGE_ROW));
+    assert_eq!(lent.edge(3, 1), refused(refusal::CLOSES_CYCLE));
+    // With a cycle lent, and a vertex that has an edge to itself.
+    lent.edges.extend([3, 1, 4, 4]);
+    lent.tally.held = 4;
+    for (source, target) in [(1, 2), (2, 3), (3, 1), (4, 4)] {
+        lent.edge_held_already(source, target);
+    }
+    for (source, target) in [(2, 1), (1, 3), (1, 1)] {
+        assert_eq!(lent.edge(source, target), refused(refusal::CLOSES_CYCLE));
+    }
+    // The caller's status and the target's come first.
+    let edge = Command::NewEdge { caller: 3, source: 1, target: 2 };
+    assert_eq!(lent.command(edge), refused(refusal::CALLER_NOT_EXECUTING));
+    for status in [VERTEX_EXECUTING, VERTEX_FINISHED] {
+        lent.vertices[2 * VERTEX_WORDS + STATUS] = status;
+        assert_eq!(lent.edge(1, 2), refused(refusal::TARGET_NOT_WAITING));
+    }
+    lent.vertices[2 * VERTEX_WORDS + STATUS] = VERTEX_RELEASED;
+    lent.edge_held_already(1, 2);
+    lent.vertices[VERTEX_WORDS + STATUS] = VERTEX_FINISHED;
+    lent.edge_held_already(1, 2);
+}
+
+/// Steps on tables into which the edge of the step's newEdge was put before: it is said, and only the phase and the steps move on.
+#[test]
+fn a_step_whose_edge_is_held_already() {
+    let program = [4, 0, 0, 0];
+    let mut lent = Lent::new(5 * VERTEX_WORDS, 3 * EDGE_WORDS);
+    assert_eq!(lent.load(&program), Answer::Ready);
+    assert_eq!(lent.step(&program, 0), Answer::Start);
+    for vertex in 2..5 {
+        assert_eq!(lent.step(&program, 0), Answer::New(vertex));
+    }
+    // The fork's edges, which fill the table, without and with a cycle.
+    for other in [[0, 1], [4, 2]] {
+        let mut lent = lent.clone();
+        lent.edges = [other, [3, 4], [2, 4]].concat();
+        lent.tally.held = 3;
+        for source in [2, 3] {
+            let mut after = lent.clone();
+            after.vertices[PHASE] += 1;
+            after.tally.steps += 1;
+            assert_eq!(lent.step(&program, 0), Answer::Edge(source, 4));
+            assert_eq!(lent, after);
+        }
+        let transfer = if other == [0, 1] { Answer::Transfer(4) } else { refused(refusal::TRANSFER_HAS_EDGE_OUT) };
+        assert_eq!(lent.step(&program, 0), transfer);
+    }
 }
 
 #[test]
@@ -240,7 +310,9 @@ fn tables_of_no_words() {
 
 #[test]
 fn every_refusal_has_a_text() {
-    for number in [1, 2, 3, 4, 5, 6, 7, 8, 10, 11, 12, 13, 20, 21, 22, 23, 30, 31, 32, 33, 34, 35, 36, 37, 38, 39, 41, 42, 99] {
+    for number in [1, 2, 3, 4, 5, 6, 7, 8, 10, 11, 12, 13, 20, 21, 22, 23, 30, 31, 32, 33, 35, 36, 37, 38, 39, 41, 42, 99] {
         assert_ne!(refusal::text(number), "unknown");
     }
+    // The one that is not used.
+    assert_eq!(refusal::text(34), "unknown");
 }

@@ -65,6 +65,14 @@ pub(crate) struct Tables<'a> {
     pub tally: &'a mut Tally,
 }
 
+/// What an accepted command does, or a step before its own vertex moves on.
+#[derive(Clone, Copy)]
+pub(crate) enum Act {
+    Do(Command),
+    /// A job, or an edge that adds nothing: it changes nothing and says this.
+    Say(Answer),
+}
+
 /// "30 caller not executing"
 fn executing(status: u32) -> Result<(), u32> {
     if status == EXECUTING {
@@ -122,8 +130,8 @@ impl<'a> View<'a> {
         }
     }
 
-    /// The refusal of a command on sound tables, in the order of "Order. [...] Commands".
-    pub fn check(&self, command: Command) -> Result<(), u32> {
+    /// What a command does on sound tables, or its refusal, in the order of "Order. [...] Commands".
+    pub fn check(&self, command: Command) -> Result<Act, u32> {
         match command {
             // "newTd 30, 31"
             Command::NewTd { caller, .. } => {
@@ -132,7 +140,7 @@ impl<'a> View<'a> {
                     return Err(31);
                 }
             }
-            // "newEdge 30, 33, (finished source accepted), 34, 35, 32"
+            // "newEdge 30, 33, (finished source accepted), 34, 35, 32", and now "Refusal 34 is never given"
             Command::NewEdge { caller, source, target } => {
                 let caller = self.status(caller)?;
                 let source_status = self.status(source)?;
@@ -141,11 +149,10 @@ impl<'a> View<'a> {
                 if target_status == EXECUTING || target_status == FINISHED {
                     return Err(33);
                 }
-                if source_status == FINISHED {
-                    return Ok(());
-                }
-                if self.held().contains(&[source, target]) {
-                    return Err(34);
+                // "A finished t1 adds nothing and is accepted." "An edge held already is now accepted and changes nothing, tested
+                // before 35."
+                if source_status == FINISHED || self.held().contains(&[source, target]) {
+                    return Ok(Act::Say(Answer::Edge(source, target)));
                 }
                 // "Cycle for newEdge: t1 is t2 or t2 reaches t1."
                 if source == target || self.reaches(target, source) {
@@ -190,7 +197,7 @@ impl<'a> View<'a> {
             // "stop 30"
             Command::Stop { caller } => executing(self.status(caller)?)?,
         }
-        Ok(())
+        Ok(Act::Do(command))
     }
 
     /// Whether a path of one or more held edges leads from one made vertex to another. Linear in
@@ -257,8 +264,12 @@ impl<'a> Tables<'a> {
         *self.tally = Tally::default();
     }
 
-    /// The effect of a command that `check` accepts.
-    pub fn apply(&mut self, command: Command) -> Answer {
+    /// The effect of what was accepted, and its answer.
+    pub fn apply(&mut self, act: Act) -> Answer {
+        let command = match act {
+            Act::Do(command) => command,
+            Act::Say(answer) => return answer,
+        };
         match command {
             // "makes the next vertex, new, with the place and scope handed in and its other words 0"
             Command::NewTd { place, scope, .. } => {
@@ -267,12 +278,10 @@ impl<'a> Tables<'a> {
                 self.tally.made += 1;
                 Answer::New(vertex)
             }
-            // "A finished t1 adds nothing and is accepted. Otherwise the edge [...] is appended."
+            // "Otherwise the edge [...] is appended."
             Command::NewEdge { source, target, .. } => {
-                if self.rows[source as usize][STATUS] != FINISHED {
-                    self.edges[self.tally.held as usize] = [source, target];
-                    self.tally.held += 1;
-                }
+                self.edges[self.tally.held as usize] = [source, target];
+                self.tally.held += 1;
                 Answer::Edge(source, target)
             }
             // "turns a new vertex released"

@@ -108,7 +108,7 @@ pub fn command(vertices: &mut [u32], edges: &mut [u32], tally: &mut Tally, comma
         return refused(12);
     }
     match view.check(command) {
-        Ok(()) => tables.apply(command),
+        Ok(act) => tables.apply(act),
         Err(number) => refused(number),
     }
 }

@@ -3,7 +3,7 @@
 use std::cell::OnceCell;
 
 use crate::graph::{
-    Marks, Row, Tables, View, EXECUTING, FINISHED, MADE, MADE_WORDS, MOST_ROWS, MOST_STEPS, NEW, PHASE, PLACE, RELEASED, STATUS,
+    Act, Marks, Row, Tables, View, EXECUTING, FINISHED, MADE, MADE_WORDS, MOST_ROWS, MOST_STEPS, NEW, PHASE, PLACE, RELEASED, STATUS,
 };
 use crate::read::{read, Item};
 use crate::{Answer, Command};
@@ -13,16 +13,6 @@ use crate::{Answer, Command};
 pub(crate) struct Due {
     act: Act,
     then: Then,
-}
-
-#[derive(Clone, Copy)]
-enum Act {
-    /// "job: one step that names the job"
-    Job {
-        number: u32,
-        offset: u32,
-    },
-    Do(Command),
 }
 
 #[derive(Clone, Copy)]
@@ -80,7 +70,8 @@ fn next_command(caller: u32, row: &Row, item: Item, end: u32) -> Option<Due> {
     // An item starts at `place`, so it lies in the program and its first body one byte further.
     let body = place.saturating_add(1);
     let (act, then) = match (item, phase) {
-        (Item::Job { number, past }, 0) => (Act::Job { number, offset: place }, Then::Move(past.into())),
+        // "job: one step that names the job; then past the item."
+        (Item::Job { number, past }, 0) => (Act::Say(Answer::Job { number, offset: place }), Then::Move(past.into())),
         // "async: newTd t' (its body, own scope); newEdge t' to own scope; release t'; then past
         // the item."
         (Item::Async { .. }, 0) => new(0, body, scope),
@@ -119,9 +110,9 @@ impl View<'_> {
         let item = item.ok_or(13u32)?;
         // The program reads, so it has 1 to 4,096 bytes.
         let end = program.len() as u32 - 1;
-        let due = next_command(vertex, row, item, end).ok_or(13u32)?;
+        let mut due = next_command(vertex, row, item, end).ok_or(13u32)?;
         if let Act::Do(command) = due.act {
-            self.check(command)?;
+            due.act = self.check(command)?;
         }
         Ok(due)
     }
@@ -201,10 +192,7 @@ fn start(vertex: u32) -> Due {
 impl Tables<'_> {
     /// Takes an accepted step of a vertex; the tally is "kept true by each accepted step".
     pub fn take(&mut self, vertex: u32, due: Due) -> Answer {
-        let answer = match due.act {
-            Act::Job { number, offset } => Answer::Job { number, offset },
-            Act::Do(command) => self.apply(command),
-        };
+        let answer = self.apply(due.act);
         let row = &mut self.rows[vertex as usize];
         match due.then {
             Then::Stay => {}

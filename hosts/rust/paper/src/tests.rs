@@ -1,4 +1,4 @@
-use crate::graph::{Edge, Row, EDGE_WORDS, FINISHED, MOST_ROWS, NEW, PHASE, PLACE, VERTEX_WORDS};
+use crate::graph::{Edge, Row, EDGE_WORDS, FINISHED, MOST_ROWS, NEW, PHASE, PLACE, SCOPE, VERTEX_WORDS};
 use crate::read::{read, Counts, Item};
 use crate::*;
 
@@ -350,7 +350,8 @@ fn bare_machine_example() {
     let before = lent.clone();
     assert_eq!(lent.command(edge(2, 1)), refusal(35, 0));
     assert_eq!(lent.command(edge(1, 1)), refusal(35, 0));
-    assert_eq!(lent.command(edge(1, 2)), refusal(34, 0));
+    // "the bare example changes there"
+    assert_eq!(lent.command(edge(1, 2)), Answer::Edge(1, 2));
     assert_eq!(lent, before);
     assert_eq!(lent.command(edge(0, 1)), Answer::Edge(0, 1));
     assert_eq!(lent.command(transfer(1)), refusal(38, 0));
@@ -495,7 +496,6 @@ fn commands_refuse_in_order() {
         (edge(1, 0, 0), 30),
         (edge(0, 1, 3), 33),
         (edge(0, 4, 4), 33),
-        (edge(0, 1, 2), 34),
         (edge(0, 2, 1), 35),
         (edge(0, 2, 2), 35),
         (edge(0, 0, 1), 32),
@@ -519,10 +519,12 @@ fn commands_refuse_in_order() {
     ] {
         assert_eq!(try_one(&lent, c), refusal(number, 0), "{c:?}");
     }
-    // A finished source needs no row, and adds nothing.
-    let mut after = lent.clone();
-    assert_eq!(after.command(edge(0, 4, 1)), Answer::Edge(4, 1));
-    assert_eq!(after, lent);
+    // A finished source needs no row, and adds nothing; nor does an edge held already.
+    for (source, target) in [(4, 1), (1, 2)] {
+        let mut after = lent.clone();
+        assert_eq!(after.command(edge(0, source, target)), Answer::Edge(source, target));
+        assert_eq!(after, lent);
+    }
     // 12 comes first; the steps do not matter at a single command.
     for (word, value) in [(STATUS, 0), (STATUS, 5), (VERTEX_WORDS + STATUS, u32::MAX)] {
         let mut bad = lent.clone();
@@ -565,7 +567,7 @@ fn transfer_and_stop_keep_the_order() {
 #[test]
 fn paths_decide_cycles() {
     let mut dice = Dice(31);
-    let mut seen = [0; 2];
+    let mut seen = [0; 3];
     for _ in 0..4000 {
         let n = 2 + dice.below(9);
         let edges: Vec<Edge> = (0..dice.below(2 * n)).map(|_| [dice.below(n) as u32, dice.below(n) as u32]).collect();
@@ -574,16 +576,19 @@ fn paths_decide_cycles() {
         let lent = graph(&statuses, &edges, 1);
         let held = lent.held();
         let (a, b) = (dice.below(n) as u32, 1 + dice.below(n - 1) as u32);
-        let expected = if held.contains(&(a, b)) {
-            refusal(34, 0)
-        } else if a == b || leads(&held, b, a) {
+        let cycle = a == b || leads(&held, b, a);
+        let mut after = lent.clone();
+        let answer = after.command(Command::NewEdge { caller: 0, source: a, target: b });
+        if held.contains(&(a, b)) {
+            seen[2] += u32::from(cycle);
+            assert_eq!((answer, after), (Answer::Edge(a, b), lent.clone()), "{edges:?} {a} {b}");
+        } else if cycle {
             seen[0] += 1;
-            refusal(35, 0)
+            assert_eq!(answer, refusal(35, 0), "{edges:?} {a} {b}");
         } else {
-            Answer::Edge(a, b)
-        };
-        let answer = lent.clone().command(Command::NewEdge { caller: 0, source: a, target: b });
-        assert_eq!(answer, expected, "{edges:?} {a} {b}");
+            assert_eq!(answer, Answer::Edge(a, b), "{edges:?} {a} {b}");
+            assert_eq!(after.held(), [held.clone(), vec![(a, b)]].concat());
+        }
         let expected = if held.iter().any(|e| e.0 == b) {
             refusal(38, 0)
         } else if leads(&held, 0, b) {
@@ -609,6 +614,149 @@ fn long_paths() {
     assert_eq!(lent.command(edge(0, 2)), Answer::Edge(0, 2));
     assert_eq!(lent.command(Command::Transfer { caller: 0, vertex: 1023 }), refusal(35, 0));
     assert_eq!(lent.command(edge(0, 5)), refusal(32, 0));
+}
+
+// --- The same edge twice -----------------------------------------------------------------------
+
+/// "An edge held already is now accepted and changes nothing", and so it is where it filled the last row.
+#[test]
+fn the_same_edge_twice() {
+    let edge = |source, target| Command::NewEdge { caller: 0, source, target };
+    let mut lent = graph(&[3, 1, 2, 1], &[], 2);
+    assert_eq!(lent.command(edge(0, 1)), Answer::Edge(0, 1));
+    let half = lent.clone();
+    assert_eq!(lent.command(edge(0, 1)), Answer::Edge(0, 1));
+    assert_eq!(lent, half);
+    assert_eq!(lent.command(edge(1, 2)), Answer::Edge(1, 2));
+    let full = lent.clone();
+    assert_eq!((full.tally.held, &full.edges), (2, &vec![0, 1, 1, 2]));
+    for (source, target) in [(1, 2), (0, 1), (1, 2)] {
+        assert_eq!(lent.command(edge(source, target)), Answer::Edge(source, target));
+        assert_eq!(lent, full);
+    }
+    // Another edge finds no row, and one that closes a cycle is refused for that.
+    assert_eq!(lent.command(edge(1, 3)), refusal(32, 0));
+    assert_eq!(lent.command(edge(2, 1)), refusal(35, 0));
+    // Both ends count, and only rows that are held.
+    assert_eq!(lent.command(edge(0, 2)), refusal(32, 0));
+    lent.tally.held = 1;
+    assert_eq!(lent.command(edge(1, 2)), Answer::Edge(1, 2));
+    assert_eq!(lent, full);
+    // All 1,024 rows are looked at, and none past them.
+    let mut edges: Vec<Edge> = (0..1025).map(|row| [row % 2, 2 + row / 2]).collect();
+    let mut statuses = [1; 600];
+    statuses[0] = 3;
+    let mut lent = graph(&statuses, &edges, 0);
+    lent.tally.held = 1024;
+    let full = lent.clone();
+    let past = edges.pop().unwrap();
+    for [source, target] in edges {
+        assert_eq!(lent.command(edge(source, target)), Answer::Edge(source, target));
+    }
+    assert_eq!(lent.command(edge(past[0], past[1])), refusal(32, 0));
+    assert_eq!(lent, full);
+}
+
+/// "tested before 35": on a held cycle, and from a vertex to itself.
+#[test]
+fn held_edges_of_a_cycle() {
+    for spare in [0, 1] {
+        let lent = graph(&[3, 1, 2, 1, 1], &[[1, 2], [2, 3], [3, 1], [4, 4]], spare);
+        for (source, target, held) in [
+            (1, 2, true),
+            (2, 3, true),
+            (3, 1, true),
+            (4, 4, true),
+            (2, 1, false),
+            (3, 2, false),
+            (1, 3, false),
+            (1, 1, false),
+            (3, 3, false),
+        ] {
+            let mut after = lent.clone();
+            let answer = after.command(Command::NewEdge { caller: 0, source, target });
+            assert_eq!(answer, if held { Answer::Edge(source, target) } else { refusal(35, 0) });
+            assert_eq!(after, lent);
+        }
+    }
+}
+
+/// 12, 20, 30 and 33 come before it, and a finished source is accepted as ever.
+#[test]
+fn what_a_held_edge_is_refused_for() {
+    let edge = |caller, source, target| Command::NewEdge { caller, source, target };
+    let lent = graph(&[3, 1, 2, 3, 4], &[[1, 2], [1, 3], [1, 4], [4, 2], [3, 3]], 0);
+    for (command, answer) in [
+        (edge(0, 1, 2), Answer::Edge(1, 2)),
+        (edge(3, 1, 2), Answer::Edge(1, 2)),
+        (edge(5, 1, 2), refusal(20, 0)),
+        (edge(1, 1, 2), refusal(30, 0)),
+        (edge(2, 1, 2), refusal(30, 0)),
+        (edge(4, 1, 2), refusal(30, 0)),
+        (edge(4, 1, 4), refusal(30, 0)),
+        (edge(0, 1, 3), refusal(33, 0)),
+        (edge(0, 1, 4), refusal(33, 0)),
+        (edge(3, 3, 3), refusal(33, 0)),
+        (edge(0, 4, 2), Answer::Edge(4, 2)),
+    ] {
+        let mut after = lent.clone();
+        assert_eq!(after.command(command), answer, "{command:?}");
+        assert_eq!(after, lent);
+    }
+    let mut unsound = lent.clone();
+    unsound.edges[9] = 5;
+    assert_eq!(unsound.command(edge(0, 1, 2)), refusal(12, 0));
+}
+
+/// A step on altered tables whose newEdge names a held edge: it says edge, holds none more, and the item goes on.
+#[test]
+fn steps_that_name_a_held_edge() {
+    let fork: &[u8] = &[4, 0, 0, 0];
+    let to_its_newedge: [(&[u8], u32, Edge, Answer); 4] = [
+        (&[2, 0, 0], 2, [2, 1], Answer::Release(2)),
+        (&[3, 0, 0], 3, [3, 2], Answer::Transfer(2)),
+        (fork, 4, [2, 4], Answer::Edge(3, 4)),
+        (fork, 5, [3, 4], Answer::Transfer(4)),
+    ];
+    for (program, steps, [source, target], next) in to_its_newedge {
+        for (spare, cycle) in [(0, false), (3, false), (0, true), (3, true)] {
+            let mut lent = loaded(program);
+            for _ in 0..steps {
+                assert!(!is_refused(lent.step(program, 0)));
+            }
+            lent.edges.truncate(EDGE_WORDS * lent.tally.held as usize);
+            if cycle {
+                lent.edges.extend([target, source]);
+            }
+            lent.edges.extend([source, target]);
+            lent.tally.held = (lent.edges.len() / EDGE_WORDS) as u32;
+            lent.edges.extend(vec![9; EDGE_WORDS * spare]);
+            let mut expected = lent.clone();
+            expected.vertices[PHASE] += 1;
+            expected.tally.steps += 1;
+            assert_eq!(lent.step(program, 0), Answer::Edge(source, target));
+            assert_eq!(lent, expected);
+            // The next command, or what that one is refused for: an edge out of the target, or a row for the fork's other edge.
+            let next = match next {
+                Answer::Transfer(_) if cycle => refusal(38, 0),
+                Answer::Edge(..) if spare == 0 => refusal(32, 0),
+                _ => next,
+            };
+            assert_eq!(lent.step(program, 0), next);
+        }
+    }
+    // A vertex whose scope is the one that it made, and the loop is held.
+    let program = [2, 0, 0];
+    let mut lent = loaded(&program);
+    lent.run(&program, 2);
+    lent.vertices[SCOPE] = 2;
+    assert_eq!(lent.step(&program, 0), refusal(35, 0));
+    lent.edges[EDGE_WORDS..2 * EDGE_WORDS].fill(2);
+    lent.tally.held = 2;
+    assert_eq!(lent.step(&program, 0), Answer::Edge(2, 2));
+    assert_eq!(lent.tally, Tally { made: 3, held: 2, steps: 3 });
+    assert_eq!(lent.step(&program, 0), Answer::Release(2));
+    assert_eq!(lent.row(0), row(3, 2, 2));
 }
 
 // --- Chains ------------------------------------------------------------------------------------
@@ -765,7 +913,7 @@ fn chains_refuse_in_order() {
     assert_eq!(long.chain(1023, 1023), Ok(vec![1023]));
 }
 
-/// "The cycle check accepts just where this finds none."
+/// "The cycle check accepts just where this finds none." An edge held already does not come to it.
 #[test]
 fn chains_are_what_the_cycle_check_refuses() {
     let mut dice = Dice(350);
@@ -777,6 +925,9 @@ fn chains_are_what_the_cycle_check_refuses() {
         statuses[0] = 3;
         let lent = graph(&statuses, &edges, 1);
         let (source, vertex) = (dice.below(n) as u32, 1 + dice.below(n - 1) as u32);
+        if edges.contains(&[source, vertex]) {
+            continue;
+        }
         let commands = [
             (Command::NewEdge { caller: 0, source, target: vertex }, lent.chain(source, vertex)),
             (Command::Transfer { caller: 0, vertex }, lent.chain(vertex, 0)),
@@ -936,7 +1087,7 @@ fn word(dice: &mut Dice, bound: usize) -> u32 {
 #[test]
 fn any_words_are_answered() {
     let mut dice = Dice(99);
-    let (mut stuck, mut done, mut spent, mut unsound) = (0, 0, 0, 0);
+    let (mut stuck, mut done, mut spent, mut unsound, mut repeated) = (0, 0, 0, 0, 0);
     let mut refusals = [0; 40];
     for _ in 0..6000 {
         let mut program = random_program(&mut dice);
@@ -1004,8 +1155,14 @@ fn any_words_are_answered() {
                     assert_eq!(after, lent);
                     refusals[number as usize] += 1;
                 }
-                _ => {
+                answer => {
                     assert_eq!(after.tally.steps, lent.tally.steps + 1);
+                    if let Answer::Edge(source, target) = answer {
+                        if lent.held().contains(&(source, target)) {
+                            repeated += 1;
+                            assert_eq!((after.tally.held, &after.edges), (lent.tally.held, &lent.edges));
+                        }
+                    }
                     after.clone_from(&lent);
                 }
             }
@@ -1034,7 +1191,8 @@ fn any_words_are_answered() {
         assert_eq!(plain, after);
     }
     assert!(stuck > 100 && done > 100 && spent > 100 && unsound > 100, "{stuck} {done} {spent} {unsound}");
-    for number in [12, 13, 20, 21, 22, 23, 31, 32, 33, 34, 35, 36, 37, 38] {
+    assert!(repeated > 0);
+    for number in [12, 13, 20, 21, 22, 23, 31, 32, 33, 35, 36, 37, 38] {
         assert!(refusals[number] > 0, "{number}: {refusals:?}");
     }
 }
