@@ -2,7 +2,6 @@
 use Prim.Native.Nat.{ℕ, zero, suc, _+_, _*_, _<_, _≤_}
 use mathlib.Core.Path.{_≡_, refl, sym, _∙_, ap}
 use mathlib.Core.Bool.{Bool, true, false, not, cond}
-use mathlib.Core.Logic.{⊎-elim}
 use mathlib.Core.List.{List}
 use native.Mathlib.Omega.{arith}
 use lib.ListN.{length}
@@ -21,7 +20,7 @@ use Rattle.graph.specs.Internal.Search.{Searchable}
 use Rattle.graph.specs.Commands.{openedTables, opening, callerRefusal, newTdRefusal, endsRefusal, appendRefusal, releaseRefusal}
 use Rattle.graph.specs.Commands.{transferRefusal, startRefusal, stopRefusal, command}
 use Rattle.graph.proofs.SoundChecks.{sound-rows, searchable}
-use Rattle.graph.proofs.TestLaws.{both-true, both-false-left, both-false-right, either-left, either-right, not-of-true, not-of-false}
+use Rattle.graph.proofs.TestLaws.{both-true, both-false-left, both-false-right, not-of-true, not-of-false}
 use Rattle.graph.proofs.TakenLaws.{Runs, taken, taken-caller, taken-ends, taken-append, unsound}
 use Rattle.graph.proofs.RefusalLaws.{unless-pass, unless-stop, decided-is}
 
@@ -81,26 +80,27 @@ status-there v e t k p lt = omega (arith, sound-rows (lent v e t) p)
 pub edges-there : (v e : List ℕ) (t : Tally) → sound (lent v e t) ≡ true → edgeWords * t .held ≤ length e
 edges-there v e t p = sound-rows (lent v e t) p .1 .0
 
--- a number that is due behind a test is due whatever follows it
+-- One link more at the front of a chain: a number that is due is due whatever follows the chain, and with none due what follows is due.
 due-behind :
     (b : Bool) (n : ℕ) {r r' : ℕ} → ((r ≡ 0 → ⊥) → r ≡ r') → (unless b n r ≡ 0 → ⊥) → unless b n r ≡ unless b n r'
 unfolding unless
 due-behind true n f z = f z
 due-behind false n f z = refl
 
+free-behind :
+    (b : Bool) (n : ℕ) {r r' own : ℕ} → (r ≡ 0 → own ≡ r') → unless b (suc n) r ≡ 0 → own ≡ unless b (suc n) r'
+unfolding unless
+free-behind true n f z = f z
+free-behind false n f z = absurd (omega arith)
+
 -- the refusals that begin the chain of a caller: one of them is due, or none is and the command's own follow
 pub caller-due : (s : Lent) (t a b : ℕ) {m : ℕ} (own : ℕ) → m ≡ callerRefusal s t a b 0 → (m ≡ 0 → ⊥) → m ≡ callerRefusal s t a b own
 unfolding callerRefusal
 caller-due s t a b own p q = p ∙ due-behind _ _ (due-behind _ _ (due-behind _ _ (λ z. absurd (z refl)))) (λ z. q (p ∙ z))
 
-caller-passes : (s : Lent) (t a b : ℕ) {r own : ℕ} → Runs s t → a < s .made → b < s .made → r ≡ own → r ≡ callerRefusal s t a b own
-unfolding callerRefusal
-caller-passes s t a b runs la lb h =
-    pass _ (runs .known)
-    (pass _ (both-true (lt-ltb _ _ (runs .is-made)) (both-true (lt-ltb _ _ la) (lt-ltb _ _ lb))) (pass _ (eq-eqb _ _ (runs .executing)) h))
-
 pub caller-free : (s : Lent) (t a b : ℕ) {m r own : ℕ} → m ≡ callerRefusal s t a b 0 → m ≡ 0 → r ≡ own → r ≡ callerRefusal s t a b own
-caller-free s t a b p q h = let k = taken-caller s t a b 0 .0 (sym p ∙ q) in caller-passes s t a b (k .0) (k .1) (k .2) h
+unfolding callerRefusal
+caller-free s t a b p q h = free-behind _ _ (free-behind _ _ (free-behind _ _ (λ z. h))) (sym p ∙ q)
 
 -- those that begin newEdge's, likewise
 pub ends-due : (s : Lent) (t a b : ℕ) {m : ℕ} (own : ℕ) → m ≡ endsRefusal s t a b 0 → (m ≡ 0 → ⊥) → m ≡ endsRefusal s t a b own
@@ -108,11 +108,8 @@ unfolding endsRefusal callerRefusal
 ends-due s t a b own p q = p ∙ due-behind _ _ (due-behind _ _ (due-behind _ _ (due-behind _ _ (λ z. absurd (z refl))))) (λ z. q (p ∙ z))
 
 pub ends-free : (s : Lent) (t a b : ℕ) {m r own : ℕ} → m ≡ endsRefusal s t a b 0 → m ≡ 0 → r ≡ own → r ≡ endsRefusal s t a b own
-unfolding endsRefusal
-ends-free s t a b p q h =
-    let k = taken-ends s t a b 0 .0 (sym p ∙ q) in
-    let waits = ⊎-elim (λ z. either-left _ (eq-eqb _ _ z)) (λ z. either-right _ (eq-eqb _ _ z)) (k .3) in
-    caller-passes s t a b (k .0) (k .1) (k .2) (pass _ waits h)
+unfolding endsRefusal callerRefusal
+ends-free s t a b p q h = free-behind _ _ (free-behind _ _ (free-behind _ _ (free-behind _ _ (λ z. h)))) (sym p ∙ q)
 
 -- what can be read once none of the refusals that begin the chain of a caller is due
 module _ (v e : List ℕ) (s : Tally) (t a b : ℕ) {m : ℕ} (p : m ≡ callerRefusal (lent v e s) t a b 0) (q : m ≡ 0) where
@@ -131,10 +128,10 @@ module _ (v e : List ℕ) (s : Tally) (t a b : ℕ) {m : ℕ} (p : m ≡ callerR
   pub path-on : Searchable e (s .held) t a
   path-on = searchable (lent v e s) t a (found .0 .known) (found .0 .is-made) (found .1)
 
--- what newEdge may do once none of the refusals that begin its chain is due
+-- what is known once none of the refusals that begin newEdge's chain is due
 module _ (v e : List ℕ) (s : Tally) (t a b : ℕ) {m : ℕ} (p : m ≡ endsRefusal (lent v e s) t a b 0) (q : m ≡ 0) where
-  pub source-made : (sound (lent v e s) ≡ true) × (a < s .made)
-  source-made = let k = taken-ends (lent v e s) t a b 0 .0 (sym p ∙ q) in (k .0 .known, k .1)
+  pub source-made : a < s .made
+  source-made = taken-ends (lent v e s) t a b 0 .0 (sym p ∙ q) .1
 
   pub path-back : Searchable e (s .held) b a
   path-back = let k = taken-ends (lent v e s) t a b 0 .0 (sym p ∙ q) in searchable (lent v e s) b a (k .0 .known) (k .2) (k .1)

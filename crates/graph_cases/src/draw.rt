@@ -55,6 +55,7 @@ pub(crate) fn tally(d: Draw) -> Tally {
     }
 }
 
+// Any command, or one that repeats a held edge.
 pub(crate) fn command(d: Draw, edges: &[u32], held: u32, repeats: bool) -> Command {
     if repeats {
         repeated(d, edges, held)

@@ -649,11 +649,10 @@ impl Scene {
     /// An executing vertex if there is one, now and then another.
     fn caller(&mut self) -> Option<u32> {
         let executing = self.having(|status| status == VERTEX_EXECUTING);
-        match executing.is_empty() {
-            true => None,
-            false if self.draw.one_in(20) => Some(self.name()),
-            false => Some(self.draw.pick(&executing)),
+        if executing.is_empty() {
+            return None;
         }
+        Some(if self.draw.one_in(20) { self.name() } else { self.draw.pick(&executing) })
     }
 
     /// A vertex, mostly one that was made.

@@ -17,7 +17,7 @@ returns c =
     (c .refused .ensures)
 
 adds-nothing-requires : tie.Need-adds-nothing-requires
-adds-nothing-requires c κs = source-made _ _ _ _ _ _ (c .before .before .ends-refusal .ensures) (c .before .if1 .left)
+adds-nothing-requires c κs = (search needs, source-made _ _ _ _ _ _ (c .before .before .ends-refusal .ensures) (c .before .if1 .left))
 
 returns-2 : tie.Need-returns-2
 unfolding newEdge newEdgeRefusal

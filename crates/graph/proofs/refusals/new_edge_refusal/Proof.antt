@@ -9,7 +9,7 @@ pub new-edge-refusal-spec : {M : Type 1} → statement M
 unfolding newEdgeRefusal
 new-edge-refusal-spec = tie.close (tie.spec (λ c κs. search needs)
     (λ c. search chain)
-    (λ c κs. source-made _ _ _ _ _ _ (c .before .ends-refusal .ensures) (c .if1 .left))
+    (λ c κs. (search needs, source-made _ _ _ _ _ _ (c .before .ends-refusal .ensures) (c .if1 .left)))
     (λ c. search chain)
     (λ c. search needs)
     (λ c κs. search chain)
