@@ -6,7 +6,7 @@ use mathlib.Core.List.{List, [], _∷_, _++_, append-assoc}
 use native.Mathlib.Numerals.{add-one}
 use native.Mathlib.Omega.{arith}
 use lib.ListN.{length, getD, take, drop, set, replicate, length-set}
-use lib.Seq.{take-suc-set, drop-set-lt, drop-drop, getD-drop}
+use lib.Seq.{take-suc-set, take-set-le, drop-set-lt, drop-drop, getD-drop}
 use borrow.Author.Tests.{eq-eqb, ne-eqb}
 use Rattle.graph.specs.Tables.{usableLimit, edgeWords, sourceWord, targetWord, source, target, setEdgeWord, clear}
 use Rattle.graph.specs.Paths.{holds}
@@ -67,39 +67,64 @@ rest-more t e {e'} i h =
     let split : edgeWords * (i + 1) ≡ edgeWords * i + edgeWords = omega arith in
     rw split (sym (drop-drop edgeWords (edgeWords * i) e') ∙ ap (drop edgeWords) (h .rest) ∙ drop-drop edgeWords (edgeWords * i) e)
 
-pub gathered-skips :
-    (t : ℕ) (e : List ℕ) {e' : List ℕ} {k : ℕ} (i : ℕ) → k ≡ keptRows t e i → Gathered t e e' i → source e' i ≡ t
-    → (k ≡ keptRows t e (i + 1)) × Gathered t e e' (i + 1)
-gathered-skips t e {e'} i r h p =
-    let q : source e i ≡ t = sym (row-kept t e i sourceWord h) ∙ p in
-    let n : keptRows t e (i + 1) ≡ keptRows t e i = ap (keptRows t e) (add-one i) ∙ keptRows-drop t e i q in (
-      r ∙ sym n,
-      record {
-        front = rw n (h .front ∙ sym (ap (kept t e) (add-one i) ∙ kept-drop t e i q));
-        rest = rest-more t e i h;
-        same-length = h .same-length;
-        within = rw n (let w = h .within in omega arith);
-      },
-    )
+-- row i put behind the first k
+abbrev put : List ℕ → ℕ → ℕ → List ℕ
+put l k i = set (set l (edgeWords * k + sourceWord) (source l i)) (edgeWords * k + targetWord) (target l i)
 
-take-two :
-    (l : List ℕ) (k a b : ℕ) → edgeWords * k + edgeWords ≤ length l
-    → take (edgeWords * (k + 1)) (set (set l (edgeWords * k + sourceWord) a) (edgeWords * k + targetWord) b) ≡ take (edgeWords * k) l ++ (a ∷ b ∷ [])
-take-two l k a b h =
+put-length : (l : List ℕ) (k i : ℕ) → length (put l k i) ≡ length l
+put-length l k i =
+    length-set (set l (edgeWords * k + sourceWord) (source l i)) (edgeWords * k + targetWord) (target l i)
+    ∙ length-set l (edgeWords * k + sourceWord) (source l i)
+
+put-rest : (l : List ℕ) (k i : ℕ) → k ≤ i → drop (edgeWords * (i + 1)) (put l k i) ≡ drop (edgeWords * (i + 1)) l
+put-rest l k i h =
+    drop-set-lt (edgeWords * (i + 1)) (set l (edgeWords * k + sourceWord) (source l i)) (edgeWords * k + targetWord) (target l i) (omega arith)
+    ∙ drop-set-lt (edgeWords * (i + 1)) l (edgeWords * k + sourceWord) (source l i) (omega arith)
+
+put-front : (l : List ℕ) (k i : ℕ) → take (edgeWords * k) (put l k i) ≡ take (edgeWords * k) l
+put-front l k i =
+    take-set-le (edgeWords * k) (set l (edgeWords * k + sourceWord) (source l i)) (edgeWords * k + targetWord) (target l i) (omega arith)
+    ∙ take-set-le (edgeWords * k) l (edgeWords * k + sourceWord) (source l i) (omega arith)
+
+put-more :
+    (l : List ℕ) (k i : ℕ) → edgeWords * k + edgeWords ≤ length l
+    → take (edgeWords * (k + 1)) (put l k i) ≡ take (edgeWords * k) l ++ (source l i ∷ target l i ∷ [])
+put-more l k i h =
     let n : edgeWords * (k + 1) ≡ suc (edgeWords * k + targetWord) = omega arith in
     let m : edgeWords * k + targetWord ≡ suc (edgeWords * k + sourceWord) = omega arith in
     let z : edgeWords * k + sourceWord ≡ edgeWords * k = omega arith in
-    ap (λ (x : ℕ). take x (set (set l (edgeWords * k + sourceWord) a) (edgeWords * k + targetWord) b)) n
-    ∙ take-suc-set (set l (edgeWords * k + sourceWord) a) (edgeWords * k + targetWord) b (rw length-set (omega arith))
-    ∙ ap (λ (x : ℕ). take x (set l (edgeWords * k + sourceWord) a) ++ (b ∷ [])) m
-    ∙ ap (λ (x : List ℕ). x ++ (b ∷ [])) (take-suc-set l (edgeWords * k + sourceWord) a (omega arith))
-    ∙ append-assoc (take (edgeWords * k + sourceWord) l) (a ∷ []) (b ∷ [])
-    ∙ ap (λ (x : ℕ). take x l ++ (a ∷ b ∷ [])) z
+    ap (λ (x : ℕ). take x (put l k i)) n
+    ∙ take-suc-set (set l (edgeWords * k + sourceWord) (source l i)) (edgeWords * k + targetWord) (target l i) (rw length-set (omega arith))
+    ∙ ap (λ (x : ℕ). take x (set l (edgeWords * k + sourceWord) (source l i)) ++ (target l i ∷ [])) m
+    ∙ ap (λ (x : List ℕ). x ++ (target l i ∷ [])) (take-suc-set l (edgeWords * k + sourceWord) (source l i) (omega arith))
+    ∙ append-assoc (take (edgeWords * k + sourceWord) l) (source l i ∷ []) (target l i ∷ [])
+    ∙ ap (λ (x : ℕ). take x l ++ (source l i ∷ target l i ∷ [])) z
+
+pub gathered-drops :
+    (t : ℕ) (e : List ℕ) {e' : List ℕ} {k : ℕ} (i : ℕ) → k ≡ keptRows t e i → Gathered t e e' i → source e' i ≡ t
+    → (k ≡ keptRows t e (i + 1)) × Gathered t e (put e' k i) (i + 1)
+gathered-drops t e {e'} {k} i r h p =
+    let q : source e i ≡ t = sym (row-kept t e i sourceWord h) ∙ p in
+    let n : keptRows t e (i + 1) ≡ k = ap (keptRows t e) (add-one i) ∙ keptRows-drop t e i q ∙ sym r in
+    let w : k ≤ i = subst (λ (x : ℕ). x ≤ i) (sym r) (h .within) in (
+      sym n,
+      record {
+        front =
+            ap (λ (x : ℕ). take (edgeWords * x) (put e' k i)) n
+            ∙ put-front e' k i
+            ∙ ap (λ (x : ℕ). take (edgeWords * x) e') r
+            ∙ h .front
+            ∙ sym (ap (kept t e) (add-one i) ∙ kept-drop t e i q);
+        rest = put-rest e' k i w ∙ rest-more t e i h;
+        same-length = put-length e' k i ∙ h .same-length;
+        within = rw n (omega arith);
+      },
+    )
 
 pub gathered-keeps :
     (t : ℕ) (e : List ℕ) {e' : List ℕ} {k : ℕ} (i : ℕ) → k ≡ keptRows t e i → Gathered t e e' i → edgeWords * i + edgeWords ≤ length e'
     → (source e' i ≡ t → ⊥)
-    → (k + 1 ≡ keptRows t e (i + 1)) × Gathered t e (set (set e' (edgeWords * k + sourceWord) (source e' i)) (edgeWords * k + targetWord) (target e' i)) (i + 1)
+    → (k + 1 ≡ keptRows t e (i + 1)) × Gathered t e (put e' k i) (i + 1)
 gathered-keeps t e {e'} {k} i r h room p =
     let q : source e i ≡ t → ⊥ = λ eq. p (row-kept t e i sourceWord h ∙ eq) in
     let n : keptRows t e (i + 1) ≡ keptRows t e i + 1 = ap (keptRows t e) (add-one i) ∙ keptRows-keep t e i q ∙ sym (add-one (keptRows t e i)) in
@@ -108,20 +133,15 @@ gathered-keeps t e {e'} {k} i r h room p =
       sym m,
       record {
         front =
-            ap (λ (x : ℕ). take (edgeWords * x) (set (set e' (edgeWords * k + sourceWord) (source e' i)) (edgeWords * k + targetWord) (target e' i))) m
-            ∙ take-two e' k (source e' i) (target e' i) (omega arith)
+            ap (λ (x : ℕ). take (edgeWords * x) (put e' k i)) m
+            ∙ put-more e' k i (omega arith)
             ∙ ap (λ (x : ℕ). take (edgeWords * x) e' ++ (source e' i ∷ target e' i ∷ [])) r
             ∙ ap (λ (x : List ℕ). x ++ (source e' i ∷ target e' i ∷ [])) (h .front)
             ∙ ap (λ (x : ℕ). kept t e i ++ (x ∷ target e' i ∷ [])) (row-kept t e i sourceWord h)
             ∙ ap (λ (x : ℕ). kept t e i ++ (source e i ∷ x ∷ [])) (row-kept t e i targetWord h)
             ∙ sym (ap (kept t e) (add-one i) ∙ kept-keep t e i q);
-        rest =
-            drop-set-lt (edgeWords * (i + 1)) (set e' (edgeWords * k + sourceWord) (source e' i)) (edgeWords * k + targetWord) (target e' i) (omega arith)
-            ∙ drop-set-lt (edgeWords * (i + 1)) e' (edgeWords * k + sourceWord) (source e' i) (omega arith)
-            ∙ rest-more t e i h;
-        same-length =
-            length-set (set e' (edgeWords * k + sourceWord) (source e' i)) (edgeWords * k + targetWord) (target e' i)
-            ∙ length-set e' (edgeWords * k + sourceWord) (source e' i) ∙ h .same-length;
+        rest = put-rest e' k i w ∙ rest-more t e i h;
+        same-length = put-length e' k i ∙ h .same-length;
         within = rw m (omega arith);
       },
     )

@@ -1,18 +1,19 @@
 -- Refusal 12: what each look at the tables tells of it, and the room that sound tables have.
 use Prim.Native.Nat.{ℕ, _+_, _*_, _<_, _≤_}
 use mathlib.Core.Path.{_≡_, sym}
-use mathlib.Core.Bool.{Bool, true, false}
+use mathlib.Core.Bool.{Bool, true, false, _&&_}
 use mathlib.Core.List.{List}
 use native.Mathlib.Omega.{arith}
 use lib.ListN.{length}
-use borrow.Author.Tests.{lt-ltb, le-ltb, le-leb, lt-leb, leb-true}
-use Rattle.graph.specs.Tests.{both, every}
+use lib.Dec.{leb, ltb}
+use borrow.Author.Tests.{lt-ltb, le-leb, lt-leb, leb-true}
+use Rattle.graph.specs.Tests.{both}
 use Rattle.graph.specs.Tables.{Lent, NEW, FINISHED, usableLimit, vertexWords, edgeWords, vertexRows, edgeRows, status, source, target}
 use Rattle.graph.specs.Sound.{tallyFits, statusKnown, statusesKnown, endsMade, edgesMade, sound}
 use Rattle.graph.specs.Internal.Search.{Rows, Searchable}
 use Rattle.graph.proofs.PathLaws.{holds-at}
 use Rattle.graph.proofs.SoundLaws.{sound-fits}
-use Rattle.graph.proofs.TestLaws.{both-true, both-left, both-right, both-false-left, both-false-right, every-all, every-more, every-stop, at-end}
+use Rattle.graph.proofs.TestLaws.{both-true, both-left, both-right, both-false-left, both-false-right, every-all, every-none, every-next}
 
 -- the tally
 pub tally-fits : (v e : List ℕ) (made held : ℕ) → made ≤ vertexRows v → held ≤ edgeRows e → true ≡ tallyFits v e made held
@@ -28,42 +29,24 @@ unfolding tallyFits
 held-over v e made held p = sym (both-false-right _ (lt-leb held (edgeRows e) p))
 
 -- the statuses
-pub statuses-more : (v : List ℕ) (k : ℕ) → every (statusKnown v) k ≡ true → NEW ≤ status v k → status v k ≤ FINISHED → every (statusKnown v) (k + 1) ≡ true
-unfolding statusKnown
-statuses-more v k h p q =
-    every-more (statusKnown v) k h (both-true (le-leb NEW (status v k) p) (le-leb (status v k) FINISHED q))
-
-pub status-low : (v : List ℕ) (made k : ℕ) → k < made → status v k < NEW → false ≡ statusesKnown v made
-unfolding statusesKnown statusKnown
-status-low v made k lt p = sym (every-stop (statusKnown v) made k lt (both-false-left _ (lt-leb NEW (status v k) p)))
-
-pub status-high : (v : List ℕ) (made k : ℕ) → k < made → FINISHED < status v k → false ≡ statusesKnown v made
-unfolding statusesKnown statusKnown
-status-high v made k lt p =
-    sym (every-stop (statusKnown v) made k lt (both-false-right _ (lt-leb (status v k) FINISHED p)))
-
-pub statuses-all : (v : List ℕ) (made k : ℕ) → k ≤ made → made ≤ k → every (statusKnown v) k ≡ true → true ≡ statusesKnown v made
+pub statuses-none : (v : List ℕ) → true ≡ statusesKnown v 0
 unfolding statusesKnown
-statuses-all v made k p q h = sym (at-end (λ n. every (statusKnown v) n ≡ true) p q h)
+statuses-none v = sym (every-none _)
+
+pub statuses-more :
+    (v : List ℕ) {b : Bool} (k : ℕ) → b ≡ statusesKnown v k → (b && leb NEW (status v k)) && leb (status v k) FINISHED ≡ statusesKnown v (k + 1)
+unfolding statusesKnown statusKnown
+statuses-more v k h = every-next (λ i. leb NEW (status v i)) (λ i. leb (status v i) FINISHED) k h
 
 -- the edges' ends
-pub edges-more : (e : List ℕ) (made i : ℕ) → every (endsMade e made) i ≡ true → source e i < made → target e i < made → every (endsMade e made) (i + 1) ≡ true
-unfolding endsMade
-edges-more e made i h p q =
-    every-more (endsMade e made) i h (both-true (lt-ltb (source e i) made p) (lt-ltb (target e i) made q))
-
-pub source-over : (e : List ℕ) (made held i : ℕ) → i < held → made ≤ source e i → false ≡ edgesMade e made held
-unfolding edgesMade endsMade
-source-over e made held i lt p = sym (every-stop (endsMade e made) held i lt (both-false-left _ (le-ltb (source e i) made p)))
-
-pub target-over : (e : List ℕ) (made held i : ℕ) → i < held → made ≤ target e i → false ≡ edgesMade e made held
-unfolding edgesMade endsMade
-target-over e made held i lt p =
-    sym (every-stop (endsMade e made) held i lt (both-false-right _ (le-ltb (target e i) made p)))
-
-pub edges-all : (e : List ℕ) (made held i : ℕ) → i ≤ held → held ≤ i → every (endsMade e made) i ≡ true → true ≡ edgesMade e made held
+pub edges-none : (e : List ℕ) (made : ℕ) → true ≡ edgesMade e made 0
 unfolding edgesMade
-edges-all e made held i p q h = sym (at-end (λ n. every (endsMade e made) n ≡ true) p q h)
+edges-none e made = sym (every-none _)
+
+pub edges-more :
+    (e : List ℕ) (made : ℕ) {b : Bool} (i : ℕ) → b ≡ edgesMade e made i → (b && ltb (source e i) made) && ltb (target e i) made ≡ edgesMade e made (i + 1)
+unfolding edgesMade endsMade
+edges-more e made i h = every-next (λ n. ltb (source e n) made) (λ n. ltb (target e n) made) i h
 
 -- the three together
 pub unsound-tally : (s : Lent) → tallyFits (s .vertices) (s .edges) (s .made) (s .held) ≡ false → false ≡ sound s

@@ -1,7 +1,7 @@
 -- The laws of the connectives and of tests over the first n numbers. Proofs above use these and leave the tests shut.
 use Prim.Native.Nat.{ℕ, zero, suc, _+_, _<_, _≤_}
 use mathlib.Core.Path.{_≡_, refl, sym, _∙_, subst}
-use mathlib.Core.Bool.{Bool, true, false, not}
+use mathlib.Core.Bool.{Bool, true, false, not, _&&_}
 use mathlib.Core.Logic.{_⊎_, inl, inr, ⊎-elim}
 use native.Mathlib.Nat.{eq-or-lt-of-le, le-of-suc-le-suc}
 use native.Mathlib.Numerals.{add-one}
@@ -130,6 +130,21 @@ every-none p = refl
 pub every-more : (p : ℕ → Bool) (n : ℕ) → every p n ≡ true → p n ≡ true → every p (n + 1) ≡ true
 unfolding every
 every-more p n h q = rw add-one (both-true q h)
+
+and-both : (b x y : Bool) → (b && x) && y ≡ both (both x y) b
+unfolding both
+and-both true true true = refl
+and-both true true false = refl
+and-both true false y = refl
+and-both false true true = refl
+and-both false true false = refl
+and-both false false y = refl
+
+-- a loop that no number ends: what it knows of the first n, and both tests of the next
+pub every-next :
+    (x y : ℕ → Bool) (n : ℕ) {b : Bool} → b ≡ every (λ i. both (x i) (y i)) n → (b && x n) && y n ≡ every (λ i. both (x i) (y i)) (n + 1)
+unfolding every
+every-next x y n {b} h = rw (add-one, ← h) (and-both b (x n) (y n))
 
 -- a loop that counted to the end: what holds of its number holds of the end
 pub at-end : (P : ℕ → Type 0) {i n : ℕ} → i ≤ n → n ≤ i → P i → P n

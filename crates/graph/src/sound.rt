@@ -28,21 +28,18 @@ pub fn tally_fits(vertices: &[u32], edges: &[u32], made: u32, held: u32) -> bool
     true
 }
 
-// Each made vertex has one of the four statuses.
+// Each made vertex has one of the four statuses. Here and in `edges_made` no row ends the loop: such a loop is compiled to look at several rows
+// at once.
 pub(crate) fn statuses_known(vertices: &[u32], made: usize) -> bool
     requires { ⌜ vertexWords * made ≤ length (now vertices) ⌝ }
     ensures { λ r. ⌜ r ≡ statusesKnown (now (vertices .entry)) made ⌝ }
 {
+    let mut all_known = true;
     for k in 0..made {
         let status = vertices[VERTEX_WORDS * k + STATUS];
-        if status < NEW {
-            return false;
-        }
-        if FINISHED < status {
-            return false;
-        }
+        all_known = all_known & (NEW <= status) & (status <= FINISHED);
     }
-    true
+    all_known
 }
 
 // Each held edge has made vertices for its ends.
@@ -50,17 +47,13 @@ pub(crate) fn edges_made(edges: &[u32], made: u32, held: usize) -> bool
     requires { ⌜ edgeWords * held ≤ length (now edges) ⌝ }
     ensures { λ r. ⌜ r ≡ edgesMade (now (edges .entry)) made held ⌝ }
 {
+    let mut all_made = true;
     for i in 0..held {
         let source = edges[EDGE_WORDS * i + SOURCE];
-        if made <= source {
-            return false;
-        }
         let target = edges[EDGE_WORDS * i + TARGET];
-        if made <= target {
-            return false;
-        }
+        all_made = all_made & (source < made) & (target < made);
     }
-    true
+    all_made
 }
 
 // Refusal 12 is due where this is false.

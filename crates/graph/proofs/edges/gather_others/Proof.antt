@@ -1,11 +1,12 @@
 -- After i turns the first i rows are gathered.
 use Prim.Native.Nat.{_-_, _≤_}
 use mathlib.Core.Path.{_≡_}
+use mathlib.Core.Logic.{⊎-elim}
 use native.Mathlib.Omega.{arith}
 use lib.ListN.{length-set}
 use Rattle.graph.specs.Commands.{keptRows}
 use Rattle.graph.specs.Internal.Gather.{Gathered}
-use Rattle.graph.proofs.EdgeLoops.{gathered-none, gathered-skips, gathered-keeps, gathered-all}
+use Rattle.graph.proofs.EdgeLoops.{gathered-none, gathered-drops, gathered-keeps, gathered-all}
 use Rattle.graph.proofs.edges.gather_others.Statement.{statement}
 use Rattle.graph.proofs.edges.gather_others.Tie as tie
 
@@ -18,18 +19,18 @@ abbrev μ-loop : tie.MeasureT-loop
 loop-holds : tie.Need-loop-holds Inv-loop μ-loop
 loop-holds c = (omega arith, gathered-none _ _)
 
-loop-again : tie.Need-loop-again Inv-loop μ-loop
-loop-again c = (omega arith, gathered-skips _ _ _ (c .before .before .before .loop .inv .1 .0) (c .before .before .before .loop .inv .1 .1) (c .if1 .taken))
-
 slice-write-edges-2 : tie.Need-slice-write-edges-2 Inv-loop μ-loop
 slice-write-edges-2 c = simp length-set (omega arith)
 
-loop-again-2 : tie.Need-loop-again-2 Inv-loop μ-loop
-loop-again-2 c = (
-  omega arith,
-  gathered-keeps _ _ _ (c .before .before .before .before .loop .inv .1 .0) (c .before .before .before .before .loop .inv .1 .1) (omega arith)
-      (c .before .if1 .left),
-)
+loop-again : tie.Need-loop-again Inv-loop μ-loop
+loop-again c =
+    let before = c .before .before .before .before .loop .inv .1 in (
+      omega arith,
+      ⊎-elim
+          (λ h. rw (h .1) (gathered-keeps _ _ _ (before .0) (before .1) (omega arith) (h .0 .taken)))
+          (λ h. rw (h .1) (gathered-drops _ _ _ (before .0) (before .1) (h .0 .left)))
+          (c .if1 .came),
+    )
 
 returns : tie.Need-returns Inv-loop μ-loop
 returns c = gathered-all _ _ _ _ (c .before .loop .inv .0) (c .loop-test .left) (c .before .loop .inv .1)
@@ -42,9 +43,6 @@ gather-others-spec = tie.close (tie.spec Inv-loop
     (λ c. omega arith)
     (λ c. omega arith)
     (λ c. omega arith)
-    (λ c. omega arith)
-    (λ c. omega arith)
-    loop-again
     (λ c. omega arith)
     (λ c. omega arith)
     (λ c. omega arith)
@@ -60,6 +58,6 @@ gather-others-spec = tie.close (tie.spec Inv-loop
     (λ c. omega arith)
     (λ c. omega arith)
     (λ c. omega arith)
-    loop-again-2
+    loop-again
     (λ c. omega arith)
     returns)
