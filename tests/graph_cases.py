@@ -193,6 +193,16 @@ def run(machine, calls):
             machine.call(word, *map(int, numbers))
 
 
+def executing_first(row):
+    return EXECUTING if row == 0 else NEW
+
+
+def stop_of_0(status, edges):
+    """A stop of vertex 0 on tables of 41 rows, of which 40 are made and held."""
+    vertices = [word for row in range(41) for word in [status(row)] + [NEW] * (VERTEX_WORDS - 1)]
+    run(Machine(vertices, edges, 40, 40), "stop 0")
+
+
 print("bare")
 run(Machine([77] * (3 * VERTEX_WORDS + 2), [77] * (4 * EDGE_WORDS + 1), 9, 9, 9), """open
 start 0
@@ -298,6 +308,17 @@ edge 0 0 1
 edge 0 1 1023
 transfer 0 1023
 transfer 0 1024""")
+print("gaps")
+for stretch in range(1, 42):
+    for sources in (0, 1), (1, 0):
+        edges = [(sources[row // stretch % 2], row % 40) for row in range(41)]
+        stop_of_0(executing_first, [end for edge in edges for end in edge])
+print("bad statuses")
+for bad in range(41):
+    stop_of_0(lambda row: (0, 5)[row % 2] if row == bad else executing_first(row), [1] * (41 * EDGE_WORDS))
+print("bad ends")
+for bad in range(41 * EDGE_WORDS):
+    stop_of_0(executing_first, [40 if word == bad else 1 for word in range(41 * EDGE_WORDS)])
 print("drawn")
 for seed in range(600):
     drawn(seed, False)
