@@ -1,11 +1,10 @@
 //! Times the engine and, beside it, the implementation written from its paper: `cargo run --release -p bench` prints tables.
 
-mod side;
-
 use std::hint::black_box;
 use std::time::{Duration, Instant};
 
-use side::{Do, Engine, Paper, Side};
+use bench::bare;
+use bench::side::{Do, Engine, Paper, Side};
 
 const ROUNDS: usize = 11;
 const ROUND: Duration = Duration::from_millis(20);
@@ -83,19 +82,9 @@ fn load_and_run(side: &mut impl Side, program: &[u8], steps: usize) {
     assert_eq!(side.run(program) as usize, steps);
 }
 
-/// 1,024 vertices with vertex 0 executing.
-fn bare(side: &mut impl Side) {
-    side.open();
-    side.command(Do::Start(0)).unwrap();
-    for _ in 1..1024 {
-        side.command(Do::New).unwrap();
-    }
-}
-
 /// A chain of 1,023 edges from vertex 0 on, its edges made front to back or back to front.
 fn chained<S: Side>(backwards: bool) -> S {
-    let mut side = S::new();
-    bare(&mut side);
+    let mut side: S = bare(1024);
     for n in 0..1023 {
         let source = if backwards { 1022 - n } else { n };
         side.command(Do::Edge(source, source + 1)).unwrap();
@@ -127,40 +116,16 @@ fn fanned_edge(row: u32) -> Do {
     Do::Edge(row % 2, 2 + row / 2)
 }
 
-fn fanned<S: Side>(held: u32) -> S {
-    let mut side = S::new();
-    bare(&mut side);
-    for row in 0..held {
-        side.command(fanned_edge(row)).unwrap();
-    }
-    side
-}
-
 /// The edge asked for is held already, in this row of 1,024.
 fn held_edge(row: u32) -> [f64; 2] {
     fn side<S: Side>(row: u32) -> impl FnMut() {
-        let mut side: S = fanned(1024);
+        let mut side: S = bare(1024);
+        for row in 0..1024 {
+            side.command(fanned_edge(row)).unwrap();
+        }
         move || assert_eq!(side.command(fanned_edge(row)), Ok(()))
     }
     medians(1.0, side::<Engine>(row), side::<Paper>(row))
-}
-
-/// A stop among so many edges, every second its own. Putting the edges back is timed alone and subtracted.
-fn stop(held: u32) -> [f64; 2] {
-    fn stopping<S: Side>(held: u32, stops: bool) -> impl FnMut() {
-        let mut side: S = fanned(held);
-        let edges = side.edges().to_vec();
-        move || {
-            side.unstop(&edges, held);
-            black_box(&mut side);
-            if stops {
-                side.command(Do::Stop(0)).unwrap();
-            }
-        }
-    }
-    let both = medians(1.0, stopping::<Engine>(held, true), stopping::<Paper>(held, true));
-    let copies = medians(1.0, stopping::<Engine>(held, false), stopping::<Paper>(held, false));
-    [both[0] - copies[0], both[1] - copies[1]]
 }
 
 /// Copies of an item, then the end.
@@ -232,8 +197,6 @@ fn main() {
         ("newEdge of an edge held in the last of 1,024 rows", held_edge(1023)),
         ("chain of 1,024 vertices, front to back", whole_chain(false)),
         ("chain of 1,024 vertices, back to front", whole_chain(true)),
-        ("stop among 512 edges, 256 its own", stop(512)),
-        ("stop among 1,024 edges, 512 its own", stop(1024)),
     ];
     for (name, times) in commands {
         let [engine, paper, ratio] = nanoseconds(times);

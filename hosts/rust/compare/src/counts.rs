@@ -35,6 +35,8 @@ pub struct Counts {
     ties: [u64; 2],
     /// Edges that were held already and taken again, by commands and by steps.
     repeats: [Repeats; 2],
+    /// What stops dropped.
+    gaps: Gaps,
 }
 
 /// How often an edge that was held already was taken.
@@ -55,6 +57,32 @@ impl Repeats {
         self.full += more.full;
         self.cycle += more.cycle;
         self.itself += more.itself;
+    }
+}
+
+/// How often a stop dropped which rows of the held edges.
+#[derive(Clone, Copy, Debug, Default)]
+pub struct Gaps {
+    pub none: u64,
+    pub all: u64,
+    /// The first row among them, but not all: each row that is kept moves.
+    pub first: u64,
+    /// Only the last rows: none moves.
+    pub last: u64,
+    /// Rows that are kept stand before and behind one: some move.
+    pub between: u64,
+    /// The most rows that a stop dropped.
+    pub most: usize,
+}
+
+impl Gaps {
+    fn add(&mut self, more: Gaps) {
+        self.none += more.none;
+        self.all += more.all;
+        self.first += more.first;
+        self.last += more.last;
+        self.between += more.between;
+        self.most = more.most.max(self.most);
     }
 }
 
@@ -134,6 +162,21 @@ impl Counts {
         self.repeats[usize::from(by_step)].add(repeats);
     }
 
+    /// Notes a stop, told which of the held rows were its own.
+    pub fn stopped(&mut self, own: &[bool]) {
+        let dropped = own.iter().filter(|&&own| own).count();
+        let ahead = own.iter().take_while(|&&own| !own).count();
+        let gaps = &mut self.gaps;
+        gaps.most = dropped.max(gaps.most);
+        *match (dropped, ahead) {
+            (0, _) => &mut gaps.none,
+            _ if dropped == own.len() => &mut gaps.all,
+            (_, 0) => &mut gaps.first,
+            _ if ahead + dropped == own.len() => &mut gaps.last,
+            _ => &mut gaps.between,
+        } += 1;
+    }
+
     fn enlarge(&mut self, by: [usize; 3]) {
         for (largest, number) in self.largest.iter_mut().zip(by) {
             *largest = number.max(*largest);
@@ -158,6 +201,7 @@ impl Counts {
         for (repeats, more) in self.repeats.iter_mut().zip(other.repeats) {
             repeats.add(more);
         }
+        self.gaps.add(other.gaps);
     }
 
     pub fn calls(&self) -> u64 {
@@ -198,6 +242,11 @@ impl Counts {
     pub fn repeats(&self) -> [Repeats; 2] {
         self.repeats
     }
+
+    /// What stops dropped.
+    pub fn gaps(&self) -> Gaps {
+        self.gaps
+    }
 }
 
 impl fmt::Display for Counts {
@@ -227,6 +276,9 @@ impl fmt::Display for Counts {
             write!(f, "{by} took an edge held already {all} times: {full} on a full table, {cycle} where a chain was, ")?;
             writeln!(f, "{itself} of these from a vertex to itself")?;
         }
+        let Gaps { none, all, first, last, between, most } = self.gaps;
+        write!(f, "stops dropped no row {none} times, all {all} times, only the last {last} times, the first and others {first} times, ")?;
+        writeln!(f, "rows between others {between} times; {most} rows at most")?;
         write!(f, "refusals")?;
         for number in REFUSALS {
             write!(f, " {number}: {}", self.refusals(number))?;

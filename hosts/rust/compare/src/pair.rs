@@ -3,7 +3,9 @@
 use std::fmt::Write;
 use std::ops::Range;
 
-use keshtiwol::{refusal, Answer, Chain, Command, Ending, Lowest, Run, Tally, EDGE_WORDS, ROWS, STATUS, VERTEX_FINISHED, VERTEX_WORDS};
+use keshtiwol::{
+    refusal, Answer, Chain, Command, Ending, Lowest, Run, Tally, EDGE_WORDS, ROWS, SOURCE, STATUS, VERTEX_FINISHED, VERTEX_WORDS,
+};
 
 use crate::counts::{Counts, Repeats};
 
@@ -185,6 +187,17 @@ impl Pair {
                 let chain = self.call(Call::Chain { source, target, words: ROWS as u32 })?;
                 self.note_repeated(true, source == target, chain);
             }
+        }
+        Ok(said)
+    }
+
+    /// A call on both sides that may be a stop of this vertex. The gaps that it left in the edge table are noted.
+    pub fn stop(&mut self, call: Call, vertex: u32) -> Result<Said, Difference> {
+        let rows = self.state.edges.chunks_exact(EDGE_WORDS).take(self.state.tally.held as usize);
+        let own: Vec<bool> = rows.map(|row| row[SOURCE] == vertex).collect();
+        let said = self.call(call)?;
+        if said == Said::Answer(Answer::Stop) {
+            self.counts.stopped(&own);
         }
         Ok(said)
     }

@@ -16,7 +16,7 @@ type Kind = fn(&mut Scene) -> Outcome;
 /// Plays the scenario of a seed: what was called and said, or the first difference.
 pub fn play(seed: u64) -> Result<Counts, Difference> {
     let mut draw = Draw::new(seed);
-    let kinds: [(&str, u32, Kind); 8] = [
+    let kinds: [(&str, u32, Kind); 9] = [
         ("a bare machine", 3, Scene::bare),
         ("random tables", 3, Scene::random_tables),
         ("a schedule", 4, Scene::schedule),
@@ -25,6 +25,7 @@ pub fn play(seed: u64) -> Result<Counts, Difference> {
         ("altered words", 4, Scene::altered),
         ("chains", 4, Scene::chains),
         ("the same edge twice", 4, Scene::repeats),
+        ("gaps in the edge table", 3, Scene::gaps),
     ];
     let (name, _, kind) = kinds[draw.weighted(&kinds.map(|kind| kind.1))];
     let size = [Size::Small, Size::Middle, Size::Large][draw.weighted(&[80, 14, 6])];
@@ -355,6 +356,58 @@ impl Scene {
             self.hold(state, between, source);
         } else {
             self.hold(state, target, source);
+        }
+    }
+
+    /// Stops on tables that no calls led to, by commands and by steps, also where a word was altered. Small tables have few gaps, so most are
+    /// larger.
+    fn gaps(&mut self) -> Outcome {
+        self.size = self.draw.pick(&[Size::Small, Size::Middle, Size::Middle, Size::Large]);
+        let mut sound = self.random_state();
+        if sound.tally.made == 0 {
+            make_all(&mut sound);
+        }
+        let end = self.pair.program.len() as u32 - 1;
+        for _ in 0..self.draw.between(4, 12) {
+            let mut state = sound.clone();
+            let vertex = self.draw.below(state.tally.made);
+            self.own_edges(&mut state, vertex);
+            let row = &mut state.vertices[VERTEX_WORDS * vertex as usize..][..VERTEX_WORDS];
+            (row[STATUS], row[PLACE], row[PHASE]) = (VERTEX_EXECUTING, end, 0);
+            self.pair.set(state);
+            if self.draw.one_in(4) {
+                self.alter();
+            }
+            let call = if self.draw.one_in(2) { Call::Step(vertex) } else { Call::Command(Command::Stop { caller: vertex }) };
+            self.pair.stop(call, vertex)?;
+            if self.draw.one_in(4) {
+                let call = self.any_call();
+                self.call(call)?;
+            }
+        }
+        Ok(())
+    }
+
+    /// Makes held edges those of a vertex: none, all, the first, the last, one in so many, every other stretch, or any.
+    fn own_edges(&mut self, state: &mut State, vertex: u32) {
+        let draw = &mut self.draw;
+        let State { edges, tally: Tally { made, held, .. }, .. } = state;
+        let (cut, stretch, kind) = (draw.below(*held + 1), draw.between(2, 5), draw.below(7));
+        for (row, words) in (0..*held).zip(edges.chunks_exact_mut(EDGE_WORDS)) {
+            let own = match kind {
+                0 => false,
+                1 => true,
+                2 => row < cut,
+                3 => row >= cut,
+                4 => (row + cut) % stretch == 0,
+                5 => (row + cut) / stretch % 2 == 0,
+                _ => draw.one_in(stretch),
+            };
+            if own {
+                words[SOURCE] = vertex;
+            } else if words[SOURCE] == vertex {
+                words[SOURCE] = (vertex + 1) % *made;
+            }
         }
     }
 

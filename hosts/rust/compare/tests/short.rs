@@ -1,6 +1,6 @@
 //! A short comparison that yet sees every word, every refusal and programs at the limits.
 
-use compare::counts::{Repeats, REFUSALS, WORDS};
+use compare::counts::{Gaps, Repeats, REFUSALS, WORDS};
 
 #[test]
 fn no_difference() {
@@ -28,6 +28,9 @@ fn no_difference() {
         let Repeats { all, full, cycle, itself } = repeats;
         assert!(all > 500 && full > 200 && cycle > 100 && itself > 50, "edges held already, taken by {by}: {repeats:?}");
     }
+    let gaps = counts.gaps();
+    let Gaps { none, all, first, last, between, most } = gaps;
+    assert!([none, all, first, last, between].iter().all(|&times| times > 200) && most == 1024, "rows that stops dropped: {gaps:?}");
 }
 
 /// The generator's valid programs do load, its damaged ones mostly don't, and the mixed one is what the benchmark says of it.
