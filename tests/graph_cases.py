@@ -313,12 +313,12 @@ for stretch in range(1, 42):
     for sources in (0, 1), (1, 0):
         edges = [(sources[row // stretch % 2], row % 40) for row in range(41)]
         stop_of_0(executing_first, [end for edge in edges for end in edge])
-print("bad statuses")
+print("bad rows")
 for bad in range(41):
-    stop_of_0(lambda row: (0, 5)[row % 2] if row == bad else executing_first(row), [1] * (41 * EDGE_WORDS))
-print("bad ends")
-for bad in range(41 * EDGE_WORDS):
-    stop_of_0(executing_first, [40 if word == bad else 1 for word in range(41 * EDGE_WORDS)])
+    sound = [1] * (41 * EDGE_WORDS)
+    stop_of_0(lambda row: (0, 5)[row % 2] if row == bad else executing_first(row), sound)
+    for word in EDGE_WORDS * bad, EDGE_WORDS * bad + 1:
+        stop_of_0(executing_first, sound[:word] + [40] + sound[word + 1 :])
 print("drawn")
 for seed in range(600):
     drawn(seed, False)

@@ -1,11 +1,11 @@
 // Runs the opening and the commands on many tables, and writes what each call answers and leaves: document 01's bare example, full
 // and freed tables, edges named twice, on full tables and beside a cycle too, tables shorter than a row and longer than 1,024 rows, a long
-// path, stops that leave gaps, single words with which no table is sound, and some hundred tables of drawn words.
+// path, stops that leave gaps, a bad word in each row, and some hundred tables of drawn words.
 // tests/graph_cases.py computes the same lines from a model of its own; `stdout` holds them.
 mod draw;
-mod gaps;
 mod script;
 mod show;
+mod stops;
 
 use cases::draw::Draw;
 use cases::draw::begin;
@@ -38,11 +38,9 @@ fn main() {
     long();
     path();
     text(b"gaps\n");
-    gaps::all_stretches();
-    text(b"bad statuses\n");
-    gaps::bad_statuses();
-    text(b"bad ends\n");
-    gaps::bad_ends();
+    stops::gaps();
+    text(b"bad rows\n");
+    stops::bad_rows();
     text(b"drawn\n");
     all_drawn(0, 600, false);
     text(b"repeated\n");

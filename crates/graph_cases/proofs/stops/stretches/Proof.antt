@@ -4,8 +4,8 @@ use mathlib.Core.Path.{_≡_}
 use lib.ListN.{length, length-set}
 use borrow.Author.Needs.{needs}
 use native.Mathlib.Omega.{arith}
-use Rattle.graph_cases.proofs.gaps.stretches.Statement.{statement}
-use Rattle.graph_cases.proofs.gaps.stretches.Tie as tie
+use Rattle.graph_cases.proofs.stops.stretches.Statement.{statement}
+use Rattle.graph_cases.proofs.stops.stretches.Tie as tie
 
 abbrev Inv-loop : tie.InvT-loop
 Inv-loop stretch ahead vertices edges₀ row₀ edges row = length edges ≡ 82

@@ -1,8 +1,8 @@
 -- The widths are above 0, and come to their end.
 use Prim.Native.Nat.{_-_, _<_}
 use native.Mathlib.Omega.{arith}
-use Rattle.graph_cases.proofs.gaps.all_stretches.Statement.{statement}
-use Rattle.graph_cases.proofs.gaps.all_stretches.Tie as tie
+use Rattle.graph_cases.proofs.stops.gaps.Statement.{statement}
+use Rattle.graph_cases.proofs.stops.gaps.Tie as tie
 
 abbrev Inv-loop : tie.InvT-loop
 Inv-loop stretch₀ stretch = 0 < stretch
@@ -10,8 +10,8 @@ Inv-loop stretch₀ stretch = 0 < stretch
 abbrev μ-loop : tie.MeasureT-loop
 μ-loop stretch₀ stretch = 42 - stretch
 
-pub all-stretches-spec : {M : Type 1} → statement M
-all-stretches-spec = tie.close (tie.spec Inv-loop
+pub gaps-spec : {M : Type 1} → statement M
+gaps-spec = tie.close (tie.spec Inv-loop
     μ-loop
     (λ c. omega arith)
     (λ c κs. omega arith)

@@ -1,4 +1,4 @@
-// Stops of vertex 0 on tables of 41 rows, of which 40 are made and held: gaps of every width, and words with which no table is sound.
+// Stops of vertex 0 on tables of 41 rows, of which 40 are made and held: with gaps of every width, and with a bad word in each row.
 use crate::script;
 use graph::Command;
 use graph::Tally;
@@ -40,45 +40,30 @@ fn stretches(stretch: usize, ahead: usize)
 }
 
 // From every other edge on to all 41.
-pub(crate) fn all_stretches() {
+pub(crate) fn gaps() {
     for stretch in 1..ROWS + 1 {
         stretches(stretch, 0);
         stretches(stretch, 1);
     }
 }
 
-// The status in this row is 0 or 5.
-fn bad_status(row: usize)
-    requires { ⌜ row < 41 ⌝ }
+// The status of this row and this word of the edges are as told.
+fn altered(row: usize, status: u32, word: usize, end: u32)
+    requires { ⌜ (row < 41) × (word < 82) ⌝ }
 {
     let mut vertices = [NEW; ROWS * VERTEX_WORDS];
     let mut edges = [1u32; ROWS * EDGE_WORDS];
     vertices[STATUS] = EXECUTING;
-    vertices[VERTEX_WORDS * row + STATUS] = (FINISHED + 1) * (row % 2) as u32;
+    vertices[VERTEX_WORDS * row + STATUS] = status;
+    edges[word] = end;
     stop(&mut vertices, &mut edges);
 }
 
-// In each row in turn, the last of which is not made.
-pub(crate) fn bad_statuses() {
+// In each row in turn the status is 0 or 5, and then the source and the target the first vertex that is not made. The last row is not in use.
+pub(crate) fn bad_rows() {
     for row in 0..ROWS {
-        bad_status(row);
-    }
-}
-
-// This word of the edges is the first vertex that is not made.
-fn bad_end(word: usize)
-    requires { ⌜ word < 82 ⌝ }
-{
-    let mut vertices = [NEW; ROWS * VERTEX_WORDS];
-    let mut edges = [1u32; ROWS * EDGE_WORDS];
-    vertices[STATUS] = EXECUTING;
-    edges[word] = USED as u32;
-    stop(&mut vertices, &mut edges);
-}
-
-// Each word in turn, the last two of which are no held edge's.
-pub(crate) fn bad_ends() {
-    for word in 0..ROWS * EDGE_WORDS {
-        bad_end(word);
+        altered(row, (FINISHED + 1) * (row % 2) as u32, SOURCE, 1);
+        altered(0, EXECUTING, EDGE_WORDS * row + SOURCE, USED as u32);
+        altered(0, EXECUTING, EDGE_WORDS * row + TARGET, USED as u32);
     }
 }
