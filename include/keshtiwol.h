@@ -1,9 +1,8 @@
 /* The task-graph engine: which job of a program may start now.
  *
- * A program is bytes: numbered jobs with async, finish and fork. A job's number takes one to five bytes and reaches 4,294,967,295, so
- * that a retune job can carry its frequency in hertz. The engine turns the program into vertices and edges of a task graph and moves it
- * one step at a time, in whatever order the host picks. It keeps nothing: everything that it knows stands in the tables and the tally
- * that the host lends.
+ * A program is bytes: numbered jobs with async, finish and fork. A job's number reaches 4,294,967,295, so that a retune job can carry its
+ * frequency in hertz. The engine turns the program into vertices and edges of a task graph and moves it one step at a time, in whatever
+ * order the host picks. It keeps nothing: everything that it knows stands in the tables and the tally that the host lends.
  *
  * Each call ends in an accepted step or in a numbered refusal that changed nothing, whatever was handed in. That each answer, table and
  * tally is the one that the engine's definitions give is proved; what this file declares, and that the compiler keeps it, is trusted.
@@ -12,7 +11,22 @@
  *   - lend the same bytes, tables and tally each time, with their true lengths, and let nothing else write to them during a call;
  *   - make one call at a time for the same tables (one lock around the engine is enough);
  *   - after a step says KESHTIWOL_JOB, run that job and do not step its vertex again before the job has ended.
- * Pointers must not be null, nor overlap, also where a length is 0. */
+ * Pointers must not be null, nor overlap, also where a length is 0.
+ *
+ * A PROGRAM'S BYTES, hexadecimal; two dots give a range, braces mean any number of times, none included:
+ *
+ *     program = body               1 to 4,096 bytes, and none behind the body's end
+ *     body    = { item } 00        the program's is level 1, a body in an item one level deeper, to 32
+ *     item    = job | async | finish | fork
+ *     job     = 01 number          the host runs it
+ *     async   = 02 body            goes on beside what follows it
+ *     finish  = 03 body            what follows it waits for its body and all asyncs in it
+ *     fork    = 04 body body       both beside each other; what follows it waits for both
+ *     number  = { more } last      1 to 5 bytes, the lowest seven bits first; at most 4,294,967,295
+ *     more    = 80..FF             seven bits, and another byte follows
+ *     last    = 00..7F             the highest seven bits; 00 only where it is the number's only byte
+ *
+ * 01 90 81 DB 06 is job 14,074,000. docs/ENGINE.md says all that the engine does with a program. */
 #ifndef KESHTIWOL_H
 #define KESHTIWOL_H
 
@@ -22,6 +36,17 @@
 #ifdef __cplusplus
 extern "C" {
 #endif
+
+/* THE VERSION of this header. The first number grows where hosts must be compiled anew (a call's parameters, the shape of what is lent, the
+ * meaning of an answer), the second where something is added, the third otherwise. */
+#define KESHTIWOL_VERSION_MAJOR 1
+#define KESHTIWOL_VERSION_MINOR 0
+#define KESHTIWOL_VERSION_PATCH 0
+/* As one number. */
+#define KESHTIWOL_VERSION (10000 * KESHTIWOL_VERSION_MAJOR + 100 * KESHTIWOL_VERSION_MINOR + KESHTIWOL_VERSION_PATCH)
+
+/* The version of the library that is linked, likewise. Its first number must be that of the header. */
+uint32_t keshtiwol_version(void);
 
 /* THE TABLES, of 32-bit words. Only full rows among the first 1,024 of each are used; other words are never touched.
  * A vertex row: status, place (byte offset in the program), scope (a vertex), phase (commands of the item at hand already done), and
@@ -134,6 +159,42 @@ enum {
     KESHTIWOL_NO_SUCH_COMMAND = 99 /* keshtiwol_command: a number that no command has */
 };
 
+/* A refusal's number in words, for people: a refused reply's first value. It is plain C in this file and no part of what is proved. */
+static inline const char *keshtiwol_refusal_text(uint32_t number)
+{
+    switch (number) {
+    case KESHTIWOL_LENGTH_OUTSIDE: return "the program has no bytes or more than 4,096";
+    case KESHTIWOL_NUMBER_MALFORMED: return "a number is longer than five bytes or not in its shortest form";
+    case KESHTIWOL_BYTE_UNKNOWN: return "an item's first byte is above 4";
+    case KESHTIWOL_LEVEL_TOO_DEEP: return "a body is at level 33";
+    case KESHTIWOL_BYTES_RUN_OUT: return "the bytes run out";
+    case KESHTIWOL_BYTES_AFTER_END: return "bytes come after the end";
+    case KESHTIWOL_JOB_TOO_LARGE: return "a job's number is above 4,294,967,295";
+    case KESHTIWOL_TOO_MANY_VERTICES: return "the program makes more than 1,024 vertices";
+    case KESHTIWOL_TOO_FEW_VERTEX_ROWS: return "too few vertex rows are lent";
+    case KESHTIWOL_TOO_FEW_EDGE_ROWS: return "too few edge rows are lent";
+    case KESHTIWOL_UNSOUND_TABLES: return "tally and tables don't fit together, or 8,192 steps were taken";
+    case KESHTIWOL_NOTHING_STARTS: return "no item can be read at the vertex's place, or its phase is past the item";
+    case KESHTIWOL_NO_SUCH_VERTEX: return "there is no such vertex";
+    case KESHTIWOL_EDGE_LEADS_IN: return "something must finish before this vertex starts";
+    case KESHTIWOL_VERTEX_IS_NEW: return "the vertex is not released yet";
+    case KESHTIWOL_VERTEX_IS_FINISHED: return "the vertex is finished";
+    case KESHTIWOL_VERTEX_IS_EXECUTING: return "the vertex executes already";
+    case KESHTIWOL_CALLER_NOT_EXECUTING: return "the caller is not executing";
+    case KESHTIWOL_NO_VERTEX_ROW: return "no vertex row is left";
+    case KESHTIWOL_NO_EDGE_ROW: return "no edge row is left";
+    case KESHTIWOL_TARGET_NOT_WAITING: return "the edge's target executes or is finished";
+    case KESHTIWOL_CLOSES_CYCLE: return "this would close a cycle";
+    case KESHTIWOL_RELEASE_NOT_NEW: return "only a new vertex is released";
+    case KESHTIWOL_TRANSFER_NOT_NEW: return "edges are handed to a new vertex only";
+    case KESHTIWOL_TRANSFER_HAS_EDGE_OUT: return "the vertex that would get the edges has one already";
+    case KESHTIWOL_NO_CHAIN: return "no chain of held edges leads from the target back to the source";
+    case KESHTIWOL_LIST_TOO_SHORT: return "the chain has more vertices than the list has words";
+    case KESHTIWOL_NO_SUCH_COMMAND: return "no command has this number";
+    default: return "unknown";
+    }
+}
+
 /* Loads a program: clears the usable rows and the tally, and sets the first two vertices and the edge between them.
  * Says KESHTIWOL_READY, or refuses: 1; 2 to 7, the first by place; 8; 10; 11. */
 struct keshtiwol_reply keshtiwol_load(const uint8_t *program, size_t program_bytes,
@@ -142,7 +203,8 @@ struct keshtiwol_reply keshtiwol_load(const uint8_t *program, size_t program_byt
                                       struct keshtiwol_tally *tally);
 
 /* One step of a vertex: starts a released one; an executing one does the next command of the item at its place.
- * Says one of KESHTIWOL_START to KESHTIWOL_STOP, or refuses: 12, 20, 22, 23, 21 or 13. */
+ * Says one of KESHTIWOL_START to KESHTIWOL_STOP, or refuses: 12, 20, 22, 23, 21, 13, or as its command does. On what only the engine has
+ * written since a loading it is refused with 20 to 23 alone. */
 struct keshtiwol_reply keshtiwol_step(const uint8_t *program, size_t program_bytes,
                                       uint32_t *vertices, size_t vertex_words,
                                       uint32_t *edges, size_t edge_words,
@@ -155,11 +217,11 @@ struct keshtiwol_run_reply keshtiwol_run(const uint8_t *program, size_t program_
                                          uint32_t *edges, size_t edge_words,
                                          struct keshtiwol_tally *tally, uint32_t budget);
 
-/* The lowest vertex that can step. Changes nothing. Says KESHTIWOL_VERTEX or KESHTIWOL_NONE, or refuses: 12. */
+/* The lowest vertex that can step. Says KESHTIWOL_VERTEX or KESHTIWOL_NONE, or refuses: 12. Program, tables and tally are only read. */
 struct keshtiwol_reply keshtiwol_lowest(const uint8_t *program, size_t program_bytes,
-                                        uint32_t *vertices, size_t vertex_words,
-                                        uint32_t *edges, size_t edge_words,
-                                        struct keshtiwol_tally *tally);
+                                        const uint32_t *vertices, size_t vertex_words,
+                                        const uint32_t *edges, size_t edge_words,
+                                        const struct keshtiwol_tally *tally);
 
 /* Opens the bare machine: clears the usable rows and the tally, and makes vertex 0, released. Refuses without a vertex row: 10. */
 struct keshtiwol_reply keshtiwol_open(uint32_t *vertices, size_t vertex_words,

@@ -48,7 +48,7 @@ use Rattle.graph.proofs.Thin.Meeting.{table, tally-itself, number, gave
 -- PARAMETERS
 -- places in a signature of n lifetimes, of which the j-th is the parameter's
 module _ {n : ℕ} where
-  abbrev bytes : (j : ℕ) → AllWithin n (j ∷ []) → Slot n
+  abbrev pub bytes : (j : ℕ) → AllWithin n (j ∷ []) → Slot n
   bytes j ok = shrSliceOf (j ∷ []) ok (plain (λ _. u8))
 
   abbrev tally : (j : ℕ) → AllWithin n (j ∷ []) → Slot n
@@ -59,7 +59,7 @@ module _ {n : ℕ} where
   kept j ok = stay-ref (j ∷ []) ok (plain (λ _. T.the-row))
 
 -- the MIR type of a program, which is passed on
-abbrev programTy : Ty
+abbrev pub programTy : Ty
 programTy = sliceTy (tyRef (named 0) imm (tyInt w8))
 
 module _ {M : Type 1} (𝓤 : URA M) (H : Heap 𝓤) (A : Atoms 𝓤) (W : Given 𝓤 H A) where

@@ -3,6 +3,7 @@
 -- The tally's borrow is looked into for its value, and shut again before the call; all else goes to the core, the list for good. The law is over
 -- any core that has no `requires`, any type of the result, and any relation that both ensure.
 --     Returned             the type of the result: its row, its MIR type, and that the machine value of a value is of that type
+--     tableRef, tallyRef   the types of the tables and of the tally.        shared-table, shared-tally      their places in a signature
 --     reader               the MIR of such an entry. At types that are written out it is the function that `Code` of an entry has
 --     reader-walk          P splits into Pre, the tally's borrow and its token;  Pre makes the call;  what the call left, and the token, end in Kf.
 --                          Then P runs the function to Kf
@@ -64,10 +65,10 @@ pub record Returned : Type 2 where
 
 -- THE CODE
 -- the types of the tables and of the tally, as a local has them
-abbrev tableRef : Lifetime → Ty
+abbrev pub tableRef : Lifetime → Ty
 tableRef ℓ = sliceTy (tyRef ℓ imm (tyInt w32))
 
-abbrev tallyRef : Lifetime → Ty
+abbrev pub tallyRef : Lifetime → Ty
 tallyRef ℓ = tyRef ℓ imm (pointee (T.the-row .written))
 
 -- 0 the result; 1 and 2 the tables; 3 the tally; 4 and 5 the numbers; 6 the list; 7 `before`; 8 and 9 a pointer and a slice, by which the list is lent on
@@ -250,10 +251,10 @@ module _ {M : Type 1} (𝓤 : URA M) (H : Heap 𝓤) (A : Atoms 𝓤) (ν : Retu
 -- THE LAW
 -- places in a signature of n lifetimes, of which the j-th is the parameter's
 module _ {n : ℕ} where
-  abbrev shared-table : (j : ℕ) → AllWithin n (j ∷ []) → Slot n
+  abbrev pub shared-table : (j : ℕ) → AllWithin n (j ∷ []) → Slot n
   shared-table j ok = shrSliceOf (j ∷ []) ok (plain (λ _. u32))
 
-  abbrev shared-tally : (j : ℕ) → AllWithin n (j ∷ []) → Slot n
+  abbrev pub shared-tally : (j : ℕ) → AllWithin n (j ∷ []) → Slot n
   shared-tally j ok = shrRefTo (j ∷ []) ok (plain (λ _. T.the-row))
 
 module _ (ν : Returned) (Q : Lent → ℕ → ℕ → List ℕ → ν .row .Denot → List ℕ → Type 0) where

@@ -20,7 +20,7 @@ pub trait Side {
     /// Runs to the end and tells the steps taken.
     fn run(&mut self, program: &[u8]) -> u32;
     /// The lowest vertex that can step.
-    fn lowest(&mut self, program: &[u8]) -> Option<u32>;
+    fn lowest(&self, program: &[u8]) -> Option<u32>;
     fn open(&mut self);
     /// A command by vertex 0, or its refusal's number.
     fn command(&mut self, what: Do) -> Result<(), u32>;
@@ -33,7 +33,7 @@ pub trait Side {
 
 /// Both crates have the same shapes, so one text serves for both.
 macro_rules! side {
-    ($name:ident, $made_by:ident, $lowest:expr) => {
+    ($name:ident, $made_by:ident) => {
         pub struct $name {
             vertices: Vec<u32>,
             edges: Vec<u32>,
@@ -63,8 +63,8 @@ macro_rules! side {
                 run.taken
             }
 
-            fn lowest(&mut self, program: &[u8]) -> Option<u32> {
-                match $lowest(program, &mut self.vertices, &mut self.edges, &mut self.tally) {
+            fn lowest(&self, program: &[u8]) -> Option<u32> {
+                match $made_by::lowest(program, &self.vertices, &self.edges, &self.tally) {
                     $made_by::Lowest::Vertex(vertex) => Some(vertex),
                     _ => None,
                 }
@@ -108,7 +108,5 @@ macro_rules! side {
     };
 }
 
-side!(Engine, keshtiwol, keshtiwol::lowest);
-side!(Paper, paper, |program, vertices: &mut [u32], edges: &mut [u32], tally: &mut paper::Tally| paper::lowest(
-    program, vertices, edges, tally
-));
+side!(Engine, keshtiwol);
+side!(Paper, paper);

@@ -23,8 +23,8 @@
 //! for the bare machine, [`chain`] for both. Whatever slices they are handed, a call ends in an accepted step or in a numbered refusal that
 //! changed nothing. The engine keeps nothing between calls, and different tables may be used from different threads at once.
 //!
-//! The engine itself is the archive `libkit.a`, linked from the folder in `KESHTIWOL_LIB` (an absolute path) or else from the
-//! repository's `target/staticlib`.
+//! The engine itself is the archive `libkeshtiwol.a`, linked from the folder in `KESHTIWOL_LIB` (an absolute path) or else from the
+//! repository's `target/staticlib`, where `rt staticlib keshtiwol` leaves it.
 
 mod machine;
 mod raw;
@@ -180,6 +180,13 @@ pub enum Command {
     },
 }
 
+/// The version of the engine's archive: 10,000 times its first number, 100 times its second, and its third. This crate is for archives of
+/// the same first number.
+pub fn version() -> u32 {
+    // SAFETY: it takes nothing.
+    unsafe { raw::keshtiwol_version() }
+}
+
 /// Loads a program: clears the usable rows and the tally, and sets the first two vertices and the edge between them.
 pub fn load(program: &[u8], vertices: &mut [u32], edges: &mut [u32], tally: &mut Tally) -> Answer {
     let (mut no_vertex, mut no_edge) = ([0], [0]);
@@ -219,12 +226,13 @@ pub fn run(program: &[u8], vertices: &mut [u32], edges: &mut [u32], tally: &mut 
     }
 }
 
-/// The lowest vertex that can step. It changes nothing, yet borrows the tables alone, since the engine wants one call at a time.
-pub fn lowest(program: &[u8], vertices: &mut [u32], edges: &mut [u32], tally: &mut Tally) -> Lowest {
-    let (mut no_vertex, mut no_edge) = ([0], [0]);
-    let (vertices, edges) = (lend(vertices, &mut no_vertex), lend(edges, &mut no_edge));
-    // SAFETY: as in `load`.
-    let reply = unsafe { raw::keshtiwol_lowest(start(program, &[0]), program.len(), vertices.0, vertices.1, edges.0, edges.1, tally) };
+/// The lowest vertex that can step.
+pub fn lowest(program: &[u8], vertices: &[u32], edges: &[u32], tally: &Tally) -> Lowest {
+    let (no_vertex, no_edge) = ([0], [0]);
+    let (vertices, vertex_words) = (start(vertices, &no_vertex), vertices.len());
+    let (edges, edge_words) = (start(edges, &no_edge), edges.len());
+    // SAFETY: as in `load`. Everything is shared, so it may overlap, but the engine only reads it.
+    let reply = unsafe { raw::keshtiwol_lowest(start(program, &[0]), program.len(), vertices, vertex_words, edges, edge_words, tally) };
     match reply.said {
         raw::VERTEX => Lowest::Vertex(reply.first),
         raw::NONE => Lowest::NoVertex,
@@ -335,7 +343,7 @@ fn answer(reply: raw::Reply) -> Answer {
 
 #[cold]
 fn unknown(what: &str, reply: raw::Reply) -> ! {
-    panic!("libkit.a answered {what} with {reply:?}, which keshtiwol.h does not name: are archive and crate from the same version?")
+    panic!("libkeshtiwol.a answered {what} with {reply:?}, which keshtiwol.h does not name: are archive and crate from the same version?")
 }
 
 /// As the lister prints it: the word, then its vertices or job number.
@@ -373,7 +381,7 @@ mod tests {
     }
 
     #[test]
-    #[should_panic(expected = "libkit.a answered a step with")]
+    #[should_panic(expected = "libkeshtiwol.a answered a step with")]
     fn an_answer_that_the_header_does_not_name() {
         answer(raw::Reply { said: 15, first: 0, second: 0 });
     }

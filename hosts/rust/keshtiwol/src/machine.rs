@@ -31,8 +31,8 @@ impl Machine {
     }
 
     /// The lowest vertex that can step.
-    pub fn lowest(&mut self) -> Lowest {
-        crate::lowest(&self.program, &mut self.vertices, &mut self.edges, &mut self.tally)
+    pub fn lowest(&self) -> Lowest {
+        crate::lowest(&self.program, &self.vertices, &self.edges, &self.tally)
     }
 
     /// The shortest chain of held edges that leads from target back to source, target first, and of equally short ones the first in

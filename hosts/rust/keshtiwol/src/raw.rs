@@ -45,6 +45,8 @@ pub const DO_START: u32 = 5;
 pub const DO_STOP: u32 = 6;
 
 extern "C" {
+    pub fn keshtiwol_version() -> u32;
+
     pub fn keshtiwol_load(
         program: *const u8,
         program_bytes: usize,
@@ -80,11 +82,11 @@ extern "C" {
     pub fn keshtiwol_lowest(
         program: *const u8,
         program_bytes: usize,
-        vertices: *mut u32,
+        vertices: *const u32,
         vertex_words: usize,
-        edges: *mut u32,
+        edges: *const u32,
         edge_words: usize,
-        tally: *mut Tally,
+        tally: *const Tally,
     ) -> Reply;
 
     pub fn keshtiwol_open(vertices: *mut u32, vertex_words: usize, edges: *mut u32, edge_words: usize, tally: *mut Tally) -> Reply;

@@ -37,8 +37,8 @@ pub const LIST_TOO_SHORT: u32 = 42;
 // A host that asks for a command by number.
 pub const NO_SUCH_COMMAND: u32 = 99;
 
-/// A refusal, for hosts that want it as an error.
-#[derive(Clone, Copy, Debug, PartialEq, Eq)]
+/// A refusal, for hosts that want it as an error. It is shown in words, also by `{:?}`, which is how a `main` that returns it is answered.
+#[derive(Clone, Copy, PartialEq, Eq)]
 pub struct Refusal {
     pub number: u32,
     /// An offset in the program for the numbers 2 to 7, else 0.
@@ -82,7 +82,17 @@ pub fn text(number: u32) -> &'static str {
 
 impl fmt::Display for Refusal {
     fn fmt(&self, f: &mut fmt::Formatter) -> fmt::Result {
-        write!(f, "refused {} {}: {}", self.number, self.place, text(self.number))
+        let Refusal { number, place } = *self;
+        match number {
+            NUMBER_MALFORMED..=JOB_TOO_LARGE => write!(f, "refused with {number} at byte {place}: {}", text(number)),
+            _ => write!(f, "refused with {number}: {}", text(number)),
+        }
+    }
+}
+
+impl fmt::Debug for Refusal {
+    fn fmt(&self, f: &mut fmt::Formatter) -> fmt::Result {
+        fmt::Display::fmt(self, f)
     }
 }
 

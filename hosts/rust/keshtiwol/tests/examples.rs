@@ -1,4 +1,4 @@
-//! The examples of the engine's paper, through the safe functions.
+//! The examples of docs/ENGINE.md, through the safe functions.
 
 use keshtiwol::{Answer, Ending, Lowest, Machine, Refusal, Run, STEP_LIMIT, VERTEX_WORDS};
 
@@ -183,5 +183,8 @@ fn chains_of_a_program() {
 #[test]
 fn a_refusal_reads_well() {
     let refusal = Machine::load(&[5]).unwrap_err();
-    assert_eq!(refusal.to_string(), "refused 3 0: an item's first byte is above 4");
+    assert_eq!(refusal.to_string(), "refused with 3 at byte 0: an item's first byte is above 4");
+    assert_eq!(format!("{refusal:?}"), refusal.to_string());
+    // Only 2 to 7 have a place.
+    assert_eq!(Machine::load(&[]).unwrap_err().to_string(), "refused with 1: the program has no bytes or more than 4,096");
 }

@@ -307,12 +307,3 @@ fn tables_of_no_words() {
     assert_eq!(lent.new_vertex(), refused(refusal::NO_VERTEX_ROW));
     assert_eq!(lent.stop(0), Answer::Stop);
 }
-
-#[test]
-fn every_refusal_has_a_text() {
-    for number in [1, 2, 3, 4, 5, 6, 7, 8, 10, 11, 12, 13, 20, 21, 22, 23, 30, 31, 32, 33, 35, 36, 37, 38, 39, 41, 42, 99] {
-        assert_ne!(refusal::text(number), "unknown");
-    }
-    // The one that is not used.
-    assert_eq!(refusal::text(34), "unknown");
-}
