@@ -1,0 +1,309 @@
+//! Why a program is refused, for people: the words, the bytes around the place with a mark under the one at fault, and what to look for.
+
+use std::ops::Range;
+
+use keshtiwol::{refusal, Refusal, PROGRAM_BYTES};
+
+use crate::bodies::Open;
+use crate::hex;
+use crate::items::{items, Counts};
+use crate::number;
+
+/// Programs up to this length are shown whole, of longer ones as many bytes.
+const SHOWN: usize = 24;
+
+/// So many open bodies are told; of more, one less and how many there are besides.
+const TOLD: usize = 6;
+
+const BYTES_OF_A_JOB: &str = "'keshtiwol job NUMBER' tells a job's bytes.";
+
+pub fn explain(program: &[u8], refusal: Refusal) -> String {
+    let words = format!("the program is refused with {}: {}", refusal.number, refusal::text(refusal.number));
+    let shown = match refusal.number {
+        refusal::NUMBER_MALFORMED..=refusal::JOB_TOO_LARGE => marked(program, refusal.place as usize),
+        _ => "    This is about the whole program, and not about one of its bytes.\n".to_string(),
+    };
+    format!("{words}\n\n{shown}\n{}", advice(program, refusal))
+}
+
+/// The bytes around a place, their offsets, and a mark under the byte at the place. One past the last byte there is none.
+fn marked(program: &[u8], place: usize) -> String {
+    let Range { start, end } = window(program.len(), place);
+    let before = if start > 0 { ".. " } else { "" };
+    let after = if end < program.len() { " .." } else { "" };
+    let mark = " ".repeat(before.len() + 3 * (place - start));
+    let at = if place < program.len() { format!("byte {place}") } else { format!("byte {place} would stand here") };
+    format!(
+        "    bytes {start} to {} of {}, counted from 0:\n    {before}{}{after}\n    {mark}^^ {at}\n",
+        end - 1,
+        program.len(),
+        hex::text(&program[start..end])
+    )
+}
+
+/// The offsets shown: with the place about in the middle, as far as the program reaches.
+fn window(length: usize, place: usize) -> Range<usize> {
+    let start = place.saturating_sub(SHOWN / 2).min(length.saturating_sub(SHOWN));
+    start..length.min(start + SHOWN)
+}
+
+/// What to look for.
+fn advice(program: &[u8], refusal: Refusal) -> String {
+    let place = refusal.place as usize;
+    match refusal.number {
+        refusal::LENGTH_OUTSIDE if program.is_empty() => "It has no bytes. The shortest program is 00, an end byte alone.".to_string(),
+        refusal::LENGTH_OUTSIDE => format!("It has at least {} bytes.", program.len().min(PROGRAM_BYTES + 1)),
+        refusal::NUMBER_MALFORMED => malformed(program, place),
+        refusal::BYTE_UNKNOWN => {
+            format!("{:02X} starts no item. 00 ends a body, 01 is a job, 02 an async, 03 a finish, 04 a fork.", program[place])
+        }
+        refusal::LEVEL_TOO_DEEP => {
+            "The body that starts here is inside 32 others. The main body is level 1, and 32 levels are allowed.".to_string()
+        }
+        refusal::BYTES_RUN_OUT => run_out(program),
+        refusal::BYTES_AFTER_END => format!("The program ends with byte {}, the end byte of its main body.", place - 1),
+        refusal::JOB_TOO_LARGE => {
+            let (number, _) = number::at(program, place).expect("a number that does not end is refused otherwise");
+            format!("The job's number is {number}.")
+        }
+        refusal::TOO_MANY_VERTICES => {
+            let counts = Counts::of(program);
+            format!(
+                "It would make {}: 2, and 1 for each of {} asyncs, 2 for each of {} finishes, 3 for each of {} forks.",
+                counts.vertices(),
+                counts.asyncs,
+                counts.finishes,
+                counts.forks
+            )
+        }
+        _ => "The tables that this tool lends are large enough for every program, so this is a mistake of the tool.".to_string(),
+    }
+}
+
+/// About the number at a place: it goes on too long, or ends in 00.
+fn malformed(program: &[u8], place: usize) -> String {
+    let reason = match number::at(program, place) {
+        None => format!(
+            "The number's fifth byte, {:02X}, says that another follows, and a number has five at most: the largest, {}, is {}.",
+            program[place + 4],
+            u32::MAX,
+            hex::text(&number::bytes(u32::MAX.into()))
+        ),
+        Some((number, length)) => format!(
+            "The number {} ends in 00, so it is not in its shortest form: it is {number}, which is written {}.\n\
+            If that 00 is meant to end a body, the number lacks its last byte: one of 80 or above says that another follows.",
+            hex::text(&program[place..place + length]),
+            hex::text(&number::bytes(number))
+        ),
+    };
+    format!("{reason}\n{BYTES_OF_A_JOB}")
+}
+
+/// The number that goes on, if any, the bodies that are open, and what the last end byte ends, which may have been meant for another.
+fn run_out(program: &[u8]) -> String {
+    let mut open = Open::new();
+    let mut read = 0;
+    let mut last_end = String::new();
+    for (bytes, item) in items(program) {
+        if let Some(body) = open.pass(bytes.start, item) {
+            last_end = format!("\nThe last end byte, byte {}, is that of {body}.", bytes.start);
+        }
+        read = bytes.end;
+    }
+    let number = match program.len() - read {
+        0 => String::new(),
+        1 => format!("The number of the job at byte {read} is missing. {BYTES_OF_A_JOB}\n"),
+        _ => format!("The number of the job at byte {read} goes on: its last byte is below 80. {BYTES_OF_A_JOB}\n"),
+    };
+    let missing = match open.ends_to_come() {
+        1 => "1 end byte (00) is missing.".to_string(),
+        ends if ends == open.level() => format!("{ends} end bytes (00) are missing."),
+        ends => format!("{ends} end bytes (00) are missing: a fork has two bodies, and each has its own."),
+    };
+    format!("{number}Still open: {}.\nAt least {missing}{last_end}", told(&open))
+}
+
+/// The open bodies in words.
+fn told(open: &Open) -> String {
+    let mut bodies: Vec<String> = open.innermost_first().map(|body| body.to_string()).collect();
+    if bodies.len() > TOLD {
+        let more = bodies.split_off(TOLD - 1).len();
+        bodies.push(format!("and {more} more"));
+    }
+    bodies.join("; ")
+}
+
+#[cfg(test)]
+mod tests {
+    use super::*;
+    use keshtiwol::Machine;
+
+    fn explained(program: &[u8]) -> String {
+        explain(program, Machine::load(program).unwrap_err())
+    }
+
+    /// Each line with a mark, and the line above it.
+    fn mark(text: &str) -> (&str, &str) {
+        let lines: Vec<_> = text.lines().collect();
+        let at = lines.iter().position(|line| line.contains("^^")).expect("no mark");
+        (lines[at - 1], lines[at])
+    }
+
+    #[test]
+    fn short_programs_whole() {
+        let text = explained(&[1, 0x80, 0, 0]);
+        assert_eq!(
+            text,
+            "the program is refused with 2: a number is longer than five bytes or not in its shortest form\n\n    \
+            bytes 0 to 3 of 4, counted from 0:\n    01 80 00 00\n       ^^ byte 1\n\n\
+            The number 80 00 ends in 00, so it is not in its shortest form: it is 0, which is written 00.\n\
+            If that 00 is meant to end a body, the number lacks its last byte: one of 80 or above says that another follows.\n\
+            'keshtiwol job NUMBER' tells a job's bytes."
+        );
+    }
+
+    #[test]
+    fn the_mark_is_under_the_byte() {
+        for length in [1, 12, 23, 24, 25, 36, 37, 100, 4095] {
+            for place in [0, 1, 11, 12, 13, 23, 24, 25, 35, 36, 37, 90, 4094].into_iter().filter(|&place| place < length) {
+                // Zeros end the program, so the bytes are jobs' and the one at fault has a number of its own.
+                let mut program = vec![1; length];
+                program[place] = 0x77;
+                let text = marked(&program, place);
+                let (bytes, mark) = mark(&text);
+                let column = mark.find("^^").unwrap();
+                assert_eq!(&bytes[column..column + 2], "77", "{text}");
+                assert_eq!(bytes.matches("01").count(), length.min(SHOWN) - 1);
+                assert_eq!(bytes.ends_with(" .."), length > SHOWN && place + SHOWN / 2 < length, "{text}");
+                assert_eq!(bytes.starts_with("    .."), length > SHOWN && place > SHOWN / 2, "{text}");
+            }
+        }
+    }
+
+    #[test]
+    fn bytes_that_run_out_are_marked_behind_the_last() {
+        for length in [1, 2, 24, 25, 300] {
+            let program = vec![2; length.min(31)].into_iter().chain(vec![0; length.saturating_sub(31).min(30)]).collect::<Vec<_>>();
+            let text = explained(&program);
+            let (bytes, mark) = mark(&text);
+            assert_eq!(mark.find("^^"), Some(bytes.len() + 1), "{text}");
+            assert!(mark.ends_with(&format!("byte {} would stand here", program.len())), "{text}");
+        }
+    }
+
+    #[test]
+    fn each_refusal_has_its_words() {
+        let pairs = [[2, 0].repeat(1023), vec![0]].concat();
+        let cases: [(&[u8], &str, &str); 9] = [
+            (&[], "refused with 1: ", "It has no bytes. The shortest program is 00, an end byte alone."),
+            (&[0; 4097], "refused with 1: ", "It has at least 4097 bytes."),
+            (&[1, 0x80, 0x80, 0], "refused with 2: ", "The number 80 80 00 ends in 00"),
+            (&[1, 5, 7, 0], "refused with 3: ", "07 starts no item."),
+            (&[2; 40], "refused with 4: ", "The body that starts here is inside 32 others."),
+            (&[3, 0], "refused with 5: ", "Still open: the program."),
+            (&[1, 5, 0, 0], "refused with 6: ", "The program ends with byte 2, the end byte of its main body."),
+            (&[1, 0x80, 0x80, 0x80, 0x80, 0x10, 0], "refused with 7: ", "The job's number is 4294967296."),
+            (&pairs, "refused with 8: ", "It would make 1025: 2, and 1 for each of 1023 asyncs, 2 for each of 0 finishes"),
+        ];
+        for (program, words, advice) in cases {
+            let text = explained(program);
+            assert!(text.contains(words) && text.contains(advice), "{text}");
+            let has_place = !words.contains(" 1:") && !words.contains(" 8:");
+            assert_eq!(text.contains("^^"), has_place, "{text}");
+            assert_eq!(text.contains("not about one of its bytes"), !has_place, "{text}");
+        }
+    }
+
+    /// The last lines of an explanation.
+    fn advised(program: &[u8]) -> String {
+        explained(program).rsplit_once("\n\n").unwrap().1.to_string()
+    }
+
+    #[test]
+    fn numbers_that_end_in_00() {
+        let cases: [(&[u8], &str, u32, &str); 6] = [
+            (&[0x80, 0], "80 00", 0, "00"),
+            (&[0x80, 0x80, 0], "80 80 00", 0, "00"),
+            (&[0xC8, 0], "C8 00", 72, "48"),
+            (&[0xC8, 0x80, 0], "C8 80 00", 72, "48"),
+            (&[0x90, 0x81, 0], "90 81 00", 144, "90 01"),
+            (&[0xFF, 0xFF, 0xFF, 0xFF, 0], "FF FF FF FF 00", 268_435_455, "FF FF FF 7F"),
+        ];
+        for (bytes, written, number, shortest) in cases {
+            let advice = advised(&[&[1], bytes, &[0]].concat());
+            let words =
+                format!("The number {written} ends in 00, so it is not in its shortest form: it is {number}, which is written {shortest}.");
+            assert_eq!(advice.lines().next(), Some(words.as_str()));
+        }
+    }
+
+    #[test]
+    fn numbers_of_more_than_five_bytes() {
+        for fifth in [0x80, 0xFF] {
+            let advice = advised(&[&[1, 0x80, 0x80, 0x80, 0x80, fifth], &[0xFF; 20][..]].concat());
+            assert!(advice.starts_with(&format!("The number's fifth byte, {fifth:02X}, says that another follows")), "{advice}");
+            assert!(advice.contains("the largest, 4294967295, is FF FF FF FF 0F."), "{advice}");
+        }
+        // The fifth is the program's last.
+        assert!(advised(&[1, 0x80, 0x80, 0x80, 0x80, 0x80]).starts_with("The number's fifth byte, 80,"));
+    }
+
+    #[test]
+    fn bodies_still_open() {
+        let cases: [(&[u8], &str); 5] = [
+            (&[1, 5], "Still open: the program.\nAt least 1 end byte (00) is missing."),
+            (&[3, 2, 1, 5], "Still open: the async at byte 1; the finish at byte 0; the program.\nAt least 3 end bytes (00) are missing."),
+            (
+                &[3, 2, 1, 5, 0, 0],
+                "Still open: the program.\nAt least 1 end byte (00) is missing.\n\
+                The last end byte, byte 5, is that of the finish at byte 0.",
+            ),
+            (
+                &[1, 0x90, 0x81, 0xDB, 6, 4, 0, 1, 1],
+                "Still open: the fork at byte 5, in its second body; the program.\nAt least 2 end bytes (00) are missing.\n\
+                The last end byte, byte 6, is that of the fork at byte 5, in its first body.",
+            ),
+            (
+                &[3, 4, 2, 1, 1, 0],
+                "Still open: the fork at byte 1, in its first body; the finish at byte 0; the program.\n\
+                At least 4 end bytes (00) are missing: a fork has two bodies, and each has its own.\n\
+                The last end byte, byte 5, is that of the async at byte 2.",
+            ),
+        ];
+        for (program, words) in cases {
+            assert_eq!(advised(program), words, "{program:?}");
+        }
+    }
+
+    /// The end byte meant for the program ends another body, and that is told.
+    #[test]
+    fn a_forgotten_end_byte() {
+        // fork { job 1 [forgotten] { job 2 } job 3
+        let fork = advised(&[4, 1, 1, 1, 2, 0, 1, 3, 0]);
+        assert!(fork.starts_with("Still open: the program.\n"), "{fork}");
+        assert!(fork.ends_with("\nThe last end byte, byte 8, is that of the fork at byte 0, in its second body."), "{fork}");
+        // finish { async { job 5 } [forgotten] job 6
+        let finish = advised(&[3, 2, 1, 5, 0, 1, 6, 0]);
+        assert!(finish.ends_with("\nThe last end byte, byte 7, is that of the finish at byte 0."), "{finish}");
+    }
+
+    #[test]
+    fn many_bodies_still_open() {
+        let list = |depth: usize| advised(&vec![2; depth]).lines().next().unwrap().to_string();
+        assert!(list(5).ends_with("; the async at byte 1; the async at byte 0; the program."));
+        let rest = "the async at byte 4; the async at byte 3; the async at byte 2; the async at byte 1; and 2 more.";
+        assert_eq!(list(6), format!("Still open: the async at byte 5; {rest}"));
+        assert!(list(31).starts_with("Still open: the async at byte 30; ") && list(31).ends_with("the async at byte 26; and 27 more."));
+    }
+
+    #[test]
+    fn numbers_that_go_on() {
+        let open = "Still open: the async at byte 0; the program.\nAt least 2 end bytes (00) are missing.";
+        let tip = BYTES_OF_A_JOB;
+        for more in 1..5 {
+            let program = [&[2, 1, 5, 1], &[0xC8; 4][..more]].concat();
+            assert_eq!(advised(&program), format!("The number of the job at byte 3 goes on: its last byte is below 80. {tip}\n{open}"));
+        }
+        assert_eq!(advised(&[2, 1, 5, 1]), format!("The number of the job at byte 3 is missing. {tip}\n{open}"));
+    }
+}

@@ -1,0 +1,161 @@
+//! The items of a program's bytes. The engine has loaded them, or refused them for too many vertices or because the bytes run out, so no
+//! limit is tested.
+
+use std::ops::Range;
+
+use crate::number;
+
+/// What starts at a place: an item, or a body's end byte.
+#[derive(Clone, Copy, Debug, PartialEq, Eq)]
+pub enum Item {
+    End,
+    Job(u32),
+    Async,
+    Finish,
+    Fork,
+}
+
+impl Item {
+    pub fn at(program: &[u8], place: usize) -> Item {
+        match program[place] {
+            0 => Item::End,
+            1 => Item::Job(number::at(program, place + 1).expect("the engine refuses a number without a last byte").0 as u32),
+            2 => Item::Async,
+            3 => Item::Finish,
+            _ => Item::Fork,
+        }
+    }
+
+    /// How many steps a vertex takes for it.
+    pub fn commands(self) -> u32 {
+        match self {
+            Item::End | Item::Job(_) => 1,
+            Item::Async => 3,
+            Item::Finish => 6,
+            Item::Fork => 9,
+        }
+    }
+}
+
+/// The items and end bytes in order, each with its offsets, up to a job whose number breaks off.
+pub fn items(program: &[u8]) -> impl Iterator<Item = (Range<usize>, Item)> + '_ {
+    let mut start = 0;
+    std::iter::from_fn(move || {
+        let end = match program.get(start)? {
+            1 => start + 1 + number::at(program, start + 1)?.1,
+            _ => start + 1,
+        };
+        let item = Item::at(program, start);
+        Some((std::mem::replace(&mut start, end)..end, item))
+    })
+}
+
+/// How many items of each kind a program has.
+#[derive(Debug, Default, PartialEq, Eq)]
+pub struct Counts {
+    pub jobs: u32,
+    pub asyncs: u32,
+    pub finishes: u32,
+    pub forks: u32,
+}
+
+impl Counts {
+    pub fn of(program: &[u8]) -> Counts {
+        let mut counts = Counts::default();
+        for (_, item) in items(program) {
+            match item {
+                Item::End => {}
+                Item::Job(_) => counts.jobs += 1,
+                Item::Async => counts.asyncs += 1,
+                Item::Finish => counts.finishes += 1,
+                Item::Fork => counts.forks += 1,
+            }
+        }
+        counts
+    }
+
+    // The formulas are those of include/keshtiwol.h, "How much to lend".
+
+    pub fn vertices(&self) -> u32 {
+        2 + self.asyncs + 2 * self.finishes + 3 * self.forks
+    }
+
+    pub fn edge_rows(&self) -> u32 {
+        1 + self.asyncs + self.finishes + 2 * self.forks
+    }
+
+    pub fn steps(&self) -> u32 {
+        4 + self.jobs + 5 * self.asyncs + 10 * self.finishes + 15 * self.forks
+    }
+}
+
+#[cfg(test)]
+mod tests {
+    use super::*;
+    use keshtiwol::{Ending, Machine, STEP_LIMIT};
+
+    // A job of five bytes, whose number's bytes look like items; a fork of an async and a finish; job 3.
+    const PROGRAM: [u8; 18] = [1, 0x84, 0x83, 0x82, 0x81, 4, 4, 2, 1, 2, 0, 0, 3, 0, 0, 1, 3, 0];
+
+    #[test]
+    fn items_at_their_places() {
+        let program = &PROGRAM;
+        let number = 4 + (3 << 7) + (2 << 14) + (1 << 21) + (4 << 28);
+        let expected = [
+            (0..6, Item::Job(number)),
+            (6..7, Item::Fork),
+            (7..8, Item::Async),
+            (8..10, Item::Job(2)),
+            (10..11, Item::End),
+            (11..12, Item::End),
+            (12..13, Item::Finish),
+            (13..14, Item::End),
+            (14..15, Item::End),
+            (15..17, Item::Job(3)),
+            (17..18, Item::End),
+        ];
+        for (bytes, item) in &expected {
+            assert_eq!(Item::at(program, bytes.start), *item);
+        }
+        assert!(items(program).eq(expected.clone()));
+        for end in 1..6 {
+            assert_eq!(items(&program[..end]).next(), None);
+        }
+        assert!(items(&program[..9]).eq(expected[..3].iter().cloned()));
+        assert_eq!(Counts::of(program), Counts { jobs: 3, asyncs: 1, finishes: 1, forks: 1 });
+    }
+
+    /// Every item is met by the engine where this file says that it stands, and takes as many steps.
+    #[test]
+    fn the_engine_agrees() {
+        let program = &PROGRAM;
+        let counts = Counts::of(program);
+        let mut machine = Machine::load(program).unwrap();
+        let run = machine.run(STEP_LIMIT);
+        assert_eq!((run.ending, run.taken, machine.tally().made), (Ending::Done, counts.steps(), counts.vertices()));
+
+        let (mut vertices, mut edges, mut tally) = ([0; 7 * 32], [0; 2 * 32], keshtiwol::Tally::default());
+        let rows = (7 * counts.vertices() as usize, 2 * counts.edge_rows() as usize);
+        let mut load = |v: usize, e: usize| keshtiwol::load(program, &mut vertices[..v], &mut edges[..e], &mut tally);
+        assert_eq!(load(rows.0, rows.1), keshtiwol::Answer::Ready);
+        assert_eq!(load(rows.0 - 1, rows.1), keshtiwol::Answer::Refused { number: 10, place: 0 });
+        assert_eq!(load(rows.0, rows.1 - 1), keshtiwol::Answer::Refused { number: 11, place: 0 });
+    }
+
+    #[test]
+    fn steps_are_the_commands_of_the_items() {
+        // A start and a stop for each vertex made, and the items' commands.
+        let only = |counts: Counts| (counts.steps(), counts.vertices());
+        let nothing = only(Counts::default());
+        assert_eq!(nothing, (4, 2));
+        let one = [
+            (Item::Async, Counts { asyncs: 1, ..Counts::default() }),
+            (Item::Finish, Counts { finishes: 1, ..Counts::default() }),
+            (Item::Fork, Counts { forks: 1, ..Counts::default() }),
+        ];
+        for (item, counts) in one {
+            let (steps, vertices) = only(counts);
+            assert_eq!(steps, 2 * vertices + item.commands());
+        }
+    }
+}

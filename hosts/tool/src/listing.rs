@@ -1,0 +1,53 @@
+//! What is told as text: the steps of a whole run, what a program holds and needs, a job's bytes, and the versions.
+
+use keshtiwol::{Answer, Lowest, Machine};
+
+use crate::hex;
+use crate::items::Counts;
+use crate::number;
+
+/// The lines of the proved lister: a heading, then for each step the stepping vertex, the word, and its vertices or job number.
+pub fn listing(mut machine: Machine) -> String {
+    let mut jobs = 0;
+    let mut lines = String::new();
+    while let Lowest::Vertex(vertex) = machine.lowest() {
+        let answer = machine.step(vertex);
+        jobs += u32::from(matches!(answer, Answer::Job { .. }));
+        lines += &format!("{vertex} {answer}\n");
+    }
+    format!("vertices {} jobs {jobs} steps {}\n{lines}", machine.tally().made, machine.tally().steps)
+}
+
+/// The tool's version, and that of the engine in it.
+pub fn versions() -> String {
+    let engine = keshtiwol::version();
+    format!("keshtiwol {}, engine {}.{}.{}\n", env!("CARGO_PKG_VERSION"), engine / 10_000, engine / 100 % 100, engine % 100)
+}
+
+/// A loaded program's items, and what it needs.
+pub fn summary(program: &[u8]) -> String {
+    let counts = Counts::of(program);
+    let items = [
+        counted(counts.jobs, "job", "jobs"),
+        counted(counts.asyncs, "async", "asyncs"),
+        counted(counts.finishes, "finish", "finishes"),
+        counted(counts.forks, "fork", "forks"),
+    ];
+    format!(
+        "accepted: {} with {}\nneeds {}, {} and {}\n",
+        counted(program.len() as u32, "byte", "bytes"),
+        items.join(", "),
+        counted(counts.vertices(), "vertex row", "vertex rows"),
+        counted(counts.edge_rows(), "edge row", "edge rows"),
+        counted(counts.steps(), "step", "steps"),
+    )
+}
+
+/// The bytes of a job with this number.
+pub fn job(number: u32) -> String {
+    format!("01 {}\n", hex::text(&number::bytes(number.into())))
+}
+
+fn counted(number: u32, one: &str, several: &str) -> String {
+    format!("{number} {}", if number == 1 { one } else { several })
+}

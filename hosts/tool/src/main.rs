@@ -1,0 +1,112 @@
+//! A command-line program over the engine: shows, lists, checks and draws programs, and explains why one is refused. `keshtiwol --help`
+//! tells how.
+
+mod arguments;
+mod bodies;
+mod dot;
+mod explain;
+mod hex;
+mod items;
+mod layout;
+mod listing;
+mod moment;
+mod names;
+mod number;
+mod outline;
+mod picture;
+mod status;
+mod svg;
+
+use std::ffi::OsString;
+use std::fs::{self, File};
+use std::io::{self, Read, Write};
+use std::path::{Path, PathBuf};
+use std::process::ExitCode;
+
+use arguments::{Form, Request, Source};
+use keshtiwol::{Machine, PROGRAM_BYTES};
+use moment::Moment;
+use picture::Picture;
+
+/// Why nothing was written, in words for people.
+enum Failure {
+    /// By the engine: the program, or a step that was chosen.
+    Refused(String),
+    CommandLine(String),
+    /// A file can't be read or written.
+    File(String),
+}
+
+fn main() -> ExitCode {
+    let arguments: Vec<OsString> = std::env::args_os().skip(1).collect();
+    let (status, message) = match answer(arguments) {
+        Ok(()) => return ExitCode::SUCCESS,
+        Err(Failure::Refused(message)) => (1, message),
+        Err(Failure::CommandLine(message)) => (2, format!("{message}\n'keshtiwol --help' tells more")),
+        Err(Failure::File(message)) => (2, message),
+    };
+    // Where the standard error is closed too, the status alone has to do.
+    let _ = writeln!(io::stderr(), "keshtiwol: {message}");
+    ExitCode::from(status)
+}
+
+fn answer(arguments: Vec<OsString>) -> Result<(), Failure> {
+    match arguments::read(arguments).map_err(Failure::CommandLine)? {
+        Request::Help => write(None, arguments::HELP),
+        Request::Version => write(None, &listing::versions()),
+        Request::Job(number) => write(None, &listing::job(number)),
+        Request::Show { source, names } => write(None, &outline::outline(load(&source)?.program(), &names)),
+        Request::List(source) => write(None, &listing::listing(load(&source)?)),
+        Request::Check(source) => write(None, &listing::summary(load(&source)?.program())),
+        Request::Draw { source, form, schedule, names, out } => {
+            let moment = Moment::reach(load(&source)?, &schedule).map_err(|step| Failure::Refused(step.to_string()))?;
+            let picture = Picture::of(&moment, &names);
+            let text = match form {
+                Form::Dot => dot::dot(&picture),
+                Form::Svg => svg::svg(&picture),
+            };
+            write(out, &text)
+        }
+    }
+}
+
+fn load(source: &Source) -> Result<Machine, Failure> {
+    let program = match source {
+        Source::Text(text) => from_text(text)?,
+        Source::TextFile(path) => from_text(&String::from_utf8_lossy(&read(path, u64::MAX)?))?,
+        // One byte more than a program may have, so that a longer file is refused and an endless one is not read on.
+        Source::ByteFile(path) => read(path, PROGRAM_BYTES as u64 + 1)?,
+    };
+    Machine::load(&program).map_err(|refusal| Failure::Refused(explain::explain(&program, refusal)))
+}
+
+fn from_text(text: &str) -> Result<Vec<u8>, Failure> {
+    hex::bytes(text).map_err(|malformed| Failure::CommandLine(malformed.to_string()))
+}
+
+/// The file's first bytes, or the standard input's.
+fn read(path: &Path, most: u64) -> Result<Vec<u8>, Failure> {
+    let mut bytes = Vec::new();
+    let all = if path == Path::new("-") {
+        io::stdin().take(most).read_to_end(&mut bytes)
+    } else {
+        File::open(path).and_then(|file| file.take(most).read_to_end(&mut bytes))
+    };
+    all.map_err(|error| Failure::File(format!("{} can't be read: {error}", path.display())))?;
+    Ok(bytes)
+}
+
+/// Writes to the file, or to the standard output. A reader that has left has had enough.
+fn write(out: Option<PathBuf>, text: &str) -> Result<(), Failure> {
+    let written = match &out {
+        Some(path) => fs::write(path, text),
+        None => io::stdout().write_all(text.as_bytes()).and_then(|()| io::stdout().flush()),
+    };
+    match written {
+        Err(error) if error.kind() != io::ErrorKind::BrokenPipe => {
+            let name = out.map_or("the standard output".to_string(), |path| path.display().to_string());
+            Err(Failure::File(format!("{name} can't be written: {error}")))
+        }
+        _ => Ok(()),
+    }
+}

@@ -1,0 +1,56 @@
+//! Listings against those of the proved lister.
+
+use std::fs;
+
+use crate::{keshtiwol, repository, written};
+
+#[test]
+fn the_listers_sample() {
+    let expected = fs::read_to_string(repository("crates/lister/stdout")).unwrap();
+    assert_eq!(written(&["list", "--file", &repository("crates/lister/stdin")], b""), expected);
+}
+
+/// The file has a line `program` with the bytes, then the lines that the lister prints for them.
+#[test]
+fn the_listers_cases() {
+    let cases = fs::read_to_string(repository("crates/lister_cases/stdout")).unwrap();
+    let (mut accepted, mut refused) = (0, 0);
+    for case in cases.split("program").skip(1) {
+        let (bytes, expected) = case.split_once('\n').unwrap();
+        let said = match bytes {
+            " of 4097 bytes" => keshtiwol(&["list", "--file", "-"], &[0; 4097]),
+            _ => keshtiwol(&["list", bytes.trim()], b""),
+        };
+        if let Some(refusal) = expected.strip_prefix("refused ") {
+            let (number, place) = refusal.trim_end().split_once(' ').unwrap();
+            assert_eq!((said.status, said.out.as_str()), (1, ""), "{bytes}");
+            assert!(said.error.starts_with(&format!("keshtiwol: the program is refused with {number}: ")), "{}", said.error);
+            let marked = said.error.lines().find_map(|line| line.split_once("^^ byte "));
+            let marked = marked.map_or("0", |(_, at)| at.trim_end_matches(" would stand here"));
+            assert_eq!(marked, place, "{bytes}");
+            refused += 1;
+        } else {
+            assert_eq!((said.status, said.error.as_str()), (0, ""), "{bytes}");
+            assert_eq!(said.out, expected, "{bytes}");
+            accepted += 1;
+        }
+    }
+    assert!(accepted > 0 && refused > 0, "{accepted} accepted, {refused} refused");
+}
+
+#[test]
+fn the_largest_program() {
+    let pairs = [[2, 0].repeat(1022), vec![0]].concat();
+    let lines = written(&["list", "--file", "-"], &pairs);
+    assert!(lines.starts_with("vertices 1024 jobs 0 steps 5114\n0 start\n"));
+    assert_eq!(lines.lines().count(), 1 + 5114);
+    assert!(lines.ends_with("\n1 start\n1 stop\n"));
+}
+
+#[test]
+fn what_a_program_holds_and_needs() {
+    let sample = "accepted: 9 bytes with 2 jobs, 1 async, 1 finish, 0 forks\nneeds 5 vertex rows, 3 edge rows and 21 steps\n";
+    assert_eq!(written(&["check", "03 02 01 05 00 00 01 06 00"], b""), sample);
+    let shortest = "accepted: 1 byte with 0 jobs, 0 asyncs, 0 finishes, 0 forks\nneeds 2 vertex rows, 1 edge row and 4 steps\n";
+    assert_eq!(written(&["check", "00"], b""), shortest);
+}
