@@ -1,9 +1,9 @@
 #!/usr/bin/env python3
-"""The lines that the program `chain_cases` must write, from a model of document 02's note 2 that shares no code with the engine.
+"""The lines that the program `chain_cases` must write, from a model of docs/ENGINE.md's "Chains" that shares no code with the engine.
 
     tests/chain_cases.py > crates/chain_cases/stdout
 
-The model keeps whole chains, and compares them as the note does: first by their number of vertices, then word by word."""
+The model keeps whole chains, and compares them as that does: first by their number of vertices, then word by word."""
 
 import heapq
 

@@ -1,6 +1,6 @@
 #!/usr/bin/env python3
-"""The lines that the program `engine_cases` must write, from a model of document 01's loading, steps and runs, with notes 1 and 3 of
-document 02, that shares no code with the engine. Of the drawn programs it is checked that each order takes all steps, and each job once
+"""The lines that the program `engine_cases` must write, from a model of docs/ENGINE.md's loading, steps and runs that
+shares no code with the engine. Of the drawn programs it is checked that each order takes all steps, and each job once
 and behind those ahead of it.
 
     tests/engine_cases.py > crates/engine_cases/stdout

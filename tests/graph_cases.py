@@ -1,6 +1,6 @@
 #!/usr/bin/env python3
-"""The lines that the program `graph_cases` must write, from a model of document 01's commands, with note 3 of document 02, that shares
-no code with the engine.
+"""The lines that the program `graph_cases` must write, from a model of docs/ENGINE.md's commands that shares no code with
+the engine.
 
     tests/graph_cases.py > crates/graph_cases/stdout
 

@@ -1,5 +1,5 @@
 #!/usr/bin/env python3
-"""The lines that the program `lister_cases` must write, from a model of document 01 that shares no code with the lister.
+"""The lines that the program `lister_cases` must write, from a model of docs/ENGINE.md that shares no code with the lister.
 
     tests/lister_cases.py > crates/lister_cases/stdout
 

@@ -1,5 +1,6 @@
 #!/usr/bin/env python3
-"""The lines that the program `program_cases` must write, from a reader of document 01's program bytes that shares no code with the engine.
+"""The lines that the program `program_cases` must write, from a reader of docs/ENGINE.md's "Program bytes" that shares no code
+with the engine.
 
     tests/program_cases.py > crates/program_cases/stdout
 

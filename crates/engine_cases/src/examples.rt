@@ -1,5 +1,5 @@
-// Document 01's examples at the limits, each run to its end on tables of 1,024 rows; a vertex altered to a place inside a number; and edges
-// that the host writes before the step that names them (note 3 of document 02).
+// The examples at the limits (docs/ENGINE.md, "Examples"), each run to its end on tables of 1,024 rows; a vertex altered to a place inside a
+// number; and edges that the host writes before the step that names them (note 3).
 use crate::show;
 use crate::turns::ran;
 use crate::turns::turned;

@@ -67,7 +67,7 @@ by-the-rule c s free h =
     subst (λ (s' : Lent). Printed c (graph s) (graph s')) (sym (after-is c s (not-refused c s h)))
     (rule-of CycleFree c s t (leaves-acyclic c s t free))
 
--- "An edge held already is now accepted and changes nothing, tested before 35" (document 02, note 3): on a full table, on tables with a
+-- "An edge held already is now accepted and changes nothing, tested before 35" (note 3): on a full table, on tables with a
 -- cycle, and where the edge leads from a vertex to itself.
 pub held-already :
     (s : Lent) (t t1 t2 : ℕ) → sound s ≡ true → t < s .made → HasStatus s t EXECUTING → HasStatus s t2 NEW ⊎ HasStatus s t2 RELEASED
@@ -106,6 +106,6 @@ pub transfer-disjoint :
     → both ((G .edge ∖ outOf G t) a b) (resourced G t t' a b) ≡ false
 transfer-disjoint Free G t t' G' r = transferred-disjoint G t t' (r .no-edge-out)
 
--- Document 01's words for transfer's cycle, "some target of t is t' or reaches t'", are one search: t reaches t'.
+-- The customer's words for transfer's cycle, "some target of t is t' or reaches t'", are one search: t reaches t'.
 pub transfer-test : (e : List ℕ) (n t t' : ℕ) → targetReaches e n t t' ≡ reaches e n t t'
 transfer-test = target-reaches

@@ -260,7 +260,7 @@ never-due n (refused-where P m R) w (inl h) = w .0 (h .1)
 never-due n (refused-where P m R) w (inr h) = never-due n R (w .1) (h .1)
 never-due n (accepted-where P R) w h = never-due n R w (h .1)
 
--- "Refusal 34 is never given" (document 02, note 3).
+-- "Refusal 34 is never given" (note 3).
 pub never-34 : (c : Command) (s : Lent) (p : ℕ) → command c s .answer ≡ CommandSaid.refused 34 p → ⊥
 unfolding Without
 never-34 c s p h = never-due 34 (reasons c s) (without c) (command-refused c s 34 p .0 h .1)

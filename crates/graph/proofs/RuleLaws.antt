@@ -1,4 +1,4 @@
--- The sets of edges that the rules of document 002 write down, told by their members; and two graphs that agree are the same.
+-- The sets of edges that the rules of the slides write down, told by their members; and two graphs that agree are the same.
 use Prim.Native.Nat.{ℕ}
 use mathlib.Core.Path.{_≡_, sym, _∙_, ap, ap₂, subst}
 use mathlib.Core.Logic.{_⊎_, inl, inr, ⊎-elim}

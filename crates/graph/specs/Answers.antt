@@ -11,7 +11,7 @@ use Rattle.graph.specs.declared.OpenDone.{OpenDone}
 use Rattle.graph.specs.declared.Tally.{Tally}
 use Rattle.graph.specs.Tables.{Lent, lent}
 
--- What the paper has a command say. A refusal has its number and its place.
+-- What a command says. A refusal has its number and its place.
 pub data CommandSaid : Type 0 where
   start : CommandSaid
   new : ℕ → CommandSaid

@@ -1,4 +1,5 @@
--- The opening and the six commands: for each the refusals in the paper's order, and what an accepted call leaves.
+-- The opening and the six commands: for each the refusals in their order, and what an accepted call leaves (docs/ENGINE.md, "The six
+-- commands" and "Order of refusals").
 use Prim.Native.Nat.{ℕ, zero, suc, _+_, _-_, _*_}
 use mathlib.Core.Bool.{Bool, not, cond}
 use mathlib.Core.List.{List, [], _∷_, _++_}
@@ -83,7 +84,7 @@ endsRefusal s t t1 t2 own =
     callerRefusal s t t1 t2 (unless (either (hasStatus s t2 NEW) (hasStatus s t2 RELEASED)) target-not-waiting own)
 
 -- "A finished t1 adds nothing and is accepted." "An edge held already is now accepted and changes nothing, tested before 35."
--- (document 02, note 3)
+-- (note 3)
 unfoldable pub addsNothing : Lent → ℕ → ℕ → Bool
 addsNothing s t1 t2 = either (hasStatus s t1 FINISHED) (holds (s .edges) (s .held) t1 t2)
 

@@ -39,7 +39,7 @@ EdgeInto s b = (i : ℕ) × (i < s .held) × (target (s .edges) i ≡ b)
 abbrev pub EdgeHeld : Lent → ℕ → ℕ → Type 0
 EdgeHeld s a b = (i : ℕ) × (i < s .held) × ((source (s .edges) i ≡ a) × (target (s .edges) i ≡ b))
 
--- newEdge adds nothing: "A finished t1 adds nothing"; "An edge held already .. changes nothing" (document 02, note 3)
+-- newEdge adds nothing: "A finished t1 adds nothing"; "An edge held already .. changes nothing" (note 3)
 abbrev pub AddsNothing : Lent → ℕ → ℕ → Type 0
 AddsNothing s t1 t2 = HasStatus s t1 FINISHED ⊎ EdgeHeld s t1 t2
 
@@ -172,7 +172,7 @@ TransferCycle s t t' =
     (i : ℕ) × (i < s .held) × ((source (s .edges) i ≡ t) × ((target (s .edges) i ≡ t') ⊎ Reaches s (target (s .edges) i) t'))
 
 -- "newTd 30, 31; newEdge 30, 33, (finished source accepted), .. 35, 32; release 30, 36; transfer 30, 37, 38, 35; start 22, 39, 23, 21;
--- stop 30"; "An edge held already is now accepted and changes nothing, tested before 35." (document 02, note 3)
+-- stop 30"; "An edge held already is now accepted and changes nothing, tested before 35." (note 3)
 abbrev pub ownReasons : Command → Lent → Reasons
 ownReasons (NewTd t place scope) s =
     refused-where (HasStatus s t EXECUTING → ⊥) caller-not-executing

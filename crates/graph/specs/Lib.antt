@@ -1,11 +1,12 @@
--- What a reader must believe of the crate `graph`, in document 01's order:
+-- What a reader must believe of the crate `graph`, which is docs/ENGINE.md's "Tables and tally", "The six commands" and their refusals. What
+-- stands in quotation marks are the customer's words; notes are those of "Requests that changed the engine" there.
 --     Tests      the connectives of tests, and tests over the first n numbers
 --     Tables     what is lent: usable rows, the words of a row, the tally
 --     Answers    what a call answers, and its outcome
 --     Sound      refusal 12, in its parts
 --     Paths      paths of held edges, and the test that decides them
 --     Commands   the opening and the six commands
---     Rules      the rules of document 002, as its slides print them
+--     Rules      the rules of the dag-calculus, as the slides print them
 --     Demand2    the words in which demand 2 is stated of a single command, and the reasons of its refusals
 -- Nobody has to believe what stands in Internal: contracts of private functions cite it.
 pub mod Tests

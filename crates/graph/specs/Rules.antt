@@ -1,5 +1,5 @@
--- The rules of document 002, "Operational Semantics (1)" and "(2)", as the slides print them, of vertices with statuses and a
--- set of edges. A vertex's program, the memory σ and rule STEP are the host's and left out; so is the caller's own entry where a
+-- The rules "Operational Semantics (1)" and "(2)" as the slides print them (docs/ENGINE.md, "Where the rules come from"), of vertices with
+-- statuses and a set of edges. A vertex's program, the memory σ and rule STEP are the host's and left out; so is the caller's own entry where a
 -- rule leaves its status X.
 use Prim.Native.Nat.{ℕ}
 use mathlib.Core.Path.{_≡_}
@@ -63,7 +63,7 @@ added G t1 t2 a b = cond (isFinished (G .status t1)) false (both (eqb a t1) (eqb
 abbrev pub _∖_ : (ℕ → ℕ → Bool) → (ℕ → ℕ → Bool) → ℕ → ℕ → Bool
 _∖_ E D a b = both (E a b) (not (D a b))
 
--- The slides' ⊎, a plain union: "In the calculus the edges are a set" (document 02, note 3).
+-- The slides' ⊎, a plain union: "In the calculus the edges are a set" (note 3).
 abbrev pub _∪_ : (ℕ → ℕ → Bool) → (ℕ → ℕ → Bool) → ℕ → ℕ → Bool
 _∪_ E D a b = either (E a b) (D a b)
 

@@ -1,4 +1,4 @@
-// Runs the opening and the commands on many tables, and writes what each call answers and leaves: document 01's bare example, full
+// Runs the opening and the commands on many tables, and writes what each call answers and leaves: docs/ENGINE.md's bare example, full
 // and freed tables, edges named twice, on full tables and beside a cycle too, tables shorter than a row and longer than 1,024 rows, a long
 // path, stops that leave gaps, a bad word in each row, and some hundred tables of drawn words.
 // tests/graph_cases.py computes the same lines from a model of its own; `stdout` holds them.

@@ -21,7 +21,7 @@ const TRANSFER: u32 = 5;
 // 6 is stop; 7 is no call: the tally is altered
 const TALLY: u32 = 7;
 
-// Document 01's bare example with note 3 of document 02: start 0, new 1, new 2, edge 1 2; then edge 2 1 and edge 1 1 give 35; edge 1 2 is
+// The bare example (docs/ENGINE.md, "Examples"): start 0, new 1, new 2, edge 1 2; then edge 2 1 and edge 1 1 give 35; edge 1 2 is
 // taken; edge 0 1 is taken; transfer to 1 gives 38, to 2 gives 35.
 pub(crate) const BARE: [u64; 12] = [
     7_0009_0009_0009,

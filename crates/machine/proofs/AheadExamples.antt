@@ -1,5 +1,5 @@
--- Two of document 01's programs and the orders of their jobs that it names, by evaluation of `Pre`: `04 01 01 00 01 02 00 01 03 00`, "job 3
--- last", and `02 01 01 00 01 02 00`, "jobs in either order". Their jobs stand at the offsets 1, 4 and 7, and 1 and 4.
+-- Two of the example programs and the orders of their jobs (docs/ENGINE.md, "Examples"), by evaluation of `Pre`: `04 01 01 00 01 02 00 01 03
+-- 00`, "job 3 last", and `02 01 01 00 01 02 00`, "jobs in either order". Their jobs stand at the offsets 1, 4 and 7, and 1 and 4.
 use Prim.Native.Nat.{ℕ}
 use mathlib.Core.Path.{_≡_, refl}
 use mathlib.Core.Logic.{inl, inr, ⊎-elim}

@@ -1,4 +1,4 @@
--- The paper's order of jobs, `Ahead` in ways of kinds, is the order by recursion on code, `Pre`:
+-- The order of jobs as it is defined, `Ahead` in ways of kinds, is the order by recursion on code, `Pre`:
 --
 --     job-is-way      Job c p exactly if some item of the body c has a way down to p
 --     ins-is-way      InS c p exactly if some item of it has a closed way down to p
@@ -177,7 +177,7 @@ ahead-finish (c', ks, f, w) j = ahead-first (finishes ∷ ks) (down finish-holds
 ahead-fork : {m b r : Code} {p q : ℕ} → HoldsBody m forks b → ClosedWays b p → Behind m r → Ways r q → Ahead m p q
 ahead-fork h (c', ks, f, w, k) e j = ahead-first (forks ∷ ks) (down h f w) (closed-fork k) e j
 
--- the order by recursion is in the paper's
+-- the order by recursion is in the one defined
 pre-ahead : (m : Code) (p q : ℕ) → Pre m p q → Ahead m p q
 unfolding Pre
 pre-ahead (job-at o n r) p q (inl (e, j)) =
@@ -225,7 +225,7 @@ within-pre p q whole h = h
 within-pre p q (behind e i) h = behind-pre p q e (within-pre p q i h)
 within-pre p q (inside e i) h = held-pre p q e (within-pre p q i h)
 
--- the paper's order is in that by recursion
+-- the order as defined is in that by recursion
 ahead-pre : (m : Code) (p q : ℕ) → Ahead m p q → Pre m p q
 ahead-pre m p q (ahead c ks (apart r c' ks' i w e f w') k) = within-pre p q i (first-pre q w k e (from-job q f (way-job w')))
 

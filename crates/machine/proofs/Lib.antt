@@ -11,9 +11,9 @@
 --     RunDemand2      demand 2 of a run: only such steps, and how it ends
 --     LookLaws        a run turn by turn: which vertex it finds, which cannot step, and what each look comes to
 --     Examples        the examples of the table hold
---     AheadIsPre      the paper's order of jobs is the one by recursion on code that the proofs use
+--     AheadIsPre      the order of jobs as it is defined is the one by recursion on code that the proofs use
 --     AheadUnique     the body that this order looks at is the only one there is, and so the innermost
---     AheadExamples   this order, on two of document 01's programs
+--     AheadExamples   this order, on two of the example programs
 --     OrderExamples   and in every list of steps of one of them
 --     ReachedLaws     more of whatever is reached: the rows suffice, an executing vertex can step, and a step's edge is a new one
 -- In rooms of their own, each with its list:

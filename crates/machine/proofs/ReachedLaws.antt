@@ -57,7 +57,7 @@ executing-steps bytes t {s = s} r q v lt h =
     let l : v < T .state .count = subst (λ (n : ℕ). v < n) (T .follows .made-is) lt in
     free-steps bytes t r q v (status-free (T .state .control v) refl (sym (follows-status s (T .state) v (T .follows) l) ∙ h))
 
--- "A loaded program never meets this case" (document 02, note 3): an edge that a step says was not held already.
+-- "A loaded program never meets this case" (note 3): an edge that a step says was not held already.
 pub edge-is-new : (bytes : List ℕ) (t : Body) {s₀ : Lent} {answers : List StepSaid} {s : Lent} → reading bytes ≡ program t
     → Reached bytes s₀ answers s → (v a b : ℕ) → step bytes s v .answer ≡ StepSaid.edge a b → EdgeHeld s a b → ⊥
 edge-is-new bytes t {s₀} {answers} {s} r q v a b h held =

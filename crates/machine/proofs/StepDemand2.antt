@@ -291,7 +291,7 @@ step-place bytes s v n p h = there (step-refused bytes s v n p .0 h)
     there (before e b) = refl
     there {n} {p} (by-command c w e q) = refused-place c s n p q
 
--- "Refusal 34 is never given" (document 02, note 3), by a step either.
+-- "Refusal 34 is never given" (note 3), by a step either.
 pub step-never-34 : (bytes : List ℕ) (s : Lent) (v p : ℕ) → step bytes s v .answer ≡ StepSaid.refused 34 p → ⊥
 step-never-34 bytes s v p h = there (step-refused bytes s v 34 p .0 h) refl
   where

@@ -1,6 +1,7 @@
 -- The words in which demand 2 is stated of loading, of steps and of runs: "A step of a loaded program is the next command of the published
 -- encoding, taken where that command is, a run only such steps, and the reader takes exactly the programs of document 01's form, as
--- loading does where the rows they need are lent." The theorems are in proofs/LoadLaws.antt, StepDemand2.antt and RunDemand2.antt.
+-- loading does where the rows they need are lent" (docs/ENGINE.md, "The three demands"; the form is its "Program bytes"). The
+-- theorems are in proofs/LoadLaws.antt, StepDemand2.antt and RunDemand2.antt.
 use Prim.Native.Nat.{ℕ, suc, _+_, _*_, _<_, _≤_}
 use mathlib.Core.Path.{_≡_}
 use mathlib.Core.Logic.{_⊎_}

@@ -1,4 +1,4 @@
--- Demand 3, in the words of document 01's "The words of demand 3". It is proved in proofs/Demand3.antt.
+-- Demand 3: docs/ENGINE.md, "The three demands" and what it says of the words of the third. It is proved in proofs/Demand3.antt.
 use Prim.Native.Nat.{ℕ, _+_, _<_, _≤_}
 use mathlib.Core.Path.{_≡_}
 use mathlib.Core.Bool.{true, false, cond}

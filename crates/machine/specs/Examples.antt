@@ -1,5 +1,5 @@
--- Document 01's "Bench examples" that are starred, as document 02's notes change them, and examples of these notes: one table over the
--- definitions of the calls. The proof of the table is in proofs/Examples.antt.
+-- docs/ENGINE.md's "Examples", and examples of the notes of its "Requests that changed the engine": one table over the definitions of the
+-- calls. The proof of the table is in proofs/Examples.antt.
 use Prim.Native.Nat.{ℕ, _-_, _*_}
 use mathlib.Core.Path.{_≡_}
 use mathlib.Core.Bool.{Bool, true}
@@ -192,7 +192,7 @@ table =
     ∷ refuses (0x03 ∷ 0x00 ∷ []) 5 2
     -- "`01 FF FF 03 00`: job 65,535"
     ∷ comes (0x01 ∷ 0xFF ∷ 0xFF ∷ 0x03 ∷ 0x00 ∷ []) 2 (job 65535 0)
-    -- "The example `01 80 80 04 00` becomes a load with job 65,536." (document 02, note 1)
+    -- "The example `01 80 80 04 00` becomes a load with job 65,536." (note 1)
     ∷ comes (0x01 ∷ 0x80 ∷ 0x80 ∷ 0x04 ∷ 0x00 ∷ []) 2 (job 65536 0)
     -- "one to five bytes and reach 4,294,967,295": the largest number; the next one, and the largest of five bytes
     ∷ comes (0x01 ∷ 0xFF ∷ 0xFF ∷ 0xFF ∷ 0xFF ∷ 0x0F ∷ 0x00 ∷ []) 2 (job 4294967295 0)
@@ -205,7 +205,7 @@ table =
     -- "5 bytes run out, in a number before the last byte that it may have": before the fifth, and behind it no more
     ∷ refuses (0x01 ∷ 0x80 ∷ 0x80 ∷ 0x80 ∷ 0x80 ∷ []) 5 5
     ∷ refuses (0x01 ∷ 0x80 ∷ 0x80 ∷ 0x80 ∷ 0x80 ∷ 0x80 ∷ []) 2 1
-    -- "Bare: start 0, new 1, new 2, edge 1 2; then edge 2 1 and edge 1 1 give 35"; edge 1 2 is taken (document 02, note 3); "edge 0 1 is
+    -- "Bare: start 0, new 1, new 2, edge 1 2; then edge 2 1 and edge 1 1 give 35"; edge 1 2 is taken (note 3); "edge 0 1 is
     -- taken; transfer to 1 gives 38, to 2 gives 35."
     ∷ bare
     ((Start 0, of-graph.start)
@@ -219,7 +219,7 @@ table =
     ∷ (Transfer 0 1, of-graph.refused 38 0)
     ∷ (Transfer 0 2, of-graph.refused 35 0)
     ∷ [])
-    -- "An edge held already is now accepted and changes nothing, tested before 35" (document 02, note 3): on a table whose last row it
+    -- "An edge held already is now accepted and changes nothing, tested before 35" (note 3): on a table whose last row it
     -- filled; where a cycle and an edge from a vertex to itself are lent; at a step
     ∷ bare
     ((Start 0, of-graph.start)

@@ -1,4 +1,5 @@
--- What a reader must believe of the crate `machine`: document 01's plain machine, in its order, and what is proved of it.
+-- What a reader must believe of the crate `machine`: the plain machine, which is docs/ENGINE.md's "Loading and stepping" and "Runs", and what is
+-- proved of it. What stands in quotation marks are the customer's words.
 --     Answers    what a call answers, and its outcome
 --     Loading    "Loading clears the used rows and the tally, .."
 --     Stepping   "A step names a vertex."

@@ -1,4 +1,4 @@
--- What a program needs, by document 01's formulas: they are what the first edition's table of commands comes to.
+-- What a program needs, by the formulas of docs/ENGINE.md's "Limits": they are what the first edition's table of commands comes to.
 use Prim.Native.Nat.{ℕ, _+_, _*_, _<_, _≤_}
 use mathlib.Core.Path.{_≡_}
 use mathlib.Core.List.{_++_}

@@ -1,4 +1,4 @@
--- The refusals of a program's writer say what the paper says of them. A refusal names bytes that run out exactly if the program is a
+-- The refusals of a program's writer say what docs/ENGINE.md says of them. A refusal names bytes that run out exactly if the program is a
 -- proper prefix of an encoding, bytes after the end exactly if a proper prefix of it is one, and 2, 3, 4 and 7 blame, exactly, the first
 -- bytes that cannot be completed.
 use Prim.Native.Nat.{ℕ, _<_, _≤_}

@@ -1,5 +1,5 @@
--- 002's encodings: what each item does, as a table of commands. What is counted of a program, its vertices, edge rows and
--- steps, is counted from the table.
+-- The slides' encodings: what each item does, as a table of commands (docs/ENGINE.md, "Loading and stepping"). What is counted of a
+-- program, its vertices, edge rows and steps, is counted from the table.
 use Prim.Native.Nat.{ℕ, _+_, _*_}
 use mathlib.Core.List.{List, [], _∷_}
 use Rattle.program.specs.Trees.{Kind, jobs, asyncs, finishes, forks, Body, total, Counts}
@@ -118,7 +118,7 @@ edgeRowsNeeded e b = 1 + itemsWeight e links b
 unfoldable pub stepsTaken : Edition → Body → ℕ
 stepsTaken e b = 2 * verticesMade e b + itemsWeight e does b
 
--- Document 01's formulas; proofs/Formulas.antt shows that they are what the first edition's table comes to.
+-- The formulas of docs/ENGINE.md's "Limits"; proofs/Formulas.antt shows that they are what the first edition's table comes to.
 -- "V = 2 + a + 2f + 3k"
 abbrev pub vertexFormula : Counts → ℕ
 vertexFormula c = 2 + c .a + 2 * c .f + 3 * c .k

@@ -1,4 +1,5 @@
--- What a reader must believe of the crate `program`, in document 01's order:
+-- What a reader must believe of the crate `program`, which is docs/ENGINE.md's "Program bytes", and its refusals and limits. What stands in
+-- quotation marks are the customer's words.
 --     Limits      the limits on programs
 --     Trees       programs as trees, and the items that they count
 --     Bytes       the bytes of a number and of a program

@@ -1,4 +1,4 @@
--- The limits on programs, each named once. The first two are note 1's of document 02: "A number may now take one to five bytes and reach
+-- The limits on programs, each named once (docs/ENGINE.md, "Limits"). The first two are note 1's: "A number may now take one to five bytes and reach
 -- 4,294,967,295."
 use Prim.Native.Nat.{ℕ}
 

@@ -1,4 +1,4 @@
-// Document 01's programs, and some with every kind of item and of refusal, the numbers at the edges of each length among them.
+// The programs of docs/ENGINE.md's "Examples", and some with every kind of item and of refusal, the numbers at the edges of each length among them.
 use crate::show;
 use cases::bytes;
 

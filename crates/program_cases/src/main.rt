@@ -1,4 +1,4 @@
-// Reads many programs, and writes what reading answers and what stands at each place: document 01's examples, the longest, deepest
+// Reads many programs, and writes what reading answers and what stands at each place: docs/ENGINE.md's examples, the longest, deepest
 // and largest programs and those just past the limits, every program of one or two bytes, and every fifth byte of a number.
 // tests/program_cases.py computes the same lines from a reader of its own; `stdout` holds them.
 mod examples;

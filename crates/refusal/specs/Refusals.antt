@@ -1,5 +1,6 @@
--- "Refusals by who causes them": the one list of their numbers and names. The code's constants (src/lib.rt), the header and the Rust
--- wrapper have the same names; contracts hold the code's to these, and the hosts' tests compare the others with them.
+-- docs/ENGINE.md's "Refusals by who causes them", with the customer's words in quotation marks: the one list of their numbers and names.
+-- The code's constants (src/lib.rt), the header and the Rust wrapper have the same names; contracts hold the code's to these, and the
+-- hosts' tests compare the others with them.
 use Prim.Native.Nat.{ℕ}
 
 -- THE PROGRAM'S WRITER
@@ -7,7 +8,7 @@ use Prim.Native.Nat.{ℕ}
 abbrev pub length-outside : ℕ
 length-outside = 1
 
--- 2, of a number: "longer than five bytes or not shortest" (document 02, note 1)
+-- 2, of a number: "longer than five bytes or not shortest" (note 1)
 abbrev pub number-malformed : ℕ
 number-malformed = 2
 
@@ -27,7 +28,7 @@ bytes-run-out = 5
 abbrev pub bytes-after-end : ℕ
 bytes-after-end = 6
 
--- 7, of a job: "above 4,294,967,295" (document 02, note 1)
+-- 7, of a job: "above 4,294,967,295" (note 1)
 abbrev pub job-too-large : ℕ
 job-too-large = 7
 
@@ -108,7 +109,7 @@ transfer-not-new = 37
 abbrev pub transfer-has-edge-out : ℕ
 transfer-has-edge-out = 38
 
--- WHOEVER ASKS FOR A CHAIN (document 02, note 2)
+-- WHOEVER ASKS FOR A CHAIN (note 2)
 -- "41 no chain"
 abbrev pub no-chain : ℕ
 no-chain = 41
@@ -117,7 +118,7 @@ no-chain = 41
 abbrev pub list-too-short : ℕ
 list-too-short = 42
 
--- A host that asks for a command by number; document 01 has no such call.
+-- A HOST THAT ASKS FOR A COMMAND BY NUMBER
 -- no command has this number
 abbrev pub no-such-command : ℕ
 no-such-command = 99

@@ -66,5 +66,5 @@ pub const NO_CHAIN: u32 = 41;
 
 pub const LIST_TOO_SHORT: u32 = 42;
 
-// A host that asks for a command by number; document 01 has no such call.
+// A host that asks for a command by number.
 pub const NO_SUCH_COMMAND: u32 = 99;

@@ -1,4 +1,4 @@
--- A step of the lent tables is a move of the ghost machine, or it is refused for one of the paper's reasons. What the vertex
+-- A step of the lent tables is a move of the ghost machine, or it is refused for one of the reasons of a step. What the vertex
 -- is at decides which.
 use Prim.Native.Nat.{ℕ, _-_, _<_, _≤_}
 use mathlib.Core.Path.{_≡_, refl, sym, _∙_, ap, subst}

@@ -1,4 +1,4 @@
-//! Times the engine and, beside it, the implementation written from its paper: `cargo run --release -p bench` prints tables.
+//! Times the engine and, beside it, `paper`, the implementation not written from it: `cargo run --release -p bench` prints tables.
 
 use std::hint::black_box;
 use std::time::{Duration, Instant};

@@ -1,4 +1,4 @@
-//! Differential tests: the engine beside an implementation written from its paper alone. After each call the answer, every word of
+//! Differential tests: the engine beside `paper`, which was not written from it. After each call the answer, every word of
 //! both tables and of the list and the tally must be the same.
 
 pub mod counts;

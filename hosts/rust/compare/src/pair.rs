@@ -1,4 +1,4 @@
-//! Two machines side by side, the engine's and the paper's: each call is made to both, and all that came of it compared.
+//! Two machines side by side, the engine's and `paper`'s: each call is made to both, and all that came of it compared.
 
 use std::fmt::Write;
 use std::ops::Range;
@@ -53,7 +53,7 @@ const MARK: u32 = 0xA5A5_5A5A;
 pub struct Pair {
     /// Lent to both. Scenarios may change it between calls.
     pub program: Vec<u8>,
-    /// The paper's side; the engine's was the same after each call so far.
+    /// `paper`'s side; the engine's was the same after each call so far.
     state: State,
     /// Its list at this call; of no words where the call has none.
     paper_list: Vec<u32>,

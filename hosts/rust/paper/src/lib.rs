@@ -1,4 +1,4 @@
-//! The task-graph machine of document 01, with the notes of document 02, written from the papers.
+//! The task-graph machine of docs/ENGINE.md, written from the customer's paper and notes, which it quotes, and not from the engine.
 //!
 //! Every function works on lent tables of 32-bit words of any length and content and never panics.
 //! A refused call changes nothing.

@@ -1011,7 +1011,7 @@ fn any_schedule_takes_the_full_count() {
     for round in 0..1500 {
         let program = random_program(&mut dice);
         let c = counts(&program);
-        // No more rows than the paper says are needed.
+        // No more rows than are needed (docs/ENGINE.md, "Limits").
         let mut lent = Lent::rows(c.vertices() as usize, c.edge_rows() as usize);
         assert_eq!(lent.load(&program), Answer::Ready);
         let mut jobs = 0;
