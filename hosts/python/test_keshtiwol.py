@@ -563,7 +563,7 @@ class TheLibrary(unittest.TestCase):
 
 
 class TheReceiver(unittest.TestCase):
-    HEARD = "14074000 Hz\nchannel 1: Q1ABC\nchannel 2: Q2DEF\nchannel 3: Q3GHI\nchannel 4: Q4JKL\n"
+    HEARD = text_of("hosts", "receiver.expected")
 
     def test_what_it_prints(self):
         for _ in range(3):
