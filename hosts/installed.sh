@@ -19,10 +19,10 @@ else
     link="-L$prefix/lib -lkeshtiwol"
 fi
 
-"$compiler" $compile program.c $link -o with-shared-library
+$compiler $compile program.c $link -o with-shared-library
 LD_LIBRARY_PATH=$prefix/lib ./with-shared-library > said.txt
 diff "$expected" said.txt
 
-"$compiler" $compile program.c "$prefix/lib/libkeshtiwol.a" -o with-archive
+$compiler $compile program.c "$prefix/lib/libkeshtiwol.a" -o with-archive
 ./with-archive > said.txt
 diff "$expected" said.txt

@@ -9,9 +9,10 @@
  *
  * The host's part of the bargain:
  *   - lend the same bytes, tables and tally each time, with their true lengths, and let nothing else write to them during a call;
- *   - make one call at a time for the same tables (one lock around the engine is enough);
+ *   - make one call at a time for the same tables (one lock around the engine is enough); only calls that have all of them const may
+ *     go at once;
  *   - after a step says KESHTIWOL_JOB, run that job and do not step its vertex again before the job has ended.
- * Pointers must not be null, nor overlap, also where a length is 0.
+ * Pointers must not be null, also where a length is 0, and what a call may change must not overlap what else it is lent.
  *
  * A PROGRAM'S BYTES, hexadecimal; two dots give a range, braces mean any number of times, none included:
  *
@@ -21,12 +22,12 @@
  *     job     = 01 number          the host runs it
  *     async   = 02 body            goes on beside what follows it
  *     finish  = 03 body            what follows it waits for its body and all asyncs in it
- *     fork    = 04 body body       both beside each other; what follows it waits for both
+ *     fork    = 04 body body       both beside each other; what follows it waits for both, and not for asyncs in them
  *     number  = { more } last      1 to 5 bytes, the lowest seven bits first; at most 4,294,967,295
  *     more    = 80..FF             seven bits, and another byte follows
  *     last    = 00..7F             the highest seven bits; 00 only where it is the number's only byte
  *
- * 01 90 81 DB 06 is job 14,074,000. docs/ENGINE.md says all that the engine does with a program. */
+ * 01 90 81 DB 06 is job 14,074,000. The repository's docs/ENGINE.md says all that the engine does with a program. */
 #ifndef KESHTIWOL_H
 #define KESHTIWOL_H
 

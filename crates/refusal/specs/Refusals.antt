@@ -1,6 +1,6 @@
 -- docs/ENGINE.md's "Refusals by who causes them", with the customer's words in quotation marks: the one list of their numbers and names.
--- The code's constants (src/lib.rt), the header and the Rust wrapper have the same names; contracts hold the code's to these, and the
--- hosts' tests compare the others with them.
+-- The code's constants (src/lib.rt), the header and the wrappers in Rust and Python have the same names; contracts hold the code's to these,
+-- and the hosts' tests compare the others with them.
 use Prim.Native.Nat.{ℕ}
 
 -- THE PROGRAM'S WRITER

@@ -22,7 +22,7 @@ PROGRAM is one of
                                   not, 0x before them or not; # starts a comment, to the end of the line
     --hex-file PATH               a file of such text
     --file PATH                   a file of the bytes themselves
-A PATH of - is the standard input.
+A PATH of - is the standard input, or behind -o the standard output.
 
 OPTIONS of show, dot and svg
     --name JOB=WORDS    write WORDS where 'job JOB' would stand; may be given for several jobs

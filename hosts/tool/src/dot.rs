@@ -27,7 +27,9 @@ fn attributes(status: Status, lines: &[impl AsRef<str>]) -> String {
 
 /// Lines as one string, each character as itself.
 fn quoted(lines: &[impl AsRef<str>]) -> String {
-    let escaped: Vec<_> = lines.iter().map(|line| line.as_ref().replace('\\', "\\\\").replace('"', "\\\"")).collect();
+    // Graphviz reads entities in labels.
+    let escape = |line: &str| line.replace('\\', "\\\\").replace('"', "\\\"").replace('&', "&amp;");
+    let escaped: Vec<_> = lines.iter().map(|line| escape(line.as_ref())).collect();
     format!("\"{}\"", escaped.join("\\n"))
 }
 
@@ -36,7 +38,7 @@ mod tests {
     use super::*;
 
     #[test]
-    fn quotation_marks_and_backslashes() {
-        assert_eq!(quoted(&["a \"b\"", "\\n"]), r#""a \"b\"\n\\n""#);
+    fn characters_that_mean_something() {
+        assert_eq!(quoted(&["a \"b\"", "\\n", "R&amp;D"]), r#""a \"b\"\n\\n\nR&amp;amp;D""#);
     }
 }

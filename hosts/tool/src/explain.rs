@@ -166,7 +166,6 @@ mod tests {
     fn the_mark_is_under_the_byte() {
         for length in [1, 12, 23, 24, 25, 36, 37, 100, 4095] {
             for place in [0, 1, 11, 12, 13, 23, 24, 25, 35, 36, 37, 90, 4094].into_iter().filter(|&place| place < length) {
-                // Zeros end the program, so the bytes are jobs' and the one at fault has a number of its own.
                 let mut program = vec![1; length];
                 program[place] = 0x77;
                 let text = marked(&program, place);

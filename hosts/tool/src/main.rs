@@ -28,6 +28,9 @@ use keshtiwol::{Machine, PROGRAM_BYTES};
 use moment::Moment;
 use picture::Picture;
 
+/// The longest file of hexadecimal text: a program with 250 characters of comment for each byte.
+const TEXT_BYTES: usize = 1 << 20;
+
 /// Why nothing was written, in words for people.
 enum Failure {
     /// By the engine: the program, or a step that was chosen.
@@ -73,9 +76,9 @@ fn answer(arguments: Vec<OsString>) -> Result<(), Failure> {
 fn load(source: &Source) -> Result<Machine, Failure> {
     let program = match source {
         Source::Text(text) => from_text(text)?,
-        Source::TextFile(path) => from_text(&String::from_utf8_lossy(&read(path, u64::MAX)?))?,
+        Source::TextFile(path) => from_text(&text_of(path)?)?,
         // One byte more than a program may have, so that a longer file is refused and an endless one is not read on.
-        Source::ByteFile(path) => read(path, PROGRAM_BYTES as u64 + 1)?,
+        Source::ByteFile(path) => read(path, PROGRAM_BYTES + 1)?,
     };
     Machine::load(&program).map_err(|refusal| Failure::Refused(explain::explain(&program, refusal)))
 }
@@ -84,8 +87,17 @@ fn from_text(text: &str) -> Result<Vec<u8>, Failure> {
     hex::bytes(text).map_err(|malformed| Failure::CommandLine(malformed.to_string()))
 }
 
+fn text_of(path: &Path) -> Result<String, Failure> {
+    let text = read(path, TEXT_BYTES + 1)?;
+    if text.len() > TEXT_BYTES {
+        return Err(Failure::File(format!("{} has more than {TEXT_BYTES} bytes of text", path.display())));
+    }
+    Ok(String::from_utf8_lossy(&text).into_owned())
+}
+
 /// The file's first bytes, or the standard input's.
-fn read(path: &Path, most: u64) -> Result<Vec<u8>, Failure> {
+fn read(path: &Path, most: usize) -> Result<Vec<u8>, Failure> {
+    let most = most as u64;
     let mut bytes = Vec::new();
     let all = if path == Path::new("-") {
         io::stdin().take(most).read_to_end(&mut bytes)
@@ -98,6 +110,7 @@ fn read(path: &Path, most: u64) -> Result<Vec<u8>, Failure> {
 
 /// Writes to the file, or to the standard output. A reader that has left has had enough.
 fn write(out: Option<PathBuf>, text: &str) -> Result<(), Failure> {
+    let out = out.filter(|path| path != Path::new("-"));
     let written = match &out {
         Some(path) => fs::write(path, text),
         None => io::stdout().write_all(text.as_bytes()).and_then(|()| io::stdout().flush()),

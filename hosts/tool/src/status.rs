@@ -1,6 +1,6 @@
 //! A vertex's status, in words and colours.
 
-use keshtiwol::{VERTEX_EXECUTING, VERTEX_NEW, VERTEX_RELEASED};
+use keshtiwol::{VERTEX_EXECUTING, VERTEX_FINISHED, VERTEX_NEW, VERTEX_RELEASED};
 
 #[derive(Clone, Copy, Debug, PartialEq, Eq)]
 pub enum Status {
@@ -26,7 +26,8 @@ impl Status {
             VERTEX_NEW => Status::New,
             VERTEX_RELEASED => Status::Released,
             VERTEX_EXECUTING => Status::Executing,
-            _ => Status::Finished,
+            VERTEX_FINISHED => Status::Finished,
+            _ => unreachable!("the engine has no status {word}"),
         }
     }
 

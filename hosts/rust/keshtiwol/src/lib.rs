@@ -231,7 +231,7 @@ pub fn lowest(program: &[u8], vertices: &[u32], edges: &[u32], tally: &Tally) ->
     let (no_vertex, no_edge) = ([0], [0]);
     let (vertices, vertex_words) = (start(vertices, &no_vertex), vertices.len());
     let (edges, edge_words) = (start(edges, &no_edge), edges.len());
-    // SAFETY: as in `load`. Everything is shared, so it may overlap, but the engine only reads it.
+    // SAFETY: as in `load`. Everything is shared, so it may overlap, and other threads may ask too, but the engine only reads it.
     let reply = unsafe { raw::keshtiwol_lowest(start(program, &[0]), program.len(), vertices, vertex_words, edges, edge_words, tally) };
     match reply.said {
         raw::VERTEX => Lowest::Vertex(reply.first),

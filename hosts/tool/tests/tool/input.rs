@@ -42,6 +42,8 @@ fn an_endless_file_is_refused() {
     let said = keshtiwol(&["check", "--file", "/dev/zero"], b"");
     assert_eq!(said.status, 1);
     assert!(said.error.contains("It has at least 4097 bytes."), "{}", said.error);
+    let said = keshtiwol(&["check", "--hex-file", "/dev/zero"], b"");
+    assert_eq!((said.status, said.error.as_str()), (2, "keshtiwol: /dev/zero has more than 1048576 bytes of text\n"));
 }
 
 #[test]

@@ -201,7 +201,7 @@ fn names_are_escaped() {
     assert!(svg.texts.iter().any(|text| text.text == line), "{:?}", svg.texts);
     svg.fits();
     let dot = written(&[&["dot"], &arguments[..]].concat(), b"");
-    assert!(dot.contains(r#"\nfirst: <a> & \"b\" \\n é (byte 0)", fillcolor"#), "{dot}");
+    assert!(dot.contains(r#"\nfirst: <a> &amp; \"b\" \\n é (byte 0)", fillcolor"#), "{dot}");
     graphviz(&dot);
 }
 

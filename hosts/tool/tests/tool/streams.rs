@@ -1,10 +1,10 @@
-//! Standard output that can't be written.
+//! Where the tool writes, and standard output that can't be written.
 
 use std::fs::File;
 use std::io::Read;
 use std::process::Stdio;
 
-use crate::tool;
+use crate::{tool, written};
 
 /// 1,022 asyncs, as text: a picture that no pipe holds whole.
 fn large() -> String {
@@ -19,6 +19,11 @@ fn a_reader_that_leaves_is_no_failure() {
     drop(out);
     let output = child.wait_with_output().unwrap();
     assert_eq!((output.status.code(), output.stderr), (Some(0), vec![]));
+}
+
+#[test]
+fn a_dash_is_the_standard_output() {
+    assert_eq!(written(&["dot", "00", "-o", "-"], b""), written(&["dot", "00"], b""));
 }
 
 #[test]
