@@ -14,6 +14,7 @@
 --     Entry        the law, over any further parameters
 --     Meeting      from a walk to the contract, for any entry and its core
 --     Passing      the law at each list of parameters that an entry has, from the core's contract to the entry's
+--     Shared       what the laws share of the entries that have the tally by `&`
 --     Reading      the law of the entries that only read the tally, which is one list of parameters: its code, its walk and the law
 pub mod Results
 pub mod Code
@@ -25,4 +26,5 @@ pub mod Parts
 pub mod Entry
 pub mod Meeting
 pub mod Passing
+pub mod Shared
 pub mod Reading

@@ -2,7 +2,7 @@
 use mathlib.Core.Path.{refl}
 use denote.Struct.Laws as LL
 use Rattle.graph.proofs.Thin.Results.{Results, resultsOf}
-use Rattle.graph.proofs.Thin.Reading.{Returned}
+use Rattle.graph.proofs.Thin.Shared.{Returned}
 use Rattle.keshtiwol.proofs.Reply as A
 use Rattle.keshtiwol.proofs.Reply.Laws as A′
 use Rattle.keshtiwol.proofs.ReplyDone as AD

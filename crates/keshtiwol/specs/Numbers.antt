@@ -1,4 +1,4 @@
--- Which numbers stand for which answer and for which command where hosts in C and Rust are told, and what a call's reply tells. The
+-- Which numbers stand for which answer and for which command where hosts are told, what a call's reply tells, and the library's version. The
 -- declarations in include/keshtiwol.h have the same numbers.
 use Prim.Native.Nat.{ℕ}
 use mathlib.Core.Path.{_≡_}

@@ -1,4 +1,4 @@
-// The engine for hosts in C and Rust: each call under a plain name, with pointers and lengths, the tally behind a pointer, and an answer of
+// The engine for hosts in C, Rust and Python: each call under a plain name, with pointers and lengths, the tally behind a pointer, and an answer of
 // plain numbers. `include/keshtiwol.h` declares them. Each is thin, over the by-value core of its name in `cores`.
 mod cores;
 mod replies;

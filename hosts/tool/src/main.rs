@@ -1,6 +1,7 @@
 //! A command-line program over the engine: shows, lists, checks and draws programs, and explains why one is refused. `keshtiwol --help`
 //! tells how.
 
+mod answers;
 mod arguments;
 mod bodies;
 mod dot;
@@ -8,7 +9,6 @@ mod explain;
 mod hex;
 mod items;
 mod layout;
-mod listing;
 mod moment;
 mod names;
 mod number;
@@ -56,11 +56,11 @@ fn main() -> ExitCode {
 fn answer(arguments: Vec<OsString>) -> Result<(), Failure> {
     match arguments::read(arguments).map_err(Failure::CommandLine)? {
         Request::Help => write(None, arguments::HELP),
-        Request::Version => write(None, &listing::versions()),
-        Request::Job(number) => write(None, &listing::job(number)),
+        Request::Version => write(None, &answers::versions()),
+        Request::Job(number) => write(None, &answers::job(number)),
         Request::Show { source, names } => write(None, &outline::outline(load(&source)?.program(), &names)),
-        Request::List(source) => write(None, &listing::listing(load(&source)?)),
-        Request::Check(source) => write(None, &listing::summary(load(&source)?.program())),
+        Request::List(source) => write(None, &answers::listing(load(&source)?)),
+        Request::Check(source) => write(None, &answers::summary(load(&source)?.program())),
         Request::Draw { source, form, schedule, names, out } => {
             let moment = Moment::reach(load(&source)?, &schedule).map_err(|step| Failure::Refused(step.to_string()))?;
             let picture = Picture::of(&moment, &names);

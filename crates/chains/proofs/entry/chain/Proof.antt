@@ -3,7 +3,8 @@
 -- Assumes nothing.
 use mathlib.Core.Path.{_≡_}
 use denote.Enum.Laws as EL
-use Rattle.graph.proofs.Thin.Reading.{Returned, reading-meets}
+use Rattle.graph.proofs.Thin.Shared.{Returned}
+use Rattle.graph.proofs.Thin.Reading.{reading-meets}
 use Rattle.chains.specs.Showing.{answered, showChain}
 use Rattle.chains.proofs.Answer as N
 use Rattle.chains.proofs.Answer.Laws as N′

@@ -1,4 +1,4 @@
-//! What is told as text: the steps of a whole run, what a program holds and needs, a job's bytes, and the versions.
+//! The answers that are plain text: the steps of a whole run, what a program holds and needs, a job's bytes, and the versions.
 
 use keshtiwol::{Answer, Lowest, Machine};
 
