@@ -10,6 +10,7 @@ from cases import next_state, total
 from rows import EDGE_TABLE, EDGE_WORDS, USABLE, VERTEX_TABLE, VERTEX_WORDS
 
 NEW, RELEASED, EXECUTING, FINISHED = 1, 2, 3, 4
+FUTURE = 7
 
 
 class Refused(Exception):
@@ -70,7 +71,9 @@ class Machine:
         self.begin(t)
         self.need(self.status(t) == EXECUTING, 30)
         self.need(self.made < self.vertex_rows(), 31)
-        self.v[VERTEX_WORDS * self.made : VERTEX_WORDS * (self.made + 1)] = [NEW, place, scope] + [0] * (VERTEX_WORDS - 3)
+        row = [NEW, place, scope] + [0] * (VERTEX_WORDS - 3)
+        row[FUTURE] = self.v[VERTEX_WORDS * t + FUTURE]
+        self.v[VERTEX_WORDS * self.made : VERTEX_WORDS * (self.made + 1)] = row
         self.made += 1
         return f"new {self.made - 1}"
 
@@ -154,7 +157,7 @@ def words(count, draw, low):
 
 
 def drawn(seed, repeats):
-    vertices, d = words(4 * VERTEX_WORDS + 4, Draw(seed), 1)
+    vertices, d = words(5 * VERTEX_WORDS + 4, Draw(seed), 1)
     if seed % 4 != 0:
         vertices[0] = EXECUTING
     edges, d = words(5 * EDGE_WORDS, d, 0)
@@ -189,6 +192,9 @@ def run(machine, calls):
         word, *numbers = line.split()
         if word == "tally":
             machine.made, machine.held, machine.steps = map(int, numbers)
+        elif word == "future":
+            vertex, future = map(int, numbers)
+            machine.v[VERTEX_WORDS * vertex + FUTURE] = future
         else:
             machine.call(word, *map(int, numbers))
 
@@ -285,6 +291,29 @@ tally 6 7 9000
 edge 0 2 1
 tally 5 7 0
 edge 0 1 2""")
+print("futures")
+run(Machine([77] * (6 * VERTEX_WORDS + 2), [77] * EDGE_WORDS), """open
+start 0
+new 0 8 0
+future 0 5
+new 0 9 1
+future 1 6
+future 2 7
+release 0 1
+start 1
+new 1 2 0
+future 3 9999
+new 0 1 3
+new 2 1 0
+new 5 1 0
+future 0 0
+new 0 4 1
+new 1 0 0
+stop 0
+stop 1
+open
+start 0
+new 0 1 1""")
 print("short")
 run(Machine([2] * (VERTEX_WORDS - 1), [2] * (EDGE_WORDS - 1)), """open
 start 0

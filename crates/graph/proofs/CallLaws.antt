@@ -179,6 +179,10 @@ newTd-room s t h =
     let free : s .made < vertexRows (s .vertices) = taken (NewTd t 0 0) s .0 h .1 in
     omega arith
 
+-- and the caller's row, whose future is copied
+pub maker-room : (s : Lent) (t : ℕ) → newTdRefusal s t ≡ 0 → vertexWords * t + vertexWords ≤ length (s .vertices)
+maker-room s t h = let k = taken (NewTd t 0 0) s .0 h in row-room s t (k .0 .known) (k .0 .is-made)
+
 pub append-room : (e : List ℕ) (n t1 t2 : ℕ) → appendRefusal e n t1 t2 ≡ 0 → (edgeWords * n + edgeWords ≤ length e) × (n < usableLimit)
 append-room e n t1 t2 h =
     let free : n < edgeRows e = taken-append e n t1 t2 .0 h .2 in

@@ -24,13 +24,13 @@ runs-shown s t r = shown-as (s .vertices) (s .made) t EXECUTING (r .is-made) (r 
 pub inside : (s : Lent) (t : ℕ) → Fits s → Inside (graph s) t
 inside s t f b h = shown-domain (s .vertices) (s .made) b (f .ends-made t b h .1)
 
-newTd-rule : (s : Lent) (t place scope : ℕ) → Taken (NewTd t place scope) s → NEWTD (graph s) t (s .made) (graph (withVertex s place scope))
+newTd-rule : (s : Lent) (t place scope : ℕ) → Taken (NewTd t place scope) s → NEWTD (graph s) t (s .made) (graph (withVertex s t place scope))
 unfolding withVertex
 newTd-rule s t place scope h =
     record {
       caller = runs-shown s t (h .0);
       fresh = shown-not (s .vertices) (s .made) (s .made) (omega arith);
-      after = same-graph (shown-new (s .vertices) (s .made) place scope (h .1)) (λ a b. refl);
+      after = same-graph (shown-new (s .vertices) (s .made) place scope _ (h .1)) (λ a b. refl);
     }
 
 release-rule : (s : Lent) (t t' : ℕ) → Taken (Release t t') s → RELEASE (graph s) t t' (graph (withStatus s t' RELEASED))

@@ -76,17 +76,18 @@ shown-set v n k y lt le =
     (λ x ne. ap (λ (z : ℕ). cond (ltb x n) (some z) none) (status-other v k y x ne))
 
 -- a vertex that is made
-pub shown-new : (v : List ℕ) (n place scope : ℕ) → n < vertexRows v → (x : ℕ) → shown (newRow v n place scope) (n + 1) x ≡ put (shown v n) n N x
-shown-new v n place scope lt =
-    put-is (shown (newRow v n place scope) (n + 1)) (shown v n) N n
-    (shown-as (newRow v n place scope) (n + 1) n NEW (omega arith) (newRow-status v n place scope lt))
+pub shown-new :
+    (v : List ℕ) (n place scope future : ℕ) → n < vertexRows v → (x : ℕ) → shown (newRow v n place scope future) (n + 1) x ≡ put (shown v n) n N x
+shown-new v n place scope future lt =
+    put-is (shown (newRow v n place scope future) (n + 1)) (shown v n) N n
+    (shown-as (newRow v n place scope future) (n + 1) n NEW (omega arith) (newRow-status v n place scope future lt))
     (λ x ne.
     ⊎-elim
     (λ h.
     let l : x < n = ltb-true x n h in
-    shown-as (newRow v n place scope) (n + 1) x (status v x) (omega arith) (newRow-other v n place scope x statusWord (omega arith) ne)
+    shown-as (newRow v n place scope future) (n + 1) x (status v x) (omega arith) (newRow-other v n place scope future x statusWord (omega arith) ne)
     ∙ sym (shown-made v n x l))
     (λ h.
     let g : n ≤ x = ltb-false x n h in
-    shown-not (newRow v n place scope) (n + 1) x (omega arith) ∙ sym (shown-not v n x g))
+    shown-not (newRow v n place scope future) (n + 1) x (omega arith) ∙ sym (shown-not v n x g))
     (decide (ltb x n)))

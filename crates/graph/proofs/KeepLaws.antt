@@ -29,12 +29,12 @@ set-known v n k x lt le p q j lj =
     (equal? j k)
 
 new-known :
-    (v : List ℕ) (n place scope : ℕ) → n < vertexRows v → ((j : ℕ) → j < n → Known (status v j)) → (j : ℕ) → j < n + 1
-    → Known (status (newRow v n place scope) j)
-new-known v n place scope lt q j lj =
+    (v : List ℕ) (n place scope future : ℕ) → n < vertexRows v → ((j : ℕ) → j < n → Known (status v j)) → (j : ℕ) → j < n + 1
+    → Known (status (newRow v n place scope future) j)
+new-known v n place scope future lt q j lj =
     ⊎-elim
-    (λ z. rw z (omega (arith, newRow-status v n place scope lt)))
-    (λ ne. rw (newRow-other v n place scope j statusWord (omega arith) ne) (q j (omega arith)))
+    (λ z. rw z (omega (arith, newRow-status v n place scope future lt)))
+    (λ ne. rw (newRow-other v n place scope future j statusWord (omega arith) ne) (q j (omega arith)))
     (equal? j n)
 
 withStatus-fits : (s : Lent) (k x : ℕ) → k < s .made → Known x → Fits s → Fits (withStatus s k x)
@@ -46,13 +46,13 @@ withStatus-fits s k x lt known f =
       ends-made = f .ends-made;
     }
 
-withVertex-fits : (s : Lent) (place scope : ℕ) → s .made < vertexRows (s .vertices) → Fits s → Fits (withVertex s place scope)
+withVertex-fits : (s : Lent) (t place scope : ℕ) → s .made < vertexRows (s .vertices) → Fits s → Fits (withVertex s t place scope)
 unfolding withVertex
-withVertex-fits s place scope lt f =
+withVertex-fits s t place scope lt f =
     record {
       vertices-fit = rw length-newRow (omega arith);
       edges-fit = f .edges-fit;
-      statuses-known = new-known (s .vertices) (s .made) place scope lt (f .statuses-known);
+      statuses-known = new-known (s .vertices) (s .made) place scope _ lt (f .statuses-known);
       ends-made = λ a b h. let made = f .ends-made a b h in omega arith;
     }
 
@@ -98,7 +98,7 @@ stopped-fits s t lt f =
 
 -- sound tables stay sound
 pub leaves-fits : (c : Command) (s : Lent) → Taken c s → Fits (leaves c s)
-leaves-fits (NewTd t place scope) s h = withVertex-fits s place scope (h .1) (sound-fits s (h .0 .known))
+leaves-fits (NewTd t place scope) s h = withVertex-fits s t place scope (h .1) (sound-fits s (h .0 .known))
 leaves-fits (NewEdge t t1 t2) s h =
     ⊎-elim
     (λ p. rw (leaves-all s t t1 t2 p) (sound-fits s (h .0 .known)))

@@ -10,8 +10,8 @@ use lib.ListN.{length, getD, set, drop, replicate, length-set, length-append, le
 use lib.Seq.{getD-set-same, getD-set-other, getD-append-add, getD-drop}
 use lib.Dec.{eqb, ltb}
 use borrow.Author.Tests.{eq-eqb, ne-eqb, ltb-true, ltb-false}
-use Rattle.graph.specs.Tables.{NEW, vertexWords, edgeWords, statusWord, placeWord, scopeWord, sourceWord, targetWord, vertexRows}
-use Rattle.graph.specs.Tables.{edgeRows, vertexWord, edgeWord, status, setStatus, setVertexWord, setEdgeWord, source, target, clear}
+use Rattle.graph.specs.Tables.{NEW, vertexWords, edgeWords, statusWord, placeWord, scopeWord, futureWord, sourceWord, targetWord}
+use Rattle.graph.specs.Tables.{vertexRows, edgeRows, vertexWord, edgeWord, status, setStatus, setVertexWord, setEdgeWord, source, target, clear}
 use Rattle.graph.specs.Commands.{newRow, appended, movedRow, moved, keptRows, kept, withoutEdgesOf}
 use Rattle.graph.proofs.TestLaws.{decide, equal?}
 
@@ -66,7 +66,7 @@ clear-out l from (suc n) i f =
     getD-set-other (clear l from n) (from + n) i 0 0 (λ q. f (omega arith))
     ∙ clear-out l from n i (λ q. f (q .0, omega arith))
 
--- the row that newTd makes: cleared, then new, then with its place, then with its scope
+-- the row that newTd makes: cleared, then new, then with its place, then with its scope, then with its future
 abbrev cleared : List ℕ → ℕ → List ℕ
 cleared v k = clear v (vertexWords * k) vertexWords
 
@@ -76,52 +76,69 @@ asNew v k = setStatus (cleared v k) k NEW
 abbrev placed : List ℕ → ℕ → ℕ → List ℕ
 placed v k place = setVertexWord (asNew v k) k placeWord place
 
-module _ (v : List ℕ) (k place scope : ℕ) where
-  pub length-newRow : length (newRow v k place scope) ≡ length v
+abbrev scoped : List ℕ → ℕ → ℕ → ℕ → List ℕ
+scoped v k place scope = setVertexWord (placed v k place) k scopeWord scope
+
+module _ (v : List ℕ) (k place scope future : ℕ) where
+  pub length-newRow : length (newRow v k place scope future) ≡ length v
   unfolding newRow
   length-newRow = simp (length-set, length-clear)
 
-  -- a word of the row that is set by none of the three
+  -- a word of the row that is set by none of the four
   newRow-word :
       (i : ℕ) → (i ≡ vertexWords * k + statusWord → ⊥) → (i ≡ vertexWords * k + placeWord → ⊥) → (i ≡ vertexWords * k + scopeWord → ⊥)
-      → getD (newRow v k place scope) i 0 ≡ getD (cleared v k) i 0
+      → (i ≡ vertexWords * k + futureWord → ⊥) → getD (newRow v k place scope future) i 0 ≡ getD (cleared v k) i 0
   unfolding newRow
-  newRow-word i ns np nc =
-      getD-set-other (placed v k place) (vertexWords * k + scopeWord) i scope 0 nc
+  newRow-word i ns np nc nf =
+      getD-set-other (scoped v k place scope) (vertexWords * k + futureWord) i future 0 nf
+      ∙ getD-set-other (placed v k place) (vertexWords * k + scopeWord) i scope 0 nc
       ∙ getD-set-other (asNew v k) (vertexWords * k + placeWord) i place 0 np
       ∙ getD-set-other (cleared v k) (vertexWords * k + statusWord) i NEW 0 ns
 
   -- outside the row nothing changes
-  pub newRow-out : (i : ℕ) → ((vertexWords * k ≤ i) × (i < vertexWords * k + vertexWords) → ⊥) → getD (newRow v k place scope) i 0 ≡ getD v i 0
+  pub newRow-out :
+      (i : ℕ) → ((vertexWords * k ≤ i) × (i < vertexWords * k + vertexWords) → ⊥) → getD (newRow v k place scope future) i 0 ≡ getD v i 0
   newRow-out i f =
-      newRow-word i (λ q. f (omega arith)) (λ q. f (omega arith)) (λ q. f (omega arith))
+      newRow-word i (λ q. f (omega arith)) (λ q. f (omega arith)) (λ q. f (omega arith)) (λ q. f (omega arith))
       ∙ clear-out v (vertexWords * k) vertexWords i f
 
-  pub newRow-other : (x w : ℕ) → w < vertexWords → (x ≡ k → ⊥) → vertexWord (newRow v k place scope) x w ≡ vertexWord v x w
+  pub newRow-other : (x w : ℕ) → w < vertexWords → (x ≡ k → ⊥) → vertexWord (newRow v k place scope future) x w ≡ vertexWord v x w
   newRow-other x w lw ne = newRow-out (vertexWords * x + w) (λ q. ne (omega arith))
 
   -- the words of the row
-  pub newRow-status : k < vertexRows v → status (newRow v k place scope) k ≡ NEW
+  pub newRow-status : k < vertexRows v → status (newRow v k place scope future) k ≡ NEW
   unfolding newRow
   newRow-status lt =
-      getD-set-other (placed v k place) (vertexWords * k + scopeWord) (vertexWords * k + statusWord) scope 0 (omega arith)
+      getD-set-other (scoped v k place scope) (vertexWords * k + futureWord) (vertexWords * k + statusWord) future 0 (omega arith)
+      ∙ getD-set-other (placed v k place) (vertexWords * k + scopeWord) (vertexWords * k + statusWord) scope 0 (omega arith)
       ∙ getD-set-other (asNew v k) (vertexWords * k + placeWord) (vertexWords * k + statusWord) place 0 (omega arith)
       ∙ getD-set-same (cleared v k) (vertexWords * k + statusWord) NEW 0 (rw length-clear (vertex-in v k statusWord lt (omega arith)))
 
-  pub newRow-place : k < vertexRows v → vertexWord (newRow v k place scope) k placeWord ≡ place
+  pub newRow-place : k < vertexRows v → vertexWord (newRow v k place scope future) k placeWord ≡ place
   unfolding newRow
   newRow-place lt =
-      getD-set-other (placed v k place) (vertexWords * k + scopeWord) (vertexWords * k + placeWord) scope 0 (omega arith)
+      getD-set-other (scoped v k place scope) (vertexWords * k + futureWord) (vertexWords * k + placeWord) future 0 (omega arith)
+      ∙ getD-set-other (placed v k place) (vertexWords * k + scopeWord) (vertexWords * k + placeWord) scope 0 (omega arith)
       ∙ getD-set-same (asNew v k) (vertexWords * k + placeWord) place 0 (simp (length-set, length-clear) (vertex-in v k placeWord lt (omega arith)))
 
-  pub newRow-scope : k < vertexRows v → vertexWord (newRow v k place scope) k scopeWord ≡ scope
+  pub newRow-scope : k < vertexRows v → vertexWord (newRow v k place scope future) k scopeWord ≡ scope
   unfolding newRow
   newRow-scope lt =
-      getD-set-same (placed v k place) (vertexWords * k + scopeWord) scope 0 (simp (length-set, length-clear) (vertex-in v k scopeWord lt (omega arith)))
+      getD-set-other (scoped v k place scope) (vertexWords * k + futureWord) (vertexWords * k + scopeWord) future 0 (omega arith)
+      ∙ getD-set-same (placed v k place) (vertexWords * k + scopeWord) scope 0
+      (simp (length-set, length-clear) (vertex-in v k scopeWord lt (omega arith)))
 
-  pub newRow-zero : (w : ℕ) → w < vertexWords → (w ≡ statusWord → ⊥) → (w ≡ placeWord → ⊥) → (w ≡ scopeWord → ⊥) → vertexWord (newRow v k place scope) k w ≡ 0
-  newRow-zero w lw ns np nc =
-      newRow-word (vertexWords * k + w) (λ q. ns (omega arith)) (λ q. np (omega arith)) (λ q. nc (omega arith))
+  pub newRow-future : k < vertexRows v → vertexWord (newRow v k place scope future) k futureWord ≡ future
+  unfolding newRow
+  newRow-future lt =
+      getD-set-same (scoped v k place scope) (vertexWords * k + futureWord) future 0
+      (simp (length-set, length-clear) (vertex-in v k futureWord lt (omega arith)))
+
+  pub newRow-zero :
+      (w : ℕ) → w < vertexWords → (w ≡ statusWord → ⊥) → (w ≡ placeWord → ⊥) → (w ≡ scopeWord → ⊥) → (w ≡ futureWord → ⊥)
+      → vertexWord (newRow v k place scope future) k w ≡ 0
+  newRow-zero w lw ns np nc nf =
+      newRow-word (vertexWords * k + w) (λ q. ns (omega arith)) (λ q. np (omega arith)) (λ q. nc (omega arith)) (λ q. nf (omega arith))
       ∙ clear-in v (vertexWords * k) vertexWords (vertexWords * k + w) (omega arith) (omega arith)
 
 -- the row that newEdge appends

@@ -43,7 +43,7 @@ says (Start t) s = CommandSaid.start
 says (Stop t) s = CommandSaid.stop
 
 abbrev pub leaves : Command → Lent → Lent
-leaves (NewTd t place scope) s = withVertex s place scope
+leaves (NewTd t place scope) s = withVertex s t place scope
 leaves (NewEdge t t1 t2) s = cond (addsNothing s t1 t2) s (withEdge s t1 t2)
 leaves (Release t t') s = withStatus s t' RELEASED
 leaves (Transfer t t') s = withMoved s t t'

@@ -15,7 +15,7 @@ use Rattle.graph.specs.Tables.{Lent, RELEASED, EXECUTING, FINISHED, vert
 use Rattle.graph.specs.Commands.{addsNothing, withVertex, withEdge, withMoved, moved, stopped}
 use Rattle.graph.specs.Demand2.{VertexWordOf, EdgeWordOf, SameBut, NewRowOf}
 use Rattle.graph.proofs.TestLaws.{true-false, decide, equal?}
-use Rattle.graph.proofs.TableLaws.{length-newRow, newRow-out, newRow-status, newRow-place, newRow-scope, newRow-zero}
+use Rattle.graph.proofs.TableLaws.{length-newRow, newRow-out, newRow-status, newRow-place, newRow-scope, newRow-future, newRow-zero}
 use Rattle.graph.proofs.TableLaws.{length-appended, appended-out, length-moved, moved-out, moved-rest, length-without, without-later}
 use Rattle.graph.proofs.TakenLaws.{leaves, Taken, adds-nothing}
 
@@ -43,7 +43,7 @@ moved-else t t' e n i le f =
 
 pub vertex-words-of : (c : Command) (s : Lent) → SameBut (VertexWordOf c s) (s .vertices) (leaves c s .vertices)
 unfolding withVertex withEdge withMoved stopped
-vertex-words-of (NewTd t place scope) s = (length-newRow (s .vertices) (s .made) place scope, newRow-out (s .vertices) (s .made) place scope)
+vertex-words-of (NewTd t place scope) s = (length-newRow (s .vertices) (s .made) place scope _, newRow-out (s .vertices) (s .made) place scope _)
 vertex-words-of (NewEdge t t1 t2) s = go (addsNothing s t1 t2)
   where
     go : (b : Bool) → SameBut (λ i. ⊥) (s .vertices) (cond b s (withEdge s t1 t2) .vertices)
@@ -78,10 +78,11 @@ pub new-row-of : (c : Command) (s : Lent) → Taken c s → NewRowOf c s (leaves
 unfolding withVertex
 new-row-of (NewTd t place scope) s h =
     record {
-      is-new = newRow-status (s .vertices) (s .made) place scope (h .1);
-      has-place = newRow-place (s .vertices) (s .made) place scope (h .1);
-      has-scope = newRow-scope (s .vertices) (s .made) place scope (h .1);
-      others-zero = newRow-zero (s .vertices) (s .made) place scope;
+      is-new = newRow-status (s .vertices) (s .made) place scope _ (h .1);
+      has-place = newRow-place (s .vertices) (s .made) place scope _ (h .1);
+      has-scope = newRow-scope (s .vertices) (s .made) place scope _ (h .1);
+      has-future = newRow-future (s .vertices) (s .made) place scope _ (h .1);
+      others-zero = newRow-zero (s .vertices) (s .made) place scope _;
     }
 new-row-of (NewEdge t t1 t2) s h = tt
 new-row-of (Release t t') s h = tt

@@ -8,8 +8,9 @@ use lib.Dec.{eqb, ltb}
 use Rattle.graph.specs.declared.Command.{Command}
 use Rattle.graph.specs.declared.Command.the-variants.{NewTd, NewEdge, Release, Transfer, Start, Stop}
 use Rattle.graph.specs.Tests.{both, either, any}
-use Rattle.graph.specs.Tables.{Lent, NEW, RELEASED, EXECUTING, FINISHED, vertexWords, edgeWords, placeWord, scopeWord, sourceWord}
-use Rattle.graph.specs.Tables.{targetWord, vertexRows, edgeRows, status, setStatus, setVertexWord, setEdgeWord, source, target, clear}
+use Rattle.graph.specs.Tables.{Lent, NEW, RELEASED, EXECUTING, FINISHED, vertexWords, edgeWords, placeWord, scopeWord, futureWord}
+use Rattle.graph.specs.Tables.{sourceWord, targetWord, vertexRows, edgeRows, vertexWord, status, setStatus, setVertexWord, setEdgeWord}
+use Rattle.graph.specs.Tables.{source, target, clear}
 use Rattle.refusal.specs.Refusals.{too-few-vertex-rows, unsound-tables, no-such-vertex, edge-leads-in, vertex-is-new, vertex-is-finished}
 use Rattle.refusal.specs.Refusals.{vertex-is-executing, caller-not-executing}
 use Rattle.refusal.specs.Refusals.{no-vertex-row, no-edge-row, target-not-waiting, closes-cycle, release-not-new}
@@ -57,18 +58,19 @@ callerRefusal s t a b own =
 unfoldable pub newTdRefusal : Lent → ℕ → ℕ
 newTdRefusal s t = callerRefusal s t t t (unless (ltb (s .made) (vertexRows (s .vertices))) no-vertex-row 0)
 
-unfoldable pub newRow : List ℕ → ℕ → ℕ → ℕ → List ℕ
-newRow v k place scope =
+unfoldable pub newRow : List ℕ → ℕ → ℕ → ℕ → ℕ → List ℕ
+newRow v k place scope future =
     setVertexWord
-    (setVertexWord (setStatus (clear v (vertexWords * k) vertexWords) k NEW) k placeWord place)
+    (setVertexWord (setVertexWord (setStatus (clear v (vertexWords * k) vertexWords) k NEW) k placeWord place) k scopeWord scope)
     k
-    scopeWord
-    scope
+    futureWord
+    future
 
-unfoldable pub withVertex : Lent → ℕ → ℕ → Lent
-withVertex s place scope =
+-- "the latest open future, copied from the maker by newTd" (note 5): t, the caller, is the maker
+unfoldable pub withVertex : Lent → ℕ → ℕ → ℕ → Lent
+withVertex s t place scope =
     record {
-      vertices = newRow (s .vertices) (s .made) place scope;
+      vertices = newRow (s .vertices) (s .made) place scope (vertexWord (s .vertices) t futureWord);
       edges = s .edges;
       made = s .made + 1;
       held = s .held;
@@ -76,7 +78,7 @@ withVertex s place scope =
     }
 
 unfoldable pub newTd : Lent → ℕ → ℕ → ℕ → Outcome CommandSaid
-newTd s t place scope = decided s (newTdRefusal s t) (CommandSaid.new (s .made)) (withVertex s place scope)
+newTd s t place scope = decided s (newTdRefusal s t) (CommandSaid.new (s .made)) (withVertex s t place scope)
 
 -- "newEdge t1 to t2: t2 is new or released." What else can be due follows.
 unfoldable pub endsRefusal : Lent → ℕ → ℕ → ℕ → ℕ → ℕ

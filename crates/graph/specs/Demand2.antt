@@ -10,8 +10,8 @@ use lib.ListN.{length, getD}
 use lib.Dec.{ltb}
 use Rattle.graph.specs.declared.Command.{Command}
 use Rattle.graph.specs.declared.Command.the-variants.{NewTd, NewEdge, Release, Transfer, Start, Stop}
-use Rattle.graph.specs.Tables.{Lent, NEW, EXECUTING, FINISHED, vertexWords, edgeWords, statusWord, placeWord, scopeWord, sourceWord}
-use Rattle.graph.specs.Tables.{vertexRows, edgeRows, vertexWord, status, source, target}
+use Rattle.graph.specs.Tables.{Lent, NEW, EXECUTING, FINISHED, vertexWords, edgeWords, statusWord, placeWord, scopeWord, futureWord}
+use Rattle.graph.specs.Tables.{sourceWord, vertexRows, edgeRows, vertexWord, status, source, target}
 use Rattle.refusal.specs.Refusals.{unsound-tables, no-such-vertex, edge-leads-in, vertex-is-new, vertex-is-finished, vertex-is-executing}
 use Rattle.refusal.specs.Refusals.{caller-not-executing, no-vertex-row}
 use Rattle.refusal.specs.Refusals.{no-edge-row, target-not-waiting, closes-cycle, release-not-new, transfer-not-new, transfer-has-edge-out}
@@ -77,15 +77,18 @@ EdgeWordOf (Stop t) s i = i < edgeWords * s .held
 abbrev pub SameBut : (ℕ → Type 0) → List ℕ → List ℕ → Type 0
 SameBut P l l' = (length l' ≡ length l) × ((i : ℕ) → (P i → ⊥) → getD l' i 0 ≡ getD l i 0)
 
--- the row of the vertex that newTd makes: "new, with the place and scope handed in and its other words 0"
-pub record MadeRow (v : List ℕ) (k place scope : ℕ) : Type 0 where
+-- the row of the vertex that newTd makes: "new, with the place and scope handed in and its other words 0", but for "the latest open future,
+-- copied from the maker" (note 5)
+pub record MadeRow (v : List ℕ) (k place scope future : ℕ) : Type 0 where
   pub is-new : status v k ≡ NEW
   pub has-place : vertexWord v k placeWord ≡ place
   pub has-scope : vertexWord v k scopeWord ≡ scope
-  pub others-zero : (w : ℕ) → w < vertexWords → (w ≡ statusWord → ⊥) → (w ≡ placeWord → ⊥) → (w ≡ scopeWord → ⊥) → vertexWord v k w ≡ 0
+  pub has-future : vertexWord v k futureWord ≡ future
+  pub others-zero :
+      (w : ℕ) → w < vertexWords → (w ≡ statusWord → ⊥) → (w ≡ placeWord → ⊥) → (w ≡ scopeWord → ⊥) → (w ≡ futureWord → ⊥) → vertexWord v k w ≡ 0
 
 abbrev pub NewRowOf : Command → Lent → Lent → Type 0
-NewRowOf (NewTd t place scope) s s' = MadeRow (s' .vertices) (s .made) place scope
+NewRowOf (NewTd t place scope) s s' = MadeRow (s' .vertices) (s .made) place scope (vertexWord (s .vertices) t futureWord)
 NewRowOf (NewEdge t t1 t2) s s' = Unit {0}
 NewRowOf (Release t t') s s' = Unit {0}
 NewRowOf (Transfer t t') s s' = Unit {0}

@@ -17,9 +17,9 @@ EXECUTING = 3
 abbrev pub FINISHED : ℕ
 FINISHED = 4
 
--- "Vertex row, seven words: status; place; scope; phase; three vertices that this item made"
+-- "Vertex row, seven words: status; place; scope; phase; three vertices that this item made"; "Vertex rows gain an eighth word" (note 5)
 abbrev pub vertexWords : ℕ
-vertexWords = 7
+vertexWords = 8
 
 abbrev pub statusWord : ℕ
 statusWord = 0
@@ -36,6 +36,11 @@ phaseWord = 3
 -- the first of the three, the others follow it
 abbrev pub madeWord : ℕ
 madeWord = 4
+
+-- "the latest open future, copied from the maker by newTd and set to t in the vertex that did the future, at that item's last command; 0
+-- is none" (note 5)
+abbrev pub futureWord : ℕ
+futureWord = 7
 
 -- "Edge row, two words: source, target."
 abbrev pub edgeWords : ℕ

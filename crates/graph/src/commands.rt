@@ -20,6 +20,7 @@ use crate::refusals::transfer_refusal;
 use crate::rows::EDGE_WORDS;
 use crate::rows::EXECUTING;
 use crate::rows::FINISHED;
+use crate::rows::FUTURE;
 use crate::rows::RELEASED;
 use crate::rows::VERTEX_WORDS;
 use crate::rows::append_edge;
@@ -77,7 +78,7 @@ pub fn open_by_value(vertices: &mut [u32], edges: &mut [u32], tally: Tally) -> O
     }
 }
 
-// Makes the next vertex, new, with the place and scope handed in and its other words 0.
+// Makes the next vertex, new, with the place and scope handed in, the caller's latest open future, and its other words 0.
 fn new_td(
     vertices: &mut [u32],
     edges: &[u32],
@@ -94,7 +95,8 @@ fn new_td(
         return refused(refusal, tally);
     }
     let made = tally.made;
-    make_row(vertices, made as usize, place, scope);
+    let future = vertices[VERTEX_WORDS * (caller as usize) + FUTURE];
+    make_row(vertices, made as usize, place, scope, future);
     Done {
         answer: Answer::New(made),
         tally: Tally {

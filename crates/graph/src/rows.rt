@@ -8,8 +8,8 @@ ghost use Rattle.graph.specs.Commands.{newRow, appended};
 // Only full rows among the first 1,024 of each table are used.
 pub const USABLE_LIMIT: usize = 1024;
 
-// A vertex row: status, place, scope, phase, and the three vertices that the item at hand made.
-pub const VERTEX_WORDS: usize = 7;
+// A vertex row: status, place, scope, phase, the three vertices that the item at hand made, and the latest open future.
+pub const VERTEX_WORDS: usize = 8;
 
 pub const STATUS: usize = 0;
 
@@ -21,6 +21,9 @@ pub const PHASE: usize = 3;
 
 // The first of the three; the others follow it.
 pub const MADE: usize = 4;
+
+// 0 is none.
+pub const FUTURE: usize = 7;
 
 // An edge row.
 pub const EDGE_WORDS: usize = 2;
@@ -82,14 +85,15 @@ pub(crate) fn set_status(vertices: &mut [u32], vertex: usize, status: u32)
 }
 
 // Makes row `vertex` that of a new vertex.
-pub(crate) fn make_row(vertices: &mut [u32], vertex: usize, place: u32, scope: u32)
+pub(crate) fn make_row(vertices: &mut [u32], vertex: usize, place: u32, scope: u32, future: u32)
     requires { ⌜ vertexWords * vertex + vertexWords ≤ length (now vertices) ⌝ }
-    ensures { λ _. ⌜ now (vertices .exit) ≡ newRow (now (vertices .entry)) vertex place scope ⌝ }
+    ensures { λ _. ⌜ now (vertices .exit) ≡ newRow (now (vertices .entry)) vertex place scope future ⌝ }
 {
     clear(vertices, VERTEX_WORDS * vertex, VERTEX_WORDS);
     vertices[VERTEX_WORDS * vertex + STATUS] = NEW;
     vertices[VERTEX_WORDS * vertex + PLACE] = place;
     vertices[VERTEX_WORDS * vertex + SCOPE] = scope;
+    vertices[VERTEX_WORDS * vertex + FUTURE] = future;
 }
 
 pub(crate) fn append_edge(edges: &mut [u32], row: usize, source: u32, target: u32)

@@ -1,6 +1,6 @@
 // Runs the opening and the commands on many tables, and writes what each call answers and leaves: docs/ENGINE.md's bare example, full
-// and freed tables, edges named twice, on full tables and beside a cycle too, tables shorter than a row and longer than 1,024 rows, a long
-// path, stops that leave gaps, a bad word in each row, and some hundred tables of drawn words.
+// and freed tables, edges named twice, on full tables and beside a cycle too, vertices made with a future open, tables shorter than a row
+// and longer than 1,024 rows, a long path, stops that leave gaps, a bad word in each row, and some hundred tables of drawn words.
 // tests/graph_cases.py computes the same lines from a model of its own; `stdout` holds them.
 mod draw;
 mod script;
@@ -34,6 +34,7 @@ fn main() {
     full();
     twice();
     cycle();
+    futures();
     short();
     long();
     path();
@@ -79,6 +80,13 @@ fn cycle() {
     script::run(&mut vertices, &mut edges, none(), &script::CYCLE);
 }
 
+fn futures() {
+    let mut vertices = [77u32; 6 * VERTEX_WORDS + 2];
+    let mut edges = [77u32; EDGE_WORDS];
+    text(b"futures\n");
+    script::run(&mut vertices, &mut edges, none(), &script::FUTURES);
+}
+
 fn short() {
     let mut vertices = [2u32; VERTEX_WORDS - 1];
     let mut edges = [2u32; EDGE_WORDS - 1];
@@ -112,7 +120,7 @@ fn all_drawn(first: u32, end: u32, repeats: bool) {
 
 // Small tables of drawn words and lengths, a drawn tally and a drawn command, which may be to repeat a held edge.
 fn drawn(seed: u32, repeats: bool) {
-    let mut vertices = [0u32; 4 * VERTEX_WORDS + 4];
+    let mut vertices = [0u32; 5 * VERTEX_WORDS + 4];
     let mut edges = [0u32; 5 * EDGE_WORDS];
     let d = draw::words(&mut vertices, begin(seed), 1);
     draw::mostly_executing(&mut vertices, seed);

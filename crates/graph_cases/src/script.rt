@@ -5,6 +5,8 @@ use graph::Command;
 use graph::Tally;
 use graph::commands::command_by_value;
 use graph::commands::open_by_value;
+use graph::rows::FUTURE;
+use graph::rows::VERTEX_WORDS;
 ghost use Prim.Native.Nat.{_<_};
 
 const OPEN: u32 = 0;
@@ -18,8 +20,10 @@ const EDGE: u32 = 3;
 const RELEASE: u32 = 4;
 
 const TRANSFER: u32 = 5;
-// 6 is stop; 7 is no call: the tally is altered
+// 6 is stop; 7 and 8 are no calls: the tally, or the latest open future of a vertex, is altered
 const TALLY: u32 = 7;
+
+const OPEN_FUTURE: u32 = 8;
 
 // The bare example (docs/ENGINE.md, "Examples"): start 0, new 1, new 2, edge 1 2; then edge 2 1 and edge 1 1 give 35; edge 1 2 is
 // taken; edge 0 1 is taken; transfer to 1 gives 38, to 2 gives 35.
@@ -118,6 +122,33 @@ pub(crate) const CYCLE: [u64; 22] = [
     3_0000_0001_0002,
 ];
 
+// Six vertex rows: a vertex gets the latest open future of its caller, and not that of its scope, of the vertex whose number is its place,
+// or of the one made before it. A refused call stores none, and opening clears all.
+pub(crate) const FUTURES: [u64; 22] = [
+    0_0000_0000_0000,
+    1_0000_0000_0000,
+    2_0000_0008_0000,
+    8_0000_0005_0000,
+    2_0000_0009_0001,
+    8_0001_0006_0000,
+    8_0002_0007_0000,
+    4_0000_0001_0000,
+    1_0001_0000_0000,
+    2_0001_0002_0000,
+    8_0003_9999_0000,
+    2_0000_0001_0003,
+    2_0002_0001_0000,
+    2_0005_0001_0000,
+    8_0000_0000_0000,
+    2_0000_0004_0001,
+    2_0001_0000_0000,
+    6_0000_0000_0000,
+    6_0001_0000_0000,
+    0_0000_0000_0000,
+    1_0000_0000_0000,
+    2_0000_0001_0001,
+];
+
 // Tables that are shorter than a row.
 pub(crate) const SHORT: [u64; 4] = [
     0_0000_0000_0000,
@@ -187,6 +218,13 @@ fn command(kind: u32, caller: u32, a: u32, b: u32) -> Command {
     }
 }
 
+fn open_future(vertices: &mut [u32], vertex: u32, future: u32) {
+    let at = VERTEX_WORDS * (vertex as usize) + FUTURE;
+    if at < vertices.len() {
+        vertices[at] = future;
+    }
+}
+
 fn one(
     vertices: &mut [u32],
     edges: &mut [u32],
@@ -202,6 +240,10 @@ fn one(
             held: b,
             steps: c,
         };
+    }
+    if kind == OPEN_FUTURE {
+        open_future(vertices, a, b);
+        return tally;
     }
     if kind == OPEN {
         return open(vertices, edges, tally);

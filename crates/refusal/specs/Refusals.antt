@@ -12,7 +12,7 @@ length-outside = 1
 abbrev pub number-malformed : ℕ
 number-malformed = 2
 
--- "3 first byte above 4"
+-- "3 first byte above" 6: "Refusal 3 begins above 6" (note 5)
 abbrev pub byte-unknown : ℕ
 byte-unknown = 3
 
@@ -28,13 +28,17 @@ bytes-run-out = 5
 abbrev pub bytes-after-end : ℕ
 bytes-after-end = 6
 
--- 7, of a job: "above 4,294,967,295" (note 1)
+-- 7, of a job: "above 4,294,967,295" (note 1); of a force's number too (note 5)
 abbrev pub job-too-large : ℕ
 job-too-large = 7
 
 -- "8 V above 1,024"
 abbrev pub too-many-vertices : ℕ
 too-many-vertices = 8
+
+-- "43 a force with no such future open, at its number's first byte" (note 5)
+abbrev pub no-such-future : ℕ
+no-such-future = 43
 
 -- THE LENDER
 -- "10 fewer than V vertex rows (bare machine: none)"
@@ -51,7 +55,8 @@ abbrev pub unsound-tables : ℕ
 unsound-tables = 12
 
 -- "13 at an executing vertex's step, bytes that loading refuses by 1 to 8, a place where no item or end byte starts, or a phase not below
--- that item's commands"
+-- that item's commands"; "13 counts 43 as it does 1 to 8, and is also given at a force's newEdge where the words followed come to 0 or to
+-- no made vertex" (note 5)
 abbrev pub nothing-starts : ℕ
 nothing-starts = 13
 

@@ -1,7 +1,7 @@
 // The refusals: their numbers, by who causes them, and what is answered with one. specs/Refusals.antt is the same list for the definitions,
 // with what each means.
 
-// A refusal's number, and its place: an offset in the program for the numbers 2 to 7, else 0.
+// A refusal's number, and its place: an offset in the program for the numbers 2 to 7 and 43, else 0.
 pub struct Refusal {
     pub number: u32,
     pub place: u32,
@@ -23,6 +23,8 @@ pub const BYTES_AFTER_END: u32 = 6;
 pub const JOB_TOO_LARGE: u32 = 7;
 
 pub const TOO_MANY_VERTICES: u32 = 8;
+
+pub const NO_SUCH_FUTURE: u32 = 43;
 
 // The lender.
 pub const TOO_FEW_VERTEX_ROWS: u32 = 10;

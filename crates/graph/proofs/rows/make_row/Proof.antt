@@ -1,4 +1,4 @@
--- The row that was cleared takes its three words.
+-- The row that was cleared takes its four words.
 use borrow.Author.Needs.{needs}
 use native.Mathlib.Omega.{arith}
 use mathlib.Core.Path.{refl}
@@ -12,6 +12,9 @@ slice-write-vertices-2 c = simp length-set (omega arith)
 
 slice-write-vertices-3 : tie.Need-slice-write-vertices-3
 slice-write-vertices-3 c = simp length-set (omega arith)
+
+slice-write-vertices-4 : tie.Need-slice-write-vertices-4
+slice-write-vertices-4 c = simp length-set (omega arith)
 
 returns : tie.Need-returns
 unfolding newRow
@@ -32,5 +35,9 @@ make-row-spec = tie.close (tie.spec (λ c. search needs)
     (λ c. search needs)
     (λ c. search needs)
     slice-write-vertices-3
+    (λ c. search needs)
+    (λ c. search needs)
+    (λ c. search needs)
+    slice-write-vertices-4
     (λ c. search needs)
     returns)
