@@ -6,6 +6,9 @@ with the engine.
 
 The reader goes over the bytes once with a stack of the bodies that are open; the engine reads by recursion."""
 
+ENDED, JOB, ASYNC, FINISH, FORK, FUTURE, FORCE = range(7)
+NAMES = ("end", "job", "async", "finish", "fork", "future", "force")
+
 
 class Refused(Exception):
     pass
@@ -33,35 +36,43 @@ def read(data):
     if not 1 <= len(data) <= 4096:
         raise Refused(1, 0)
     items, open_bodies, at = {}, ["main"], 0
+    open_futures = [0]  # in each open body, so far
     while open_bodies:
         if at == len(data):
             raise Refused(5, at)
         first = data[at]
-        if first == 0:
+        if first == ENDED:
             items[at] = ["end"]
             owner = open_bodies.pop()
+            open_futures.pop()
             at += 1
             if owner != "main":
                 item, bodies_left = owner
                 item.append(at)
                 if bodies_left:
                     open_bodies.append((item, bodies_left - 1))
-        elif first == 1:
+                    open_futures.append(open_futures[-1])
+                elif item[0] == "future":
+                    open_futures[-1] += 1
+        elif first in (JOB, FORCE):
             value, past = read_number(data, at + 1)
-            items[at] = ["job", value, past]
+            if first == FORCE and value >= open_futures[-1]:
+                raise Refused(43, at + 1)
+            items[at] = [NAMES[first], value, past]
             at = past
-        elif first <= 4:
+        elif first <= FORCE:
             if len(open_bodies) == 32:
                 raise Refused(4, at)
-            items[at] = [("async", "finish", "fork")[first - 2], at + 1]
-            open_bodies.append((items[at], first == 4))
+            items[at] = [NAMES[first], at + 1]
+            open_bodies.append((items[at], first == FORK))
+            open_futures.append(open_futures[-1])
             at += 1
         else:
             raise Refused(3, at)
     if at < len(data):
         raise Refused(6, at)
-    count = {kind: sum(item[0] == kind for item in items.values()) for kind in ("job", "async", "finish", "fork")}
-    if 2 + count["async"] + 2 * count["finish"] + 3 * count["fork"] > 1024:
+    count = {kind: sum(item[0] == kind for item in items.values()) for kind in NAMES}
+    if 2 + count["async"] + 2 * count["finish"] + 3 * count["fork"] + 2 * count["future"] + count["force"] > 1024:
         raise Refused(8, 0)
     return items, count
 
@@ -69,7 +80,8 @@ def read(data):
 def answer(data):
     try:
         _, count = read(data)
-        return f"jobs {count['job']} asyncs {count['async']} finishes {count['finish']} forks {count['fork']}"
+        plurals = {"jobs": "job", "asyncs": "async", "finishes": "finish", "forks": "fork", "futures": "future", "forces": "force"}
+        return " ".join(f"{name} {count[kind]}" for name, kind in plurals.items())
     except Refused as refusal:
         return "refused {} {}".format(*refusal.args)
 
@@ -131,6 +143,46 @@ EXAMPLES = """
 04 00 06
 03 01 80 00 00
 00 05
+06
+07
+06 00
+05 00
+05 00 06
+05 00 06 00 00
+05 00 06 00
+05 00 06 01 00
+05 06 00 00 00
+05 01 05 00 06 00 00
+05 00 06 80
+05 00 06 80 00 00
+05 00 06 80 80 80 80 00 00
+05 00 06 80 80 80 80 80 00
+05 00 06 80 01 00
+05 00 06 FF FF FF FF 0F 00
+05 00 06 80 80 80 80 10 00
+06 80 80 80 80 10 00
+06 80 00 00
+06 80 80 80 80
+02 07
+04 00 07
+05 07
+05 00 07
+02 05 00 00 06 00 00
+02 05 00 06 00 00 00
+05 00 02 06 00 00 06 00 00
+05 00 03 06 00 00 00
+05 00 04 06 00 00 06 00 00 00
+05 00 04 05 00 06 01 00 06 00 00 06 00 00
+05 00 04 05 00 00 06 01 00 00
+05 00 05 06 00 00 06 01 06 00 00
+05 00 05 06 01 00 00
+05 05 00 06 00 00 06 00 00
+05 05 00 00 06 01 00
+05 00 05 00 05 00 06 00 06 01 06 02 00
+05 00 05 00 05 00 06 03 00
+03 05 01 01 00 01 02 06 00 00 05 01 03 00 02 06 00 01 04 00 06 00 00
+05 00 06 01 07
+05 00 06 00 00 06
 """
 
 
@@ -142,8 +194,16 @@ def limits():
     yield "nested 31", b"\2" * 31 + b"\0" * 32
     yield "openers 32", b"\2" * 32
     yield "nested 32", b"\2" * 32 + b"\0" * 33
+    for depth in (31, 32):
+        yield f"nested futures {depth}", b"\5" * depth + b"\0" * (depth + 1)
     for count in (1022, 1023):
         yield f"asyncs {count}", b"\2\0" * count + b"\0"
+    for count in (511, 512):
+        yield f"futures {count}", b"\5\0" * count + b"\0"
+    for count in (1020, 1021):
+        yield f"forces {count}", b"\5\0" + b"\6\0" * count + b"\0"
+    for count in (128, 129):
+        yield f"force 128 of {count}", b"\5\0" * count + b"\6\x80\1\0"
     jobs = b"\1\x80\1" + b"\1\0" * 2046 + b"\0\0"
     for length in (4096, 4097):
         yield f"jobs in {length}", jobs[:length]
@@ -176,8 +236,9 @@ def main():
     print(alike(b""))
     for first in range(256):
         print(f"{first:02x}" + alike(bytes([first])))
-    for others in (0x80, 0xFF):
-        print(f"01 and four times {others:02x}" + alike(bytes([1] + 4 * [others])))
+    for first in (JOB, FORCE):
+        for others in (0x80, 0xFF):
+            print(f"{first:02x} and four times {others:02x}" + alike(bytes([first] + 4 * [others])))
 
 
 if __name__ == "__main__":

@@ -9,7 +9,7 @@ use borrow.Author.Tests.{lt-ltb, le-ltb, le-leb, lt-leb, eq-eqb, ne-eqb}
 use Rattle.program.specs.declared.ItemCounts.{ItemCounts}
 use Rattle.program.specs.Limits.{jobLimit, programBytes}
 use Rattle.program.specs.Trees.{Counts}
-use Rattle.program.specs.Bytes.{jobByte, asyncByte, finishByte, forkByte}
+use Rattle.program.specs.Bytes.{jobByte, asyncByte, finishByte, forkByte, futureByte, forceByte}
 use Rattle.refusal.specs.Refusals.{number-malformed, job-too-large}
 use Rattle.program.specs.Answers.{itemCounts}
 use Rattle.program.specs.Internal.Progress.{NumberProgress, value, numberEnded, plus, oneOf}
@@ -23,7 +23,7 @@ pub cond-no : {A : Type 0} {b : Bool} (x y : A) → b ≡ false → y ≡ cond b
 cond-no x y p = ap (λ (t : Bool). cond t x y) (sym p)
 
 -- a count fits, with one more or none
-pub count-fits : (n first byte : ℕ) {one : ℕ} → one ≡ cond (eqb first byte) 1 0 → n ≤ programBytes → n + one < 2 ^ 32
+pub count-fits : (n first byte : ℕ) {one : ℕ} → one ≡ cond (eqb first byte) 1 0 → n ≤ programBytes → n + one < 2 ^ 16
 count-fits n first byte p le = omega (arith, at-most-one (eqb first byte) p)
   where
     at-most-one : (b : Bool) {m : ℕ} → m ≡ cond b 1 0 → m ≤ 1
@@ -65,11 +65,28 @@ within-limit place seen n last others past after came only more le h =
     ∙ cond-yes _ _ (shortest others last came only more)
 
 -- one more item counted
-pub one-more : (seen : ItemCounts) (first j a f k : ℕ)
+pub one-more : (seen : ItemCounts) (first j a f k u x : ℕ)
     → j ≡ cond (eqb first jobByte) 1 0 → a ≡ cond (eqb first asyncByte) 1 0
     → f ≡ cond (eqb first finishByte) 1 0 → k ≡ cond (eqb first forkByte) 1 0
-    → _≡_ {A = Counts} (record { w = seen .jobs + j; a = seen .asyncs + a; f = seen .finishes + f; k = seen .forks + k })
+    → u ≡ cond (eqb first futureByte) 1 0 → x ≡ cond (eqb first forceByte) 1 0
+    → _≡_ {A = Counts}
+    (record {
+      w = seen .jobs + j;
+      a = seen .asyncs + a;
+      f = seen .finishes + f;
+      k = seen .forks + k;
+      u = seen .futures + u;
+      x = seen .forces + x;
+    })
     (plus (itemCounts seen) (oneOf first))
 unfolding plus oneOf
-one-more seen first j a f k p q r s =
-    λ i. record { w = seen .jobs + p i; a = seen .asyncs + q i; f = seen .finishes + r i; k = seen .forks + s i }
+one-more seen first j a f k u x p q r s t v =
+    λ i.
+    record {
+      w = seen .jobs + p i;
+      a = seen .asyncs + q i;
+      f = seen .finishes + r i;
+      k = seen .forks + s i;
+      u = seen .futures + t i;
+      x = seen .forces + v i;
+    }

@@ -1,12 +1,15 @@
 -- The reader is exact: it accepts the encodings of the trees within all limits, each as its own tree, and nothing else.
-use Prim.Native.Nat.{ℕ}
+use Prim.Native.Nat.{ℕ, suc}
 use mathlib.Core.Path.{_≡_, sym, ap, _∙_}
-use mathlib.Core.List.{List, []}
+use mathlib.Core.List.{List, [], append-nil}
 use mathlib.Core.Logic.{_↔_}
+use native.Mathlib.Omega.{arith}
+use Rattle.program.specs.Limits.{jobLimit}
 use Rattle.program.specs.Trees.{Body}
 use Rattle.program.specs.Bytes.{encode, size}
 use Rattle.program.specs.Reader.{took, body, program, whole, reading}
 use Rattle.program.specs.Claims.{Fits, Loadable}
+use Rattle.program.proofs.Completeness.{body-complete, all-open}
 use Rattle.program.proofs.ReadingLaws.{reading-comes, reading-within, counted-loads, encode-positive, all-complete, loaded-sound}
 
 -- What is accepted is the encoding of the tree that is answered, and that is within all limits.
@@ -17,7 +20,7 @@ reading-sound bytes b e = loaded-sound bytes b (rw e at (reading-comes bytes))
 pub reading-complete : (b : Body) → Loadable b → reading (encode b) ≡ program b
 unfolding size whole
 reading-complete b h =
-    reading-within (encode b) (encode-positive b, h .bytes) ∙ rw (all-complete b (h .fits)) (counted-loads b (h .made))
+    reading-within (encode b) (encode-positive b, h .bytes) ∙ rw (all-complete b (h .fits) (h .forced)) (counted-loads b (h .made))
 
 -- Bytes are accepted exactly if they are the encoding of a tree within all limits.
 pub reading-exact : (bytes : List ℕ) → ((b : Body) × (reading bytes ≡ program b)) ↔ ((b : Body) × Loadable b × (bytes ≡ encode b))
@@ -28,4 +31,11 @@ reading-exact bytes = (
 
 -- No two trees have the same encoding.
 pub encode-unique : (b c : Body) → Fits b → Fits c → encode b ≡ encode c → b ≡ c
-encode-unique b c p q e = let h : took b [] ≡ took c [] = sym (all-complete b p) ∙ ap (body 1) e ∙ all-complete c q in cc
+encode-unique b c p q e = let h : took b [] ≡ took c [] = sym (back b p) ∙ ap (body 1 (suc jobLimit)) e ∙ back c q in cc
+  where
+    -- where every force has its future
+    back : (b : Body) → Fits b → body 1 (suc jobLimit) (encode b) ≡ took b []
+    back b f =
+        let l = f .levels in
+        ap (body 1 (suc jobLimit)) (sym (append-nil (encode b)))
+        ∙ body-complete 1 (suc jobLimit) b [] (f .numbers) (omega arith) (all-open (suc jobLimit) b (f .numbers) (omega arith))

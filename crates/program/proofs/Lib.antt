@@ -3,12 +3,13 @@
 --     NumberLaws    reading a number is exact, with any room
 --     Soundness     what is read stands in the bytes, and fits
 --     ReaderLaws    the body reader and the item reader unrolled
---     Completeness  every tree within the limits is read back from its bytes
+--     Completeness  every tree within the limits in which every force has its future is read back from its bytes
 --     ReadingLaws   reading a whole program, by what its main body comes to
 --     StopLaws      where reading stops, and why
 --     RefusalLaws   from why reading stops to what the refusals say
 -- The theory of places:
 --     LocatedLaws   code laid out in a program, and what starts at a place of it
+--     OpenLaws      each force in a program's code has the body of the future that it names
 --     StartLaws     where code starts in a program's bytes
 -- What the proofs of functions cite, one law for each path through the code and for each turn of a loop:
 --     CodeLaws, NumberLoop, ProgressLaws, BodyLoop, ItemPaths   the number reader, the body reader and the item reader
@@ -31,6 +32,7 @@ pub mod ReadingLaws
 pub mod StopLaws
 pub mod RefusalLaws
 pub mod LocatedLaws
+pub mod OpenLaws
 pub mod StartLaws
 pub mod CodeLaws
 pub mod NumberLoop

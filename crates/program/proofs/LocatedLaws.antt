@@ -1,9 +1,10 @@
 -- Located trees: the laws of code laid out in a program, and of what starts at a place of it, so that proofs above need not look at
 -- bytes. They hold of any laid code m, and `laid-locate` says that a tree laid out from an offset is laid.
 --
---     place-locate   startOf (locate o b) ≡ o
---     last-locate    suc (last (locate o b)) ≡ o + size b
---     laid-locate    Laid (locate o b)
+--     place-locate   startOf (locate opened o b) ≡ o
+--     last-locate    suc (last (locate opened o b)) ≡ o + size b
+--     laid-locate    Laid (locate opened o b), whatever futures are open; laid-located the same of a program
+--     head-locate    head (locate opened o b) ≡ head (locate opened' o b)
 --     laid-le        Laid m → startOf m ≤ last m
 --
 --     code-here      codeAt m (startOf m) ≡ some m
@@ -13,26 +14,27 @@
 --     code-laid      Laid c
 --     code-range     startOf m ≤ p, p ≤ last c, last c ≤ last m
 --     code-inner     codeAt m (startOf d) ≡ some d, where Inner c d: d is a body of c's first item (async-body, finish-body, fork-left,
---                    fork-right), or what is behind this item (job-rest, async-rest, finish-rest, fork-rest)
+--                    fork-right, future-body), or what is behind this item (job-rest, async-rest, finish-rest, fork-rest, future-rest,
+--                    force-rest); a force's own body is not inside it
 --     code-missing   codeAt m p ≡ none, where p is outside of m
---     item-stands    itemAt bytes p ≡ head c, where reading bytes ≡ program t and m is locate 0 t
+--     item-stands    itemAt bytes p ≡ head c, where reading bytes ≡ program t and m is located t
 --
 -- `Part m c`, c is m or is anywhere inside, is what these have in common: a search finds parts (code-part), and in laid code it finds
 -- each at its place (part-code).
 use Prim.Native.Nat.{ℕ, suc, _+_, _<_, _≤_}
 use mathlib.Core.Path.{_≡_, refl, sym, _∙_, ap, subst}
 use mathlib.Core.Bool.{Bool, true, false}
-use mathlib.Core.List.{List, _++_}
+use mathlib.Core.List.{List, [], _∷_, _++_}
 use mathlib.Core.Option.{Option, none, some, Option·some-injective, Option·none-ne-some}
 use native.Mathlib.Omega.{arith}
 use lib.Dec.{eqb}
 use lib.ListN.{length-append}
 use borrow.Author.Tests.{eqb-true, eq-eqb, ne-eqb}
-use Rattle.program.specs.Trees.{Body, end, job, async, finish, fork}
+use Rattle.program.specs.Trees.{Body, end, job, async, finish, fork, future, force}
 use Rattle.program.specs.Bytes.{encodeNumber, encode, numberSize, size}
 use Rattle.program.specs.Reader.{program, reading}
-use Rattle.program.specs.Located.{Code, end-at, job-at, async-at, finish-at, fork-at, locate, startOf, last, here, orElse, codeAt}
-use Rattle.program.specs.Located.{head, found, standsIn, itemAt}
+use Rattle.program.specs.Located.{Code, end-at, job-at, async-at, finish-at, fork-at, future-at, force-at, locate, located}
+use Rattle.program.specs.Located.{startOf, last, here, orElse, codeAt, head, found, standsIn, itemAt}
 
 -- a search that finds code has it here, or among the others
 pub here-cases :
@@ -76,6 +78,9 @@ pub data Inner : Code → Code → Type 0 where
   fork-left : {o : ℕ} {b c r : Code} → Inner (fork-at o b c r) b
   fork-right : {o : ℕ} {b c r : Code} → Inner (fork-at o b c r) c
   fork-rest : {o : ℕ} {b c r : Code} → Inner (fork-at o b c r) r
+  future-body : {o : ℕ} {b r : Code} → Inner (future-at o b r) b
+  future-rest : {o : ℕ} {b r : Code} → Inner (future-at o b r) r
+  force-rest : {o n : ℕ} {b r : Code} → Inner (force-at o n b r) r
 
 -- code anywhere inside another, or itself
 pub data Part : Code → Code → Type 0 where
@@ -113,6 +118,10 @@ code-hit (fork-at o b c r) p h =
     here-cases (eqb p o) _ _ h (hit-here _ o p refl)
     (λ q. orElse-cases _ _ q (λ q. hit-inside fork-left (code-hit b p q))
     (λ q. orElse-cases _ _ q (λ q. hit-inside fork-right (code-hit c p q)) (λ q. hit-inside fork-rest (code-hit r p q))))
+code-hit (future-at o b r) p h =
+    here-cases (eqb p o) _ _ h (hit-here _ o p refl)
+    (λ q. orElse-cases _ _ q (λ q. hit-inside future-body (code-hit b p q)) (λ q. hit-inside future-rest (code-hit r p q)))
+code-hit (force-at o n b r) p h = here-cases (eqb p o) _ _ h (hit-here _ o p refl) (λ q. hit-inside force-rest (code-hit r p q))
 
 pub code-part : (m : Code) (p : ℕ) {c : Code} → codeAt m p ≡ some c → Part m c
 code-part m p h = code-hit m p h .0
@@ -120,7 +129,7 @@ code-part m p h = code-hit m p h .0
 pub code-place : (m : Code) (p : ℕ) {c : Code} → codeAt m p ≡ some c → startOf c ≡ p
 code-place m p h = code-hit m p h .1
 
--- the rest r of a body, behind a job at o
+-- the rest r of a body, behind a job or a force at o
 pub record Behind (o : ℕ) (r : Code) : Type 0 where
   pub starts : o < startOf r
   pub rest : startOf r ≤ last r
@@ -148,25 +157,34 @@ Laid (job-at o n r) = Behind o r × Laid r
 Laid (async-at o b r) = OneBody o b r × Laid b × Laid r
 Laid (finish-at o b r) = OneBody o b r × Laid b × Laid r
 Laid (fork-at o b c r) = TwoBodies o b c r × Laid b × Laid c × Laid r
+Laid (future-at o b r) = OneBody o b r × Laid b × Laid r
+Laid (force-at o n b r) = Behind o r × Laid r
 
--- where a body that is laid out starts and ends
-pub place-locate : (o : ℕ) (b : Body) → startOf (locate o b) ≡ o
+-- where a body that is laid out starts and ends, whatever futures are open
+pub place-locate : (opened : List Code) (o : ℕ) (b : Body) → startOf (locate opened o b) ≡ o
 unfolding locate startOf
-place-locate o end = refl
-place-locate o (job n r) = refl
-place-locate o (async b r) = refl
-place-locate o (finish b r) = refl
-place-locate o (fork b c r) = refl
+place-locate opened o end = refl
+place-locate opened o (job n r) = refl
+place-locate opened o (async b r) = refl
+place-locate opened o (finish b r) = refl
+place-locate opened o (fork b c r) = refl
+place-locate opened o (future b r) = refl
+place-locate opened o (force n r) = refl
 
-pub last-locate : (o : ℕ) (b : Body) → suc (last (locate o b)) ≡ o + size b
+pub last-locate : (opened : List Code) (o : ℕ) (b : Body) → suc (last (locate opened o b)) ≡ o + size b
 unfolding locate last size numberSize encode
-last-locate o end = omega arith
-last-locate o (job n r) = omega (arith, last-locate (suc (o + numberSize n)) r, length-append (encodeNumber n) (encode r))
-last-locate o (async b r) = omega (arith, last-locate (suc (o + size b)) r, length-append (encode b) (encode r))
-last-locate o (finish b r) = omega (arith, last-locate (suc (o + size b)) r, length-append (encode b) (encode r))
-last-locate o (fork b c r) =
+last-locate opened o end = omega arith
+last-locate opened o (job n r) =
+    omega (arith, last-locate opened (suc (o + numberSize n)) r, length-append (encodeNumber n) (encode r))
+last-locate opened o (async b r) = omega (arith, last-locate opened (suc (o + size b)) r, length-append (encode b) (encode r))
+last-locate opened o (finish b r) = omega (arith, last-locate opened (suc (o + size b)) r, length-append (encode b) (encode r))
+last-locate opened o (fork b c r) =
     let split = length-append (encode b) (encode c ++ encode r) in
-    omega (arith, last-locate (suc (o + size b + size c)) r, split, length-append (encode c) (encode r))
+    omega (arith, last-locate opened (suc (o + size b + size c)) r, split, length-append (encode c) (encode r))
+last-locate opened o (future b r) =
+    omega (arith, last-locate (locate opened (suc o) b ∷ opened) (suc (o + size b)) r, length-append (encode b) (encode r))
+last-locate opened o (force n r) =
+    omega (arith, last-locate opened (suc (o + numberSize n)) r, length-append (encodeNumber n) (encode r))
 
 -- a body has a byte
 size-some : (b : Body) → 0 < size b
@@ -176,47 +194,80 @@ size-some (job n r) = omega arith
 size-some (async b r) = omega arith
 size-some (finish b r) = omega arith
 size-some (fork b c r) = omega arith
+size-some (future b r) = omega arith
+size-some (force n r) = omega arith
 
 -- so it ends where it starts, or behind
-le-locate : (o : ℕ) (b : Body) → startOf (locate o b) ≤ last (locate o b)
-le-locate o b = omega (arith, place-locate o b, last-locate o b, size-some b)
+le-locate : (opened : List Code) (o : ℕ) (b : Body) → startOf (locate opened o b) ≤ last (locate opened o b)
+le-locate opened o b = omega (arith, place-locate opened o b, last-locate opened o b, size-some b)
 
 -- and what is laid out behind it starts there
-next-locate : (o o' : ℕ) (b r : Body) → o' ≡ o + size b → suc (last (locate o b)) ≡ startOf (locate o' r)
-next-locate o o' b r e = last-locate o b ∙ sym e ∙ sym (place-locate o' r)
+next-locate :
+    (opened opened' : List Code) (o o' : ℕ) (b r : Body) → o' ≡ o + size b
+    → suc (last (locate opened o b)) ≡ startOf (locate opened' o' r)
+next-locate opened opened' o o' b r e = last-locate opened o b ∙ sym e ∙ sym (place-locate opened' o' r)
 
 -- the parts of an item
-one-locate : (o o' : ℕ) (b r : Body) → o' ≡ suc o + size b → OneBody o (locate (suc o) b) (locate o' r)
-one-locate o o' b r e =
+behind-locate : (opened : List Code) (o n : ℕ) (r : Body) → Behind o (locate opened (suc (o + n)) r)
+behind-locate opened o n r =
+    record { starts = omega (arith, place-locate opened (suc (o + n)) r); rest = le-locate opened (suc (o + n)) r }
+
+one-locate :
+    (opened opened' : List Code) (o o' : ℕ) (b r : Body) → o' ≡ suc o + size b
+    → OneBody o (locate opened (suc o) b) (locate opened' o' r)
+one-locate opened opened' o o' b r e =
     record {
-      starts = place-locate (suc o) b;
-      body = le-locate (suc o) b;
-      ends = next-locate (suc o) o' b r e;
-      rest = le-locate o' r;
+      starts = place-locate opened (suc o) b;
+      body = le-locate opened (suc o) b;
+      ends = next-locate opened opened' (suc o) o' b r e;
+      rest = le-locate opened' o' r;
     }
 
 two-locate :
-    (o o' o'' : ℕ) (b c r : Body) → o' ≡ suc o + size b → o'' ≡ o' + size c
-    → TwoBodies o (locate (suc o) b) (locate o' c) (locate o'' r)
-two-locate o o' o'' b c r e e' =
+    (opened : List Code) (o o' o'' : ℕ) (b c r : Body) → o' ≡ suc o + size b → o'' ≡ o' + size c
+    → TwoBodies o (locate opened (suc o) b) (locate opened o' c) (locate opened o'' r)
+two-locate opened o o' o'' b c r e e' =
     record {
-      starts = place-locate (suc o) b;
-      left = le-locate (suc o) b;
-      between = next-locate (suc o) o' b c e;
-      right = le-locate o' c;
-      ends = next-locate o' o'' c r e';
-      rest = le-locate o'' r;
+      starts = place-locate opened (suc o) b;
+      left = le-locate opened (suc o) b;
+      between = next-locate opened opened (suc o) o' b c e;
+      right = le-locate opened o' c;
+      ends = next-locate opened opened o' o'' c r e';
+      rest = le-locate opened o'' r;
     }
 
 -- a tree that is laid out is laid
-pub laid-locate : (o : ℕ) (b : Body) → Laid (locate o b)
+pub laid-locate : (opened : List Code) (o : ℕ) (b : Body) → Laid (locate opened o b)
 unfolding Laid locate
-laid-locate o end = tt
-laid-locate o (job n r) =
-    (record { starts = omega (arith, place-locate (suc (o + numberSize n)) r); rest = le-locate _ r }, laid-locate _ r)
-laid-locate o (async b r) = (one-locate o _ b r (omega arith), laid-locate _ b, laid-locate _ r)
-laid-locate o (finish b r) = (one-locate o _ b r (omega arith), laid-locate _ b, laid-locate _ r)
-laid-locate o (fork b c r) = (two-locate o _ _ b c r (omega arith) (omega arith), laid-locate _ b, laid-locate _ c, laid-locate _ r)
+laid-locate opened o end = tt
+laid-locate opened o (job n r) = (behind-locate opened o _ r, laid-locate _ _ r)
+laid-locate opened o (async b r) = (one-locate opened _ o _ b r (omega arith), laid-locate _ _ b, laid-locate _ _ r)
+laid-locate opened o (finish b r) = (one-locate opened _ o _ b r (omega arith), laid-locate _ _ b, laid-locate _ _ r)
+laid-locate opened o (fork b c r) =
+    (two-locate opened o _ _ b c r (omega arith) (omega arith), laid-locate _ _ b, laid-locate _ _ c, laid-locate _ _ r)
+laid-locate opened o (future b r) = (one-locate opened _ o _ b r (omega arith), laid-locate _ _ b, laid-locate _ _ r)
+laid-locate opened o (force n r) = (behind-locate opened o _ r, laid-locate _ _ r)
+
+-- so a program is laid
+pub laid-located : (b : Body) → Laid (located b)
+unfolding located
+laid-located b = laid-locate [] 0 b
+
+-- what stands first in a tree does not depend on what is open
+pub head-locate : (opened opened' : List Code) (o : ℕ) (b : Body) → head (locate opened o b) ≡ head (locate opened' o b)
+unfolding locate head
+head-locate opened opened' o end = refl
+head-locate opened opened' o (job n r) = rw (place-locate opened _ r, place-locate opened' _ r) refl
+head-locate opened opened' o (async b r) =
+    rw (place-locate opened _ b, place-locate opened _ r, place-locate opened' _ b, place-locate opened' _ r) refl
+head-locate opened opened' o (finish b r) =
+    rw (place-locate opened _ b, place-locate opened _ r, place-locate opened' _ b, place-locate opened' _ r) refl
+head-locate opened opened' o (fork b c r) =
+    rw (place-locate opened _ b, place-locate opened _ c, place-locate opened _ r)
+    (rw (place-locate opened' _ b, place-locate opened' _ c, place-locate opened' _ r) refl)
+head-locate opened opened' o (future b r) =
+    rw (place-locate opened _ b, place-locate _ _ r, place-locate opened' _ b, place-locate _ _ r) refl
+head-locate opened opened' o (force n r) = rw (place-locate opened _ r, place-locate opened' _ r) refl
 
 -- laid code ends where it starts, or behind
 pub laid-le : (m : Code) → Laid m → startOf m ≤ last m
@@ -226,6 +277,8 @@ laid-le (job-at o n r) l = omega (arith, l .0 .starts, l .0 .rest)
 laid-le (async-at o b r) l = omega (arith, l .0 .starts, l .0 .body, l .0 .ends, l .0 .rest)
 laid-le (finish-at o b r) l = omega (arith, l .0 .starts, l .0 .body, l .0 .ends, l .0 .rest)
 laid-le (fork-at o b c r) l = omega (arith, l .0 .starts, l .0 .left, l .0 .between, l .0 .right, l .0 .ends, l .0 .rest)
+laid-le (future-at o b r) l = omega (arith, l .0 .starts, l .0 .body, l .0 .ends, l .0 .rest)
+laid-le (force-at o n b r) l = omega (arith, l .0 .starts, l .0 .rest)
 
 -- what is inside laid code is laid, and stands behind its start and before its end
 laid-inner : {m d : Code} → Inner m d → Laid m → Laid d × (startOf m < startOf d) × (last d ≤ last m)
@@ -238,6 +291,9 @@ laid-inner finish-rest l = (l .2, omega (arith, l .0 .starts, l .0 .body, l .0 .
 laid-inner fork-left l = (l .1, omega (arith, l .0 .starts), omega (arith, l .0 .between, l .0 .right, l .0 .ends, l .0 .rest))
 laid-inner fork-right l = (l .2, omega (arith, l .0 .starts, l .0 .left, l .0 .between), omega (arith, l .0 .ends, l .0 .rest))
 laid-inner fork-rest l = (l .3, omega (arith, l .0 .starts, l .0 .left, l .0 .between, l .0 .right, l .0 .ends), omega arith)
+laid-inner future-body l = (l .1, omega (arith, l .0 .starts), omega (arith, l .0 .ends, l .0 .rest))
+laid-inner future-rest l = (l .2, omega (arith, l .0 .starts, l .0 .body, l .0 .ends), omega arith)
+laid-inner force-rest l = (l .1, l .0 .starts, omega arith)
 
 -- the same of any part
 laid-part : {m c : Code} → Part m c → Laid m → Laid c × (startOf m ≤ startOf c) × (last c ≤ last m)
@@ -255,6 +311,8 @@ code-here (job-at o n r) = here-now o _ _
 code-here (async-at o b r) = here-now o _ _
 code-here (finish-at o b r) = here-now o _ _
 code-here (fork-at o b c r) = here-now o _ _
+code-here (future-at o b r) = here-now o _ _
+code-here (force-at o n b r) = here-now o _ _
 
 -- what starts at a place is laid, and stands within
 pub code-laid : (m : Code) (p : ℕ) {c : Code} → Laid m → codeAt m p ≡ some c → Laid c
@@ -298,6 +356,10 @@ code-within p (fork-rest {b = b} {c = c}) l lt le h =
     ∙ orElse-none _ (code-behind b p (l .1) (omega (arith, l .0 .between, l .0 .right, l .0 .ends)))
     ∙ orElse-none _ (code-behind c p (l .2) (omega (arith, l .0 .ends)))
     ∙ h
+code-within p future-body l lt le h = here-later _ p _ _ lt ∙ orElse-some _ h
+code-within p (future-rest {b = b}) l lt le h =
+    here-later _ p _ _ lt ∙ orElse-none _ (code-behind b p (l .1) (omega (arith, l .0 .ends))) ∙ h
+code-within p force-rest l lt le h = here-later _ p _ _ lt ∙ h
 
 -- each part starts at its place
 pub part-code : {m c : Code} → Part m c → Laid m → codeAt m (startOf c) ≡ some c
@@ -319,6 +381,8 @@ last-part (job-at o n r) = inside job-rest (last-part r)
 last-part (async-at o b r) = inside async-rest (last-part r)
 last-part (finish-at o b r) = inside finish-rest (last-part r)
 last-part (fork-at o b c r) = inside fork-rest (last-part r)
+last-part (future-at o b r) = inside future-rest (last-part r)
+last-part (force-at o n b r) = inside force-rest (last-part r)
 
 -- so an end byte stands at its last place
 pub code-end : (m : Code) → Laid m → codeAt m (last m) ≡ some (end-at (last m))
@@ -327,7 +391,7 @@ code-end m l = part-code (last-part m) l
 
 -- what stands at a place of a program
 pub item-stands :
-    (bytes : List ℕ) (t : Body) (p : ℕ) {c : Code} → reading bytes ≡ program t → codeAt (locate 0 t) p ≡ some c
+    (bytes : List ℕ) (t : Body) (p : ℕ) {c : Code} → reading bytes ≡ program t → codeAt (located t) p ≡ some c
     → itemAt bytes p ≡ head c
 unfolding itemAt standsIn found
 item-stands bytes t p r h = rw (r, h) refl

@@ -9,12 +9,12 @@ use native.Mathlib.Omega.{arith}
 use lib.Dec.{eqb, ltb, leb}
 use lib.ListN.{length, getD, drop, drop-of-length-le}
 use lib.Seq.{drop-cons}
-use borrow.Author.Tests.{lt-ltb, le-ltb, ltb-true, ltb-false, lt-leb, ne-eqb}
+use borrow.Author.Tests.{lt-ltb, le-ltb, ltb-true, ltb-false, lt-leb, eqb-true, eq-eqb, ne-eqb}
 use Rattle.program.specs.Limits.{numberBytes, jobLimit}
 use Rattle.program.specs.Trees.{Body, largest}
-use Rattle.program.specs.Bytes.{jobByte, topBit, groupBytes, encodeNumber, encode, numberSize, size}
+use Rattle.program.specs.Bytes.{jobByte, forceByte, topBit, groupBytes, encodeNumber, encode, numberSize, size}
 use Rattle.program.specs.Claims.{Encoding, encoding}
-use Rattle.program.specs.Internal.Progress.{numberEnd, inNumber}
+use Rattle.program.specs.Internal.Progress.{numberEnd, opensNumber, inNumber}
 use Rattle.program.proofs.NumberLaws.{one-byte, more-bytes}
 use Rattle.program.proofs.StartLaws.{starts-low}
 
@@ -91,22 +91,40 @@ inside-none xs = refl
 -- one byte more
 pub inside-more :
     (xs : List ℕ) (i : ℕ) (inside : Bool) → inside ≡ inNumber xs i
-    → cond inside (leb topBit (getD xs i 0)) (eqb (getD xs i 0) jobByte) ≡ inNumber xs (i + 1)
+    → cond inside (leb topBit (getD xs i 0)) (opensNumber (getD xs i 0)) ≡ inNumber xs (i + 1)
 unfolding inNumber
 inside-more xs i inside h = rw (add-one i, h) refl
 
--- behind a byte that is 1 one stands inside a number where that byte does not
-inside-job : (xs : List ℕ) (i : ℕ) → getD xs i 0 ≡ jobByte → inNumber xs (suc i) ≡ not (inNumber xs i)
-unfolding inNumber
-inside-job xs i e = ap (λ (x : ℕ). cond (inNumber xs i) (leb topBit x) (eqb x jobByte)) e ∙ go (inNumber xs i)
+-- a byte that a number stands behind is a job's first, or else a force's
+pub opens-job : (x : ℕ) → x ≡ jobByte → eqb x jobByte ≡ opensNumber x
+unfolding opensNumber
+opens-job x is = rw (eq-eqb x jobByte is) refl
+
+pub opens-force : (x : ℕ) → (x ≡ jobByte → ⊥) → eqb x forceByte ≡ opensNumber x
+unfolding opensNumber
+opens-force x other = rw (ne-eqb x jobByte other) refl
+
+-- both have their top bit clear
+opens-low : (x : ℕ) → opensNumber x ≡ true → leb topBit x ≡ false
+unfolding opensNumber
+opens-low x h = go (eqb x jobByte) refl h
   where
-    go : (t : Bool) → cond t (leb topBit jobByte) (eqb jobByte jobByte) ≡ not t
+    go : (t : Bool) → eqb x jobByte ≡ t → cond t true (eqb x forceByte) ≡ true → leb topBit x ≡ false
+    go true e h = let q : x ≡ jobByte = eqb-true x jobByte e in lt-leb topBit x (omega arith)
+    go false e h = let q : x ≡ forceByte = eqb-true x forceByte h in lt-leb topBit x (omega arith)
+
+-- behind such a byte one stands inside a number where that byte does not
+inside-opened : (xs : List ℕ) (i : ℕ) → opensNumber (getD xs i 0) ≡ true → inNumber xs (suc i) ≡ not (inNumber xs i)
+unfolding inNumber
+inside-opened xs i e = rw (opens-low (getD xs i 0) e, e) (go (inNumber xs i))
+  where
+    go : (t : Bool) → cond t false true ≡ not t
     go true = refl
     go false = refl
 
 -- behind any other byte of a program, where that byte has its top bit set
 inside-other :
-    (b : Body) (i : ℕ) → largest b ≤ jobLimit → i < size b → (getD (encode b) i 0 ≡ jobByte → ⊥)
+    (b : Body) (i : ℕ) → largest b ≤ jobLimit → i < size b → opensNumber (getD (encode b) i 0) ≡ false
     → inNumber (encode b) (suc i) ≡ leb topBit (getD (encode b) i 0)
 unfolding inNumber
 inside-other b i l lt other = go (inNumber (encode b) i) refl
@@ -114,12 +132,10 @@ inside-other b i l lt other = go (inNumber (encode b) i) refl
     x : ℕ
     x = getD (encode b) i 0
 
-    go : (t : Bool) → inNumber (encode b) i ≡ t → cond (inNumber (encode b) i) (leb topBit x) (eqb x jobByte) ≡ leb topBit x
-    go true e = ap (λ (t : Bool). cond t (leb topBit x) (eqb x jobByte)) e
+    go : (t : Bool) → inNumber (encode b) i ≡ t → cond (inNumber (encode b) i) (leb topBit x) (opensNumber x) ≡ leb topBit x
+    go true e = ap (λ (t : Bool). cond t (leb topBit x) (opensNumber x)) e
     go false e =
-        ap (λ (t : Bool). cond t (leb topBit x) (eqb x jobByte)) e
-        ∙ ne-eqb x jobByte other
-        ∙ sym (lt-leb topBit x (starts-low b i l lt e))
+        ap (λ (t : Bool). cond t (leb topBit x) (opensNumber x)) e ∙ other ∙ sym (lt-leb topBit x (starts-low b i l lt e))
 
 -- The byte at i tells whether the one at a place stands inside a number: as it does itself, or where `turned` the other way round.
 pub record ToldBy (xs : List ℕ) (place i : ℕ) (turned : Bool) : Type 0 where
@@ -129,16 +145,16 @@ pub record ToldBy (xs : List ℕ) (place i : ℕ) (turned : Bool) : Type 0 where
 pub told-here : {xs : List ℕ} {place : ℕ} → ToldBy xs place place false
 told-here = record { told = refl }
 
--- one byte back that is 1
+-- one byte back that is a job's first or a force's, or itself the last of a number
 pub told-before :
-    {xs : List ℕ} {place i : ℕ} {turned : Bool} → ToldBy xs place i turned → 0 < i → getD xs (i - 1) 0 ≡ jobByte
+    {xs : List ℕ} {place i : ℕ} {turned : Bool} → ToldBy xs place i turned → 0 < i → opensNumber (getD xs (i - 1) 0) ≡ true
     → ToldBy xs place (i - 1) (not turned)
 told-before {xs} {place} {i} {turned} h lt e =
     let q : i ≡ suc (i - 1) = omega arith in
     record {
       told =
           h .told
-          ∙ ap (λ (t : Bool). cond turned (not t) t) (ap (inNumber xs) q ∙ inside-job xs (i - 1) e)
+          ∙ ap (λ (t : Bool). cond turned (not t) t) (ap (inNumber xs) q ∙ inside-opened xs (i - 1) e)
           ∙ go turned (inNumber xs (i - 1));
     }
   where
@@ -151,15 +167,15 @@ told-before {xs} {place} {i} {turned} h lt e =
 -- the byte before is any other
 pub told-other :
     {xs : List ℕ} {place i : ℕ} {turned : Bool} → ToldBy xs place i turned → Encoding xs → 0 < i → i ≤ length xs
-    → (getD xs (i - 1) 0 ≡ jobByte → ⊥) → not (Bool·beq turned (leb topBit (getD xs (i - 1) 0))) ≡ inNumber xs place
+    → opensNumber (getD xs (i - 1) 0) ≡ false → not (Bool·beq turned (leb topBit (getD xs (i - 1) 0))) ≡ inNumber xs place
 unfolding size
-told-other {xs} {place} {i} {turned} h (encoding b fits same) lt le other =
+told-other {xs} {place} {i} {turned} h (encoding b fits forced same) lt le other =
     let q : i ≡ suc (i - 1) = omega arith in
     let long : length xs ≡ length (encode b) = ap length same in
     let last : inNumber xs i ≡ leb topBit (getD xs (i - 1) 0)
     = ap (inNumber xs) q
     ∙ subst (λ (l : List ℕ). inNumber l (suc (i - 1)) ≡ leb topBit (getD l (i - 1) 0)) (sym same)
-    (inside-other b (i - 1) (fits .numbers) (omega arith) (subst (λ (l : List ℕ). getD l (i - 1) 0 ≡ jobByte → ⊥) same other)) in
+    (inside-other b (i - 1) (fits .numbers) (omega arith) (subst (λ (l : List ℕ). opensNumber (getD l (i - 1) 0) ≡ false) same other)) in
     go turned (leb topBit (getD xs (i - 1) 0)) ∙ ap (λ (t : Bool). cond turned (not t) t) (sym last) ∙ sym (h .told)
   where
     go : (s t : Bool) → not (Bool·beq s t) ≡ cond s (not t) t

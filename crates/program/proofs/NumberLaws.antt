@@ -113,7 +113,17 @@ again : (start : List ℕ) (only : Bool) (room b : ℕ) (ys : List ℕ) (k : ℕ
 unfolding andThen
 again start only room b ys k left le lt e = groups-more start only room b ys le lt ∙ rw e refl
 
--- What is no byte is refused behind bytes with their top bit set that leave room for it,
+-- Bytes with their top bit set that leave room run out,
+groups-cut : (start : List ℕ) (only : Bool) (room : ℕ) (high : List ℕ) → length high < room → TopBits high
+    → groups start only room high ≡ refused bytes-run-out []
+unfolding groups
+groups-cut start only zero high l t = absurd (omega arith)
+groups-cut start only (suc room) [] l t = refl
+groups-cut start only (suc room) (b ∷ high) l t =
+    let (le, lt) = t 0 (omega arith) in
+    again start only room b _ _ _ le lt (groups-cut start false room high (omega arith) (λ i h. t (suc i) (omega arith)))
+
+-- what is no byte is refused behind such bytes,
 groups-no-byte : (start : List ℕ) (only : Bool) (room : ℕ) (high : List ℕ) (x : ℕ) (zs : List ℕ) → length high < room → TopBits high
     → 2 * topBit ≤ x → groups start only room (high ++ (x ∷ zs)) ≡ refused byte-unknown (x ∷ zs)
 groups-no-byte start only zero high x zs l t ge = absurd (omega arith)
@@ -314,6 +324,10 @@ pub number-completed : (high : List ℕ) → length high < numberBytes → TopBi
     → (n : ℕ) × Small n × (encodeNumber n ≡ high ++ (1 ∷ []))
 unfolding encodeNumber
 number-completed high l t = let (n, p, q, e) = completed numberBytes high l t in (n, cut-small n q, e)
+
+-- without it they run out,
+pub number-cut : (high : List ℕ) → length high < numberBytes → TopBits high → number high ≡ refused bytes-run-out []
+number-cut high l t = number-refused high _ _ (groups-cut high true numberBytes high l t)
 
 -- and what is no byte is refused behind them.
 pub number-no-byte : (high : List ℕ) (x : ℕ) (zs : List ℕ) → length high < numberBytes → TopBits high → 2 * topBit ≤ x

@@ -3,7 +3,7 @@
 use Prim.Native.Nat.{ℕ, _+_, _<_, _≤_}
 use mathlib.Core.Path.{_≡_, refl, sym, ap, _∙_, subst}
 use mathlib.Core.Bool.{Bool, true, false, not, true≢false}
-use mathlib.Core.List.{List, _++_}
+use mathlib.Core.List.{List, [], _++_}
 use mathlib.Core.Option.{Option, none, some, Option·none-ne-some}
 use native.Mathlib.Omega.{arith}
 use lib.Dec.{ltb}
@@ -15,11 +15,11 @@ use Rattle.program.specs.Bytes.{encode, size}
 use Rattle.program.specs.Reader.{Reading, program, refusal, reading}
 use Rattle.refusal.specs.Refusals.{nothing-starts}
 use Rattle.program.specs.Answers.{ProgramSaid, loads, refused, told, Stands}
-use Rattle.program.specs.Located.{Code, locate, codeAt, head, found, standsIn, itemAt, isSome, startsIn, startsAt}
+use Rattle.program.specs.Located.{Code, locate, located, codeAt, head, found, standsIn, itemAt, isSome, startsIn, startsAt}
 use Rattle.program.specs.Claims.{Fits, Loadable, Encoding, encoding}
 use Rattle.program.specs.Internal.Progress.{BeginsWithBody, begins, Shows, inNumber}
 use Rattle.program.proofs.Exactness.{reading-sound}
-use Rattle.program.proofs.LocatedLaws.{item-stands}
+use Rattle.program.proofs.LocatedLaws.{head-locate, item-stands}
 use Rattle.program.proofs.StartLaws.{Placed, placed, code-bytes, starts, starts-within}
 use Rattle.program.proofs.SkipLaws.{part, part-is, part-length}
 
@@ -44,10 +44,10 @@ pub loads-encoding : (bytes : List ℕ) (c : Counts) → loads c ≡ told (readi
 loads-encoding bytes c is = go (loads-told bytes c is)
   where
     go : Loads bytes → Encoding bytes
-    go (loaded b e same long fits) = encoding b (fits .fits) same
+    go (loaded b e same long fits) = encoding b (fits .fits) (fits .forced) same
 
 -- in a program that is read, something starts where the search finds code
-starts-read : (bytes : List ℕ) (b : Body) (p : ℕ) → reading bytes ≡ program b → startsAt bytes p ≡ isSome (codeAt (locate 0 b) p)
+starts-read : (bytes : List ℕ) (b : Body) (p : ℕ) → reading bytes ≡ program b → startsAt bytes p ≡ isSome (codeAt (located b) p)
 unfolding startsAt startsIn
 starts-read bytes b p e = ap (λ r. startsIn r p) e
 
@@ -85,7 +85,7 @@ starts-inside bytes p c is lt = go (loads-told bytes c is)
 -- an item or an end byte starts there: the bytes from there on begin with a body, and what that begins with stands there
 data Starts (bytes : List ℕ) (p : ℕ) : Type 0 where
   starting :
-      (b : Body) (rest : List ℕ) → Fits b → drop p bytes ≡ encode b ++ rest → head (locate p b) ≡ itemAt bytes p
+      (b : Body) (rest : List ℕ) → Fits b → drop p bytes ≡ encode b ++ rest → head (locate [] p b) ≡ itemAt bytes p
       → length bytes ≤ programBytes → p < length bytes → Starts bytes p
 
 -- what the definition's test tells
@@ -100,7 +100,7 @@ code-none none h = refl
 code-none (some c) h = absurd (true≢false h)
 
 -- code starts only before the end of the bytes
-code-within : (b : Body) (p : ℕ) {d : Code} → codeAt (locate 0 b) p ≡ some d → p < size b
+code-within : (b : Body) (p : ℕ) {d : Code} → codeAt (located b) p ≡ some d → p < size b
 code-within b p {d} at = go (ltb p (size b)) refl
   where
     go : (t : Bool) → ltb p (size b) ≡ t → p < size b
@@ -108,17 +108,17 @@ code-within b p {d} at = go (ltb p (size b)) refl
     go false e = absurd (Option·none-ne-some _ (sym (starts-within b p (ltb-false p (size b) e)) ∙ at))
 
 starts-code :
-    (bytes : List ℕ) (p : ℕ) (b : Body) (d : Code) → reading bytes ≡ program b → codeAt (locate 0 b) p ≡ some d → Starts bytes p
+    (bytes : List ℕ) (p : ℕ) (b : Body) (d : Code) → reading bytes ≡ program b → codeAt (located b) p ≡ some d → Starts bytes p
 unfolding size
 starts-code bytes p b d e at = go (reading-sound bytes b e) (code-bytes b p d at)
   where
     go : (bytes ≡ encode b) × Loadable b → Placed b p d → Starts bytes p
-    go (same, fits) (placed b' rest is tail flat low) =
+    go (same, fits) (placed opened b' rest is tail flat low) =
         let long : length bytes ≡ length (encode b) = ap length same in
         starting b' rest
         (record { numbers = omega (arith, fits .fits .numbers); levels = omega (arith, fits .fits .levels) })
         (ap (λ l. drop p l) same ∙ tail)
-        (sym (item-stands bytes b p e at ∙ ap head is))
+        (sym (item-stands bytes b p e at ∙ ap head is ∙ head-locate opened [] p b'))
         (omega (arith, fits .bytes))
         (omega (arith, code-within b p at))
 
@@ -127,7 +127,7 @@ unfolding startsAt startsIn
 starts-there bytes p is = go (reading bytes) refl is
   where
     go : (r : Reading) → reading bytes ≡ r → startsIn r p ≡ true → Starts bytes p
-    go (program b) e is = let (d, at) = code-some (codeAt (locate 0 b) p) is in starts-code bytes p b d e at
+    go (program b) e is = let (d, at) = code-some (codeAt (located b) p) is in starts-code bytes p b d e at
     go (refusal n q) e is = absurd (true≢false (sym is))
 
 -- the program has bytes, not too many, and the place is one of them
@@ -168,5 +168,5 @@ unfolding startsAt startsIn itemAt standsIn found
 not-starting bytes p is = go (reading bytes) is
   where
     go : (r : Reading) → startsIn r p ≡ false → standsIn r p ≡ Stands.refused nothing-starts 0
-    go (program b) is = ap found (code-none (codeAt (locate 0 b) p) is)
+    go (program b) is = ap found (code-none (codeAt (located b) p) is)
     go (refusal n q) is = refl

@@ -8,8 +8,8 @@ use lib.ListN.{length, take, drop, length-drop, length-append}
 use lib.Seq.{drop-append-seam}
 use borrow.Rule.Slice.PartAt.{part-to-end}
 use Rattle.program.specs.declared.Reader.{Reader}
-use Rattle.program.specs.Trees.{Kind, jobs, asyncs, finishes, forks, Body, end, Item, a-job, an-async, a-finish, a-fork, withFirst, total}
-use Rattle.program.specs.Trees.{same, Counts, counts}
+use Rattle.program.specs.Trees.{Kind, jobs, asyncs, finishes, forks, futures, forces, Body, end, Item, a-job, an-async, a-finish, a-fork}
+use Rattle.program.specs.Trees.{a-future, a-force, withFirst, total, same, Counts, counts}
 use Rattle.program.specs.Bytes.{encode, size}
 use Rattle.program.specs.Reader.{Read, took, refused, andThen}
 use Rattle.program.specs.Answers.{itemCounts}
@@ -39,12 +39,23 @@ plus-assoc c d e =
       a = add-assoc (c .a) (d .a) (e .a) i;
       f = add-assoc (c .f) (d .f) (e .f) i;
       k = add-assoc (c .k) (d .k) (e .k) i;
+      u = add-assoc (c .u) (d .u) (e .u) i;
+      x = add-assoc (c .x) (d .x) (e .x) i;
     }
 
 -- an end byte counts nothing
 pub plus-end : (c : Counts) → plus c (counts end) ≡ c
 unfolding plus counts total
-plus-end c = λ i. record { w = add-zero (c .w) i; a = add-zero (c .a) i; f = add-zero (c .f) i; k = add-zero (c .k) i }
+plus-end c =
+    λ i.
+    record {
+      w = add-zero (c .w) i;
+      a = add-zero (c .a) i;
+      f = add-zero (c .f) i;
+      k = add-zero (c .k) i;
+      u = add-zero (c .u) i;
+      x = add-zero (c .x) i;
+    }
 
 -- what a body weighs, by its first item
 total-ahead : (g : Kind → ℕ) (i : Item) (b : Body) → total g (withFirst i b) ≡ total g (withFirst i end) + total g b
@@ -53,6 +64,8 @@ total-ahead g (a-job n) b = omega arith
 total-ahead g (an-async c) b = omega arith
 total-ahead g (a-finish c) b = omega arith
 total-ahead g (a-fork c d) b = omega arith
+total-ahead g (a-future c) b = omega arith
+total-ahead g (a-force n) b = omega arith
 
 -- what it counts
 pub counts-ahead : (i : Item) (b : Body) → counts (withFirst i b) ≡ plus (countsOf i) (counts b)
@@ -64,6 +77,8 @@ counts-ahead i b =
       a = total-ahead (same asyncs) i b j;
       f = total-ahead (same finishes) i b j;
       k = total-ahead (same forks) i b j;
+      u = total-ahead (same futures) i b j;
+      x = total-ahead (same forces) i b j;
     }
 
 -- no count is above this
@@ -72,11 +87,21 @@ pub record AtMost (n : ℕ) (c : Counts) : Type 0 where
   pub a-most : c .a ≤ n
   pub f-most : c .f ≤ n
   pub k-most : c .k ≤ n
+  pub u-most : c .u ≤ n
+  pub x-most : c .x ≤ n
 
 -- a body has no more items of a kind than bytes
 pub body-most : (b : Body) → AtMost (length (encode b)) (counts b)
 unfolding counts size
-body-most b = record { w-most = count-le jobs b; a-most = count-le asyncs b; f-most = count-le finishes b; k-most = count-le forks b }
+body-most b =
+    record {
+      w-most = count-le jobs b;
+      a-most = count-le asyncs b;
+      f-most = count-le finishes b;
+      k-most = count-le forks b;
+      u-most = count-le futures b;
+      x-most = count-le forces b;
+    }
 
 -- nor has an item
 item-few : (k : Kind) (i : Item) → total (same k) (withFirst i end) ≤ length (itemBytes i)
@@ -88,7 +113,15 @@ item-few k i =
 -- of no kind
 pub item-most : (i : Item) → AtMost (length (itemBytes i)) (countsOf i)
 unfolding counts countsOf
-item-most i = record { w-most = item-few jobs i; a-most = item-few asyncs i; f-most = item-few finishes i; k-most = item-few forks i }
+item-most i =
+    record {
+      w-most = item-few jobs i;
+      a-most = item-few asyncs i;
+      f-most = item-few finishes i;
+      k-most = item-few forks i;
+      u-most = item-few futures i;
+      x-most = item-few forces i;
+    }
 
 -- the first refusal stands
 pub stopped-on : {A B : Type 0} (count : A → Counts) (count' : B → Counts) (len : ℕ)
@@ -122,8 +155,19 @@ behind r r' xs bytes rest c h e few p s =
     let a : r' .seen .asyncs ≡ r .seen .asyncs + c .a = ap (λ (d : Counts). d .a) s in
     let f : r' .seen .finishes ≡ r .seen .finishes + c .f = ap (λ (d : Counts). d .f) s in
     let k : r' .seen .forks ≡ r .seen .forks + c .k = ap (λ (d : Counts). d .k) s in
+    let u : r' .seen .futures ≡ r .seen .futures + c .u = ap (λ (d : Counts). d .u) s in
+    let x : r' .seen .forces ≡ r .seen .forces + c .x = ap (λ (d : Counts). d .x) s in
     record {
-      ready = record { within = omega arith; jobs = omega arith; asyncs = omega arith; finishes = omega arith; forks = omega arith };
+      ready =
+          record {
+            within = omega arith;
+            jobs = omega arith;
+            asyncs = omega arith;
+            finishes = omega arith;
+            forks = omega arith;
+            futures = omega arith;
+            forces = omega arith;
+          };
       further = omega arith;
       all = len;
       left = ap (drop (length bytes)) e ∙ drop-append-seam bytes rest;

@@ -50,12 +50,17 @@ go-on {xs} {rest} front e (refused n left) next (was-refused l) g =
     let k : length left ≤ length xs = omega arith in
     was-refused k
 
--- a test, with a refusal where reading started
+-- a test, with a refusal further on
+pub guarded-at : {A : Type 0} {bytesOf : A → List ℕ} {Fit : A → Type 0} (t : Bool) (n : ℕ) (xs place : List ℕ) (next : Read A)
+    → length place ≤ length xs → (t ≡ true → Outcome bytesOf Fit xs next) → Outcome bytesOf Fit xs (takeIf t n place next)
+unfolding takeIf
+guarded-at true n xs place next l g = g refl
+guarded-at false n xs place next l g = was-refused l
+
+-- with one where reading started
 pub guarded : {A : Type 0} {bytesOf : A → List ℕ} {Fit : A → Type 0} (t : Bool) (n : ℕ) (xs : List ℕ) (next : Read A)
     → (t ≡ true → Outcome bytesOf Fit xs next) → Outcome bytesOf Fit xs (takeIf t n xs next)
-unfolding takeIf
-guarded true n xs next g = g refl
-guarded false n xs next g = refused-here n xs
+guarded t n xs next g = guarded-at t n xs xs next (le-refl (length xs)) g
 
 -- what was left behind a value is no longer than the bytes
 pub took-shorter : {A : Type 0} {bytesOf : A → List ℕ} {Fit : A → Type 0} {xs : List ℕ} {a : A} {rest : List ℕ}

@@ -9,7 +9,7 @@ use lib.Dec.{eqb, leb}
 use lib.ListN.{length}
 use borrow.Author.Tests.{eqb-true, eqb-false, ne-eqb, eq-eqb, leb-true, leb-false, le-leb, lt-leb}
 use Rattle.program.specs.Limits.{programBytes, vertexLimit}
-use Rattle.program.specs.Trees.{Body, end, job, async, finish, fork}
+use Rattle.program.specs.Trees.{Body, end, job, async, finish, fork, future, force, HasFutures}
 use Rattle.program.specs.Bytes.{encode, size}
 use Rattle.program.specs.Encodings.{firstEdition, verticesMade}
 use Rattle.refusal.specs.Refusals.{length-outside, bytes-after-end, too-many-vertices}
@@ -28,14 +28,14 @@ Outside bytes = (length bytes ≡ 0) ⊎ (programBytes < length bytes)
 -- What reading a whole program comes to, and why.
 pub data Comes (bytes : List ℕ) : Reading → Type 0 where
   outside : Outside bytes → Comes bytes (refusal length-outside 0)
-  stopped : (n : ℕ) (left : List ℕ) → Within bytes → body 1 bytes ≡ refused n left → Comes bytes (refusal n (length bytes - length left))
+  stopped : (n : ℕ) (left : List ℕ) → Within bytes → body 1 0 bytes ≡ refused n left → Comes bytes (refusal n (length bytes - length left))
   overran :
-      (b : Body) (x : ℕ) (left : List ℕ) → Within bytes → body 1 bytes ≡ took b (x ∷ left)
+      (b : Body) (x : ℕ) (left : List ℕ) → Within bytes → body 1 0 bytes ≡ took b (x ∷ left)
       → Comes bytes (refusal bytes-after-end (length bytes - length (x ∷ left)))
   crowds :
-      (b : Body) → Within bytes → body 1 bytes ≡ took b [] → vertexLimit < verticesMade firstEdition b
+      (b : Body) → Within bytes → body 1 0 bytes ≡ took b [] → vertexLimit < verticesMade firstEdition b
       → Comes bytes (refusal too-many-vertices 0)
-  loaded : (b : Body) → Within bytes → body 1 bytes ≡ took b [] → verticesMade firstEdition b ≤ vertexLimit → Comes bytes (program b)
+  loaded : (b : Body) → Within bytes → body 1 0 bytes ≡ took b [] → verticesMade firstEdition b ≤ vertexLimit → Comes bytes (program b)
 
 -- a length outside is refused
 pub reading-outside : (bytes : List ℕ) → Outside bytes → reading bytes ≡ refusal length-outside 0
@@ -46,13 +46,13 @@ reading-outside bytes (inr l) =
     rw (ne-eqb (length bytes) 0 ne, lt-leb (length bytes) programBytes l) refl
 
 -- within, it is up to the main body
-pub reading-within : (bytes : List ℕ) → Within bytes → reading bytes ≡ whole (length bytes) (body 1 bytes)
+pub reading-within : (bytes : List ℕ) → Within bytes → reading bytes ≡ whole (length bytes) (body 1 0 bytes)
 unfolding reading
 reading-within bytes (p, q) =
     let ne : length bytes ≡ 0 → ⊥ = omega arith in
     rw (ne-eqb (length bytes) 0 ne, le-leb (length bytes) programBytes q) refl
 
-counted-comes : (bytes : List ℕ) → Within bytes → (b : Body) → body 1 bytes ≡ took b [] → Comes bytes (counted b)
+counted-comes : (bytes : List ℕ) → Within bytes → (b : Body) → body 1 0 bytes ≡ took b [] → Comes bytes (counted b)
 unfolding counted
 counted-comes bytes w b e = go (leb (verticesMade firstEdition b) vertexLimit) refl
   where
@@ -60,7 +60,7 @@ counted-comes bytes w b e = go (leb (verticesMade firstEdition b) vertexLimit) r
     go true h = loaded b w e (leb-true (verticesMade firstEdition b) vertexLimit h)
     go false h = crowds b w e (leb-false (verticesMade firstEdition b) vertexLimit h)
 
-main-comes : (bytes : List ℕ) → Within bytes → (o : Read Body) → body 1 bytes ≡ o → Comes bytes (whole (length bytes) o)
+main-comes : (bytes : List ℕ) → Within bytes → (o : Read Body) → body 1 0 bytes ≡ o → Comes bytes (whole (length bytes) o)
 unfolding whole
 main-comes bytes w (took b []) e = counted-comes bytes w b e
 main-comes bytes w (took b (x ∷ left)) e = overran b x left w e
@@ -72,7 +72,7 @@ reading-comes bytes = first (eqb (length bytes) 0) refl
     second : 0 < length bytes → (t : Bool) → leb (length bytes) programBytes ≡ t → Comes bytes (reading bytes)
     second p true h =
         let w : Within bytes = (p, leb-true (length bytes) programBytes h) in
-        rw (reading-within bytes w) (main-comes bytes w (body 1 bytes) refl)
+        rw (reading-within bytes w) (main-comes bytes w (body 1 0 bytes) refl)
     second p false h =
         let o : Outside bytes = inr (leb-false (length bytes) programBytes h) in
         rw (reading-outside bytes o) (outside o)
@@ -94,15 +94,16 @@ pub counted-crowded : (b : Body) → vertexLimit < verticesMade firstEdition b �
 unfolding counted
 counted-crowded b h = rw (lt-leb (verticesMade firstEdition b) vertexLimit h) refl
 
--- a tree that fits is read back from its bytes, whatever stands behind them
-pub main-complete : (b : Body) (rest : List ℕ) → Fits b → body 1 (encode b ++ rest) ≡ took b rest
-main-complete b rest f = let l = f .levels in body-complete 1 b rest (f .numbers) (omega arith)
+-- a tree that fits, in which every force has its future, is read back from its bytes, whatever stands behind them
+pub main-complete : (b : Body) (rest : List ℕ) → Fits b → HasFutures 0 b → body 1 0 (encode b ++ rest) ≡ took b rest
+main-complete b rest f forced = let l = f .levels in body-complete 1 0 b rest (f .numbers) (omega arith) forced
 
 -- and what is read from the start of bytes is such a tree, and stands there
-pub main-sound : (bytes : List ℕ) (b : Body) (rest : List ℕ) → body 1 bytes ≡ took b rest → (bytes ≡ encode b ++ rest) × Fits b
+pub main-sound : (bytes : List ℕ) (b : Body) (rest : List ℕ) → body 1 0 bytes ≡ took b rest
+    → (bytes ≡ encode b ++ rest) × Fits b × HasFutures 0 b
 main-sound bytes b rest e =
-    let (p, q) = body-fits 1 bytes b rest e (omega arith) in
-    (body-sound 1 bytes b rest e, record { numbers = p; levels = omega arith })
+    let (p, q, f) = body-fits 1 0 bytes b rest e (omega arith) in
+    (body-sound 1 0 bytes b rest e, record { numbers = p; levels = omega arith }, f)
 
 -- an encoding has a byte at least
 pub encode-positive : (b : Body) → 0 < length (encode b)
@@ -112,19 +113,21 @@ encode-positive (job n r) = omega arith
 encode-positive (async b r) = omega arith
 encode-positive (finish b r) = omega arith
 encode-positive (fork b c r) = omega arith
+encode-positive (future b r) = omega arith
+encode-positive (force n r) = omega arith
 
 -- the same of bytes that the main body takes all,
-pub all-sound : (bytes : List ℕ) (b : Body) → body 1 bytes ≡ took b [] → (bytes ≡ encode b) × Fits b
-all-sound bytes b e = let (p, q) = main-sound bytes b [] e in (p ∙ append-nil (encode b), q)
+pub all-sound : (bytes : List ℕ) (b : Body) → body 1 0 bytes ≡ took b [] → (bytes ≡ encode b) × Fits b × HasFutures 0 b
+all-sound bytes b e = let (p, q, f) = main-sound bytes b [] e in (p ∙ append-nil (encode b), q, f)
 
--- and of all bytes of a tree that fits
-pub all-complete : (b : Body) → Fits b → body 1 (encode b) ≡ took b []
-all-complete b f = ap (body 1) (sym (append-nil (encode b))) ∙ main-complete b [] f
+-- and of all bytes of such a tree
+pub all-complete : (b : Body) → Fits b → HasFutures 0 b → body 1 0 (encode b) ≡ took b []
+all-complete b f forced = ap (body 1 0) (sym (append-nil (encode b))) ∙ main-complete b [] f forced
 
 -- what is accepted
 pub loaded-sound : (bytes : List ℕ) (b : Body) → Comes bytes (program b) → (bytes ≡ encode b) × Loadable b
 unfolding size
 loaded-sound bytes b (loaded _ w e v) =
-    let (p, q) = all-sound bytes b e in
+    let (p, q, f) = all-sound bytes b e in
     let l : length bytes ≤ programBytes = w .1 in
-    (p, record { fits = q; bytes = (rw p at l); made = v })
+    (p, record { fits = q; forced = f; bytes = (rw p at l); made = v })

@@ -1,6 +1,6 @@
 -- The refusals of a program's writer say what docs/ENGINE.md says of them. A refusal names bytes that run out exactly if the program is a
--- proper prefix of an encoding, bytes after the end exactly if a proper prefix of it is one, and 2, 3, 4 and 7 blame, exactly, the first
--- bytes that cannot be completed.
+-- proper prefix of an encoding or ends inside a force's number, bytes after the end exactly if a proper prefix of it is one, and 2, 3, 4, 7
+-- and 43 blame, exactly, the first bytes with which it can no longer be completed and does not end inside a force's number.
 use Prim.Native.Nat.{ℕ, _<_, _≤_}
 use mathlib.Core.Path.{_≡_, refl, sym, ap, _∙_}
 use mathlib.Core.List.{List}
@@ -23,7 +23,7 @@ outside-exactly bytes p = (
   λ (o, q). reading-outside bytes o ∙ ap (refusal length-outside) (sym q),
 )
 
--- "5 bytes run out": exactly where the program is a proper prefix of an encoding, and at its end.
+-- "5 bytes run out": exactly where the program is a proper prefix of an encoding or ends inside a force's number, and at its end.
 pub run-out : (bytes : List ℕ) (p : ℕ) → 0 < length bytes → length bytes ≤ programBytes
     → (reading bytes ≡ refusal bytes-run-out p) ↔ (Unfinished bytes × (p ≡ length bytes))
 unfolding whole
@@ -40,8 +40,8 @@ after-end bytes p l m = (
   λ o. overlong-after bytes p (l, m) o,
 )
 
--- "2, 3, 4 and 7 at p": exactly where the bytes before p lead to an item that offends at p as the number says. They can be completed to an
--- encoding, and together with the bytes that offend they cannot.
+-- 2, 3, 4, 7 and 43 at p: exactly where the bytes before p lead to an item that offends at p as the number says. They can be completed to an
+-- encoding, or end inside a force's number, and together with the bytes that offend they cannot, and do not.
 pub blame : (bytes : List ℕ) (n p : ℕ) → 0 < length bytes → length bytes ≤ programBytes → ByPlace n
     → (reading bytes ≡ refusal n p) ↔ Blamed bytes n p
 blame bytes n p l m h = (

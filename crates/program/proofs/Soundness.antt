@@ -9,11 +9,13 @@ use lib.Dec.{eqb, ltb}
 use lib.ListN.{length, length-append}
 use borrow.Author.Tests.{eqb-true, ltb-true}
 use Rattle.program.specs.Limits.{jobLimit, levelLimit}
-use Rattle.program.specs.Trees.{jobs, forks, Body, end, job, async, finish, fork, Item, a-job, an-async, a-finish, a-fork, withFirst, depth, largest}
-use Rattle.program.specs.Bytes.{endByte, jobByte, asyncByte, finishByte, forkByte, encodeNumber, encode}
-use Rattle.refusal.specs.Refusals.{byte-unknown, level-too-deep, bytes-run-out}
-use Rattle.program.specs.Reader.{Read, took, andThen, kindOf, deeper, number, jobOf, itemOf, item, bodyOf, body}
-use Rattle.program.proofs.ReadLaws.{Outcome, was-took, refused-here, refused-end, took-bytes, took-fits, go-on, guarded}
+use Rattle.program.specs.Trees.{forks, Body, end, job, async, finish, fork, future, force, Item, a-job, an-async, a-finish}
+use Rattle.program.specs.Trees.{a-fork, a-future, a-force, withFirst, depth, largest, openBehind, HasFutures}
+use Rattle.program.specs.Bytes.{endByte, jobByte, asyncByte, finishByte, forkByte, futureByte, forceByte, encodeNumber, encode}
+use Rattle.refusal.specs.Refusals.{byte-unknown, level-too-deep, bytes-run-out, no-such-future}
+use Rattle.program.specs.Reader.{Read, took, andThen, kindOf, deeper, number, jobOf, forceOf, itemOf, item, bodyOf, body}
+use Rattle.program.specs.Claims.{FitsFrom}
+use Rattle.program.proofs.ReadLaws.{Outcome, was-took, refused-here, refused-end, took-bytes, took-fits, go-on, guarded, guarded-at}
 use Rattle.program.proofs.NumberLaws.{number-outcome}
 
 -- the bytes of an item
@@ -22,6 +24,8 @@ itemBytes (a-job n) = jobByte ∷ encodeNumber n
 itemBytes (an-async b) = asyncByte ∷ encode b
 itemBytes (a-finish b) = finishByte ∷ encode b
 itemBytes (a-fork b c) = forkByte ∷ (encode b ++ encode c)
+itemBytes (a-future b) = futureByte ∷ encode b
+itemBytes (a-force n) = forceByte ∷ encodeNumber n
 
 -- an item has a byte at least
 pub item-bytes : (i : Item) → 0 < length (itemBytes i)
@@ -30,6 +34,8 @@ item-bytes (a-job n) = omega arith
 item-bytes (an-async b) = omega arith
 item-bytes (a-finish b) = omega arith
 item-bytes (a-fork b c) = omega arith
+item-bytes (a-future b) = omega arith
+item-bytes (a-force n) = omega arith
 
 -- a body's bytes are its first item's and those of the rest
 pub encode-ahead : (i : Item) (r : Body) → encode (withFirst i r) ≡ itemBytes i ++ encode r
@@ -38,29 +44,39 @@ encode-ahead (a-job n) r = refl
 encode-ahead (an-async b) r = refl
 encode-ahead (a-finish b) r = refl
 encode-ahead (a-fork b c) r = ap (λ (xs : List ℕ). forkByte ∷ xs) (sym (append-assoc (encode b) (encode c) (encode r)))
+encode-ahead (a-future b) r = refl
+encode-ahead (a-force n) r = refl
 
--- A body that may stand at a level: no number is above the limit, and no body below it is too deep.
-unfoldable pub FitsAt : ℕ → Body → Type 0
-FitsAt level end = Unit {0}
-FitsAt level (job n r) = (n ≤ jobLimit) × FitsAt level r
-FitsAt level (async b r) = (level < levelLimit) × FitsAt (suc level) b × FitsAt level r
-FitsAt level (finish b r) = (level < levelLimit) × FitsAt (suc level) b × FitsAt level r
-FitsAt level (fork b c r) = (level < levelLimit) × FitsAt (suc level) b × FitsAt (suc level) c × FitsAt level r
+-- A body that may stand at a level where so many futures are open: no number is above the limit, no body below it is too deep, and every force
+-- has its future.
+unfoldable pub FitsAt : ℕ → ℕ → Body → Type 0
+FitsAt level opened end = Unit {0}
+FitsAt level opened (job n r) = (n ≤ jobLimit) × FitsAt level opened r
+FitsAt level opened (async b r) = (level < levelLimit) × FitsAt (suc level) opened b × FitsAt level opened r
+FitsAt level opened (finish b r) = (level < levelLimit) × FitsAt (suc level) opened b × FitsAt level opened r
+FitsAt level opened (fork b c r) = (level < levelLimit) × FitsAt (suc level) opened b × FitsAt (suc level) opened c × FitsAt level opened r
+FitsAt level opened (future b r) = (level < levelLimit) × FitsAt (suc level) opened b × FitsAt level (suc opened) r
+FitsAt level opened (force n r) = (n ≤ jobLimit) × (n < opened) × FitsAt level opened r
 
--- an item that may stand in a body at a level
-unfoldable pub ItemFits : ℕ → Item → Type 0
-ItemFits level (a-job n) = n ≤ jobLimit
-ItemFits level (an-async b) = (level < levelLimit) × FitsAt (suc level) b
-ItemFits level (a-finish b) = (level < levelLimit) × FitsAt (suc level) b
-ItemFits level (a-fork b c) = (level < levelLimit) × FitsAt (suc level) b × FitsAt (suc level) c
+-- an item that may stand in a body at a level where so many futures are open
+unfoldable pub ItemFits : ℕ → ℕ → Item → Type 0
+ItemFits level opened (a-job n) = n ≤ jobLimit
+ItemFits level opened (an-async b) = (level < levelLimit) × FitsAt (suc level) opened b
+ItemFits level opened (a-finish b) = (level < levelLimit) × FitsAt (suc level) opened b
+ItemFits level opened (a-fork b c) = (level < levelLimit) × FitsAt (suc level) opened b × FitsAt (suc level) opened c
+ItemFits level opened (a-future b) = (level < levelLimit) × FitsAt (suc level) opened b
+ItemFits level opened (a-force n) = (n ≤ jobLimit) × (n < opened)
 
 -- an item that fits, before the rest of a body that fits
-pub fits-ahead : (level : ℕ) (i : Item) (r : Body) → ItemFits level i → FitsAt level r → FitsAt level (withFirst i r)
-unfolding FitsAt ItemFits withFirst
-fits-ahead level (a-job n) r h k = (h, k)
-fits-ahead level (an-async b) r h k = (h .0, h .1, k)
-fits-ahead level (a-finish b) r h k = (h .0, h .1, k)
-fits-ahead level (a-fork b c) r h k = (h .0, h .1, h .2, k)
+pub fits-ahead : (level opened : ℕ) (i : Item) (r : Body) → ItemFits level opened i → FitsAt level (openBehind i opened) r
+    → FitsAt level opened (withFirst i r)
+unfolding FitsAt ItemFits withFirst openBehind
+fits-ahead level opened (a-job n) r h k = (h, k)
+fits-ahead level opened (an-async b) r h k = (h .0, h .1, k)
+fits-ahead level opened (a-finish b) r h k = (h .0, h .1, k)
+fits-ahead level opened (a-fork b c) r h k = (h .0, h .1, h .2, k)
+fits-ahead level opened (a-future b) r h k = (h .0, h .1, k)
+fits-ahead level opened (a-force n) r h k = (h .0, h .1, k)
 
 -- a body's own level counts
 pub depth-positive : (b : Body) → 0 < depth b
@@ -70,74 +86,96 @@ depth-positive (job n r) = depth-positive r
 depth-positive (async b r) = let h = depth-positive r in omega arith
 depth-positive (finish b r) = let h = depth-positive r in omega arith
 depth-positive (fork b c r) = let h = depth-positive r in omega arith
+depth-positive (future b r) = let h = depth-positive r in omega arith
+depth-positive (force n r) = depth-positive r
 
--- a body that may stand at a level is within the limits from there on
-pub fits-limits : (level : ℕ) (b : Body) → FitsAt level b → level ≤ levelLimit
-    → (largest b ≤ jobLimit) × (depth b + level ≤ suc levelLimit)
-unfolding FitsAt largest depth
-fits-limits level end h l = (omega arith, omega arith)
-fits-limits level (job n r) h l = let k = fits-limits level r (h .1) l in (omega arith, omega arith)
-fits-limits level (async b r) h l =
+-- a body that may stand at a level is within the limits from there on, and every force has its future
+pub fits-limits : (level opened : ℕ) (b : Body) → FitsAt level opened b → level ≤ levelLimit → FitsFrom level opened b
+unfolding FitsAt HasFutures largest depth
+fits-limits level opened end h l = (omega arith, omega arith, tt)
+fits-limits level opened (job n r) h l = let (p, q, f) = fits-limits level opened r (h .1) l in (omega arith, omega arith, f)
+fits-limits level opened (async b r) h l =
     let lt = h .0 in
-    let (p, q) = fits-limits (suc level) b (h .1) lt in
-    let (s, t) = fits-limits level r (h .2) l in
-    (omega arith, omega arith)
-fits-limits level (finish b r) h l =
+    let (p, q, f) = fits-limits (suc level) opened b (h .1) lt in
+    let (s, t, g) = fits-limits level opened r (h .2) l in
+    (omega arith, omega arith, (f, g))
+fits-limits level opened (finish b r) h l =
     let lt = h .0 in
-    let (p, q) = fits-limits (suc level) b (h .1) lt in
-    let (s, t) = fits-limits level r (h .2) l in
-    (omega arith, omega arith)
-fits-limits level (fork b c r) h l =
+    let (p, q, f) = fits-limits (suc level) opened b (h .1) lt in
+    let (s, t, g) = fits-limits level opened r (h .2) l in
+    (omega arith, omega arith, (f, g))
+fits-limits level opened (fork b c r) h l =
     let lt = h .0 in
-    let (p, q) = fits-limits (suc level) b (h .1) lt in
-    let (u, v) = fits-limits (suc level) c (h .2) lt in
-    let (s, t) = fits-limits level r (h .3) l in
-    (omega arith, omega arith)
+    let (p, q, f) = fits-limits (suc level) opened b (h .1) lt in
+    let (u, v, e) = fits-limits (suc level) opened c (h .2) lt in
+    let (s, t, g) = fits-limits level opened r (h .3) l in
+    (omega arith, omega arith, (f, (e, g)))
+fits-limits level opened (future b r) h l =
+    let lt = h .0 in
+    let (p, q, f) = fits-limits (suc level) opened b (h .1) lt in
+    let (s, t, g) = fits-limits level (suc opened) r (h .2) l in
+    (omega arith, omega arith, (f, g))
+fits-limits level opened (force n r) h l =
+    let (p, q, f) = fits-limits level opened r (h .2) l in (omega arith, omega arith, (h .1, f))
 
 -- and the other way round
-pub limits-fit : (level : ℕ) (b : Body) → largest b ≤ jobLimit → depth b + level ≤ suc levelLimit → FitsAt level b
-unfolding FitsAt largest depth
-limits-fit level end h l = tt
-limits-fit level (job n r) h l = (omega arith, limits-fit level r (omega arith) l)
-limits-fit level (async b r) h l = (
+pub limits-fit : (level opened : ℕ) (b : Body) → largest b ≤ jobLimit → depth b + level ≤ suc levelLimit → HasFutures opened b
+    → FitsAt level opened b
+unfolding FitsAt HasFutures largest depth
+limits-fit level opened end h l f = tt
+limits-fit level opened (job n r) h l f = (omega arith, limits-fit level opened r (omega arith) l f)
+limits-fit level opened (async b r) h l f = (
   let d = depth-positive b in omega arith,
-  limits-fit (suc level) b (omega arith) (omega arith),
-  limits-fit level r (omega arith) (omega arith),
+  limits-fit (suc level) opened b (omega arith) (omega arith) (f .0),
+  limits-fit level opened r (omega arith) (omega arith) (f .1),
 )
-limits-fit level (finish b r) h l = (
+limits-fit level opened (finish b r) h l f = (
   let d = depth-positive b in omega arith,
-  limits-fit (suc level) b (omega arith) (omega arith),
-  limits-fit level r (omega arith) (omega arith),
+  limits-fit (suc level) opened b (omega arith) (omega arith) (f .0),
+  limits-fit level opened r (omega arith) (omega arith) (f .1),
 )
-limits-fit level (fork b c r) h l = (
+limits-fit level opened (fork b c r) h l f = (
   let d = depth-positive b in omega arith,
-  limits-fit (suc level) b (omega arith) (omega arith),
-  limits-fit (suc level) c (omega arith) (omega arith),
-  limits-fit level r (omega arith) (omega arith),
+  limits-fit (suc level) opened b (omega arith) (omega arith) (f .0),
+  limits-fit (suc level) opened c (omega arith) (omega arith) (f .1 .0),
+  limits-fit level opened r (omega arith) (omega arith) (f .1 .1),
 )
+limits-fit level opened (future b r) h l f = (
+  let d = depth-positive b in omega arith,
+  limits-fit (suc level) opened b (omega arith) (omega arith) (f .0),
+  limits-fit level (suc opened) r (omega arith) (omega arith) (f .1),
+)
+limits-fit level opened (force n r) h l f = (omega arith, f .0, limits-fit level opened r (omega arith) l (f .1))
 
--- A reader of bodies, of which this is known at every level and for all bytes.
-abbrev pub Sound : (ℕ → List ℕ → Read Body) → Type 0
-Sound readBody = (level : ℕ) (xs : List ℕ) → Outcome encode (FitsAt level) xs (readBody level xs)
+-- A reader of bodies, of which this is known at every level, for any number of open futures and for all bytes.
+abbrev pub Sound : (ℕ → ℕ → List ℕ → Read Body) → Type 0
+Sound readBody = (level opened : ℕ) (xs : List ℕ) → Outcome encode (FitsAt level opened) xs (readBody level opened xs)
 
 -- a job
-job-outcome : (readBody : ℕ → List ℕ → Read Body) (level : ℕ) (left : List ℕ)
-    → Outcome itemBytes (ItemFits level) (jobByte ∷ left) (itemOf readBody level (jobByte ∷ left) (some jobs) left)
-unfolding itemOf jobOf itemBytes ItemFits
-job-outcome readBody level left =
+job-outcome : (level opened : ℕ) (left : List ℕ) → Outcome itemBytes (ItemFits level opened) (jobByte ∷ left) (jobOf left)
+unfolding jobOf itemBytes ItemFits
+job-outcome level opened left =
     go-on (jobByte ∷ []) refl (number left) _ (number-outcome left)
     (λ n rest e h. was-took (ap (λ (r : List ℕ). jobByte ∷ r) e) h)
 
--- an item that holds one body, an async or a finish
-one-outcome : (readBody : ℕ → List ℕ → Read Body) → Sound readBody → (level x : ℕ) (made : Body → Item)
+-- a force
+force-outcome : (level opened : ℕ) (left : List ℕ) → Outcome itemBytes (ItemFits level opened) (forceByte ∷ left) (forceOf opened left)
+unfolding forceOf itemBytes ItemFits
+force-outcome level opened left =
+    go-on (forceByte ∷ []) refl (number left) _ (number-outcome left)
+    (λ n rest e h. guarded-at (ltb n opened) no-such-future (forceByte ∷ left) left _ (omega arith)
+    (λ t. was-took (ap (λ (r : List ℕ). forceByte ∷ r) e) (h, ltb-true n opened t)))
+
+-- an item that holds one body: an async, a finish or a future
+one-outcome : (readBody : ℕ → ℕ → List ℕ → Read Body) → Sound readBody → (level opened x : ℕ) (made : Body → Item)
     → ((b : Body) → itemBytes (made b) ≡ x ∷ encode b)
-    → ((b : Body) → level < levelLimit → FitsAt (suc level) b → ItemFits level (made b)) → (left : List ℕ)
-    → Outcome itemBytes (ItemFits level) (x ∷ left)
-    (deeper level (x ∷ left) (andThen (readBody (suc level) left) (λ b rest. took (made b) rest)))
+    → ((b : Body) → level < levelLimit → FitsAt (suc level) opened b → ItemFits level opened (made b)) → (left : List ℕ)
+    → Outcome itemBytes (ItemFits level opened) (x ∷ left)
+    (deeper level (x ∷ left) (andThen (readBody (suc level) opened left) (λ b rest. took (made b) rest)))
 unfolding deeper
-one-outcome readBody sound level x made p q left =
+one-outcome readBody sound level opened x made p q left =
     guarded (ltb level levelLimit) level-too-deep (x ∷ left) _
-    (λ t. go-on (x ∷ []) refl (readBody (suc level) left) _ (sound (suc level) left)
+    (λ t. go-on (x ∷ []) refl (readBody (suc level) opened left) _ (sound (suc level) opened left)
     (λ b rest e h. was-took
     (ap (λ (r : List ℕ). x ∷ r) e ∙ ap (λ (r : List ℕ). r ++ rest) (sym (p b)))
     (q b (ltb-true level levelLimit t) h)))
@@ -148,35 +186,39 @@ two-bytes : (x : ℕ) (xs ys rest zs rest' : List ℕ) → xs ≡ ys ++ rest →
 two-bytes x xs ys rest zs rest' p q = ap (λ (r : List ℕ). x ∷ r) (p ∙ ap (λ (r : List ℕ). ys ++ r) q ∙ sym (append-assoc ys zs rest'))
 
 -- a fork
-fork-outcome : (readBody : ℕ → List ℕ → Read Body) → Sound readBody → (level : ℕ) (left : List ℕ)
-    → Outcome itemBytes (ItemFits level) (forkByte ∷ left) (itemOf readBody level (forkByte ∷ left) (some forks) left)
+fork-outcome : (readBody : ℕ → ℕ → List ℕ → Read Body) → Sound readBody → (level opened : ℕ) (left : List ℕ)
+    → Outcome itemBytes (ItemFits level opened) (forkByte ∷ left) (itemOf readBody level opened (forkByte ∷ left) (some forks) left)
 unfolding itemOf deeper itemBytes ItemFits
-fork-outcome readBody sound level left =
+fork-outcome readBody sound level opened left =
     guarded (ltb level levelLimit) level-too-deep (forkByte ∷ left) _
-    (λ t. go-on (forkByte ∷ []) refl (readBody (suc level) left) _ (sound (suc level) left)
-    (λ b rest e h. go-on (forkByte ∷ encode b) (ap (λ (r : List ℕ). forkByte ∷ r) e) (readBody (suc level) rest) _ (sound (suc level) rest)
+    (λ t. go-on (forkByte ∷ []) refl (readBody (suc level) opened left) _ (sound (suc level) opened left)
+    (λ b rest e h. go-on (forkByte ∷ encode b) (ap (λ (r : List ℕ). forkByte ∷ r) e) (readBody (suc level) opened rest) _
+    (sound (suc level) opened rest)
     (λ c rest' e' h'. was-took (two-bytes forkByte left (encode b) rest (encode c) rest' e e') (ltb-true level levelLimit t, h, h'))))
 
 -- no item
-unknown-outcome : (readBody : ℕ → List ℕ → Read Body) (level x : ℕ) (left : List ℕ)
-    → Outcome itemBytes (ItemFits level) (x ∷ left) (itemOf readBody level (x ∷ left) none left)
+unknown-outcome : (readBody : ℕ → ℕ → List ℕ → Read Body) (level opened x : ℕ) (left : List ℕ)
+    → Outcome itemBytes (ItemFits level opened) (x ∷ left) (itemOf readBody level opened (x ∷ left) none left)
 unfolding itemOf
-unknown-outcome readBody level x left = refused-here byte-unknown (x ∷ left)
+unknown-outcome readBody level opened x left = refused-here byte-unknown (x ∷ left)
 
 -- What reading an item comes to, where the bodies that it holds are read soundly.
-pub item-outcome : (readBody : ℕ → List ℕ → Read Body) → Sound readBody → (level : ℕ) (xs : List ℕ)
-    → Outcome itemBytes (ItemFits level) xs (item readBody level xs)
+pub item-outcome : (readBody : ℕ → ℕ → List ℕ → Read Body) → Sound readBody → (level opened : ℕ) (xs : List ℕ)
+    → Outcome itemBytes (ItemFits level opened) xs (item readBody level opened xs)
 unfolding item itemOf kindOf itemBytes ItemFits
-item-outcome readBody sound level [] = refused-end bytes-run-out []
-item-outcome readBody sound level (zero ∷ left) = unknown-outcome readBody level zero left
-item-outcome readBody sound level (suc zero ∷ left) = job-outcome readBody level left
-item-outcome readBody sound level (suc (suc zero) ∷ left) =
-    one-outcome readBody sound level asyncByte an-async (λ b. refl) (λ b l h. (l, h)) left
-item-outcome readBody sound level (suc (suc (suc zero)) ∷ left) =
-    one-outcome readBody sound level finishByte a-finish (λ b. refl) (λ b l h. (l, h)) left
-item-outcome readBody sound level (suc (suc (suc (suc zero))) ∷ left) = fork-outcome readBody sound level left
-item-outcome readBody sound level (suc (suc (suc (suc (suc n)))) ∷ left) =
-    unknown-outcome readBody level (suc (suc (suc (suc (suc n))))) left
+item-outcome readBody sound level opened [] = refused-end bytes-run-out []
+item-outcome readBody sound level opened (zero ∷ left) = unknown-outcome readBody level opened zero left
+item-outcome readBody sound level opened (suc zero ∷ left) = job-outcome level opened left
+item-outcome readBody sound level opened (suc (suc zero) ∷ left) =
+    one-outcome readBody sound level opened asyncByte an-async (λ b. refl) (λ b l h. (l, h)) left
+item-outcome readBody sound level opened (suc (suc (suc zero)) ∷ left) =
+    one-outcome readBody sound level opened finishByte a-finish (λ b. refl) (λ b l h. (l, h)) left
+item-outcome readBody sound level opened (suc (suc (suc (suc zero))) ∷ left) = fork-outcome readBody sound level opened left
+item-outcome readBody sound level opened (suc (suc (suc (suc (suc zero)))) ∷ left) =
+    one-outcome readBody sound level opened futureByte a-future (λ b. refl) (λ b l h. (l, h)) left
+item-outcome readBody sound level opened (suc (suc (suc (suc (suc (suc zero))))) ∷ left) = force-outcome level opened left
+item-outcome readBody sound level opened (suc (suc (suc (suc (suc (suc (suc n)))))) ∷ left) =
+    unknown-outcome readBody level opened (suc (suc (suc (suc (suc (suc (suc n))))))) left
 
 -- the bytes of an item, and those of the rest of a body behind it
 ahead-bytes : (i : Item) (r : Body) (xs rest rest' : List ℕ) → xs ≡ itemBytes i ++ rest → rest ≡ encode r ++ rest'
@@ -186,70 +228,74 @@ ahead-bytes i r xs rest rest' p q =
     ∙ ap (λ (ys : List ℕ). ys ++ rest') (sym (encode-ahead i r))
 
 -- what stands behind an item is shorter than what the item was read from
-pub behind-item-of : (level x : ℕ) (left : List ℕ) (readBody : ℕ → List ℕ → Read Body) → Sound readBody → (i : Item) (rest : List ℕ)
-    → item readBody level (x ∷ left) ≡ took i rest → length rest ≤ length left
-behind-item-of level x left readBody sound i rest e =
-    let h : (x ∷ left) ≡ itemBytes i ++ rest = took-bytes (rw e at (item-outcome readBody sound level (x ∷ left))) in
+pub behind-item-of : (level opened x : ℕ) (left : List ℕ) (readBody : ℕ → ℕ → List ℕ → Read Body) → Sound readBody → (i : Item)
+    (rest : List ℕ)
+    → item readBody level opened (x ∷ left) ≡ took i rest → length rest ≤ length left
+behind-item-of level opened x left readBody sound i rest e =
+    let h : (x ∷ left) ≡ itemBytes i ++ rest = took-bytes (rw e at (item-outcome readBody sound level opened (x ∷ left))) in
     let k : length (x ∷ left) ≡ length (itemBytes i ++ rest) = ap length h in
     omega (arith, length-append (itemBytes i) rest, item-bytes i)
 
 -- a body that begins with an item
-items-outcome : (readItem : Read Item) (readBody : ℕ → List ℕ → Read Body) → Sound readBody → (level : ℕ) (xs : List ℕ)
-    → Outcome itemBytes (ItemFits level) xs readItem
-    → Outcome encode (FitsAt level) xs
-    (andThen readItem (λ first rest. andThen (readBody level rest) (λ others rest'. took (withFirst first others) rest')))
-items-outcome readItem readBody sound level xs h =
+items-outcome : (readItem : Read Item) (readBody : ℕ → ℕ → List ℕ → Read Body) → Sound readBody → (level opened : ℕ) (xs : List ℕ)
+    → Outcome itemBytes (ItemFits level opened) xs readItem
+    → Outcome encode (FitsAt level opened) xs
+    (andThen readItem
+    (λ first rest. andThen (readBody level (openBehind first opened) rest) (λ others rest'. took (withFirst first others) rest')))
+items-outcome readItem readBody sound level opened xs h =
     go-on [] refl readItem _ h
-    (λ i rest e f. go-on (itemBytes i) e (readBody level rest) _ (sound level rest)
-    (λ r rest' e' f'. was-took (ahead-bytes i r xs rest rest' e e') (fits-ahead level i r f f')))
+    (λ i rest e f. go-on (itemBytes i) e (readBody level (openBehind i opened) rest) _ (sound level (openBehind i opened) rest)
+    (λ r rest' e' f'. was-took (ahead-bytes i r xs rest rest' e e') (fits-ahead level opened i r f f')))
 
 -- a body that is at its end, or begins with an item
-first-outcome : (level x : ℕ) (left : List ℕ) (others : Read Body) → Outcome encode (FitsAt level) (x ∷ left) others
-    → Outcome encode (FitsAt level) (x ∷ left) (cond (eqb x endByte) (took end left) others)
+first-outcome : (level opened x : ℕ) (left : List ℕ) (others : Read Body) → Outcome encode (FitsAt level opened) (x ∷ left) others
+    → Outcome encode (FitsAt level opened) (x ∷ left) (cond (eqb x endByte) (took end left) others)
 unfolding encode FitsAt
-first-outcome level x left others h = go (eqb x endByte) refl
+first-outcome level opened x left others h = go (eqb x endByte) refl
   where
-    go : (t : Bool) → eqb x endByte ≡ t → Outcome encode (FitsAt level) (x ∷ left) (cond t (took end left) others)
+    go : (t : Bool) → eqb x endByte ≡ t → Outcome encode (FitsAt level opened) (x ∷ left) (cond t (took end left) others)
     go true e = was-took (ap (λ (b : ℕ). b ∷ left) (eqb-true x endByte e)) tt
     go false e = h
 
 -- What reading a body comes to, whatever the bound on its bytes.
 pub bodyOf-outcome : (n : ℕ) → Sound (bodyOf n)
 unfolding bodyOf
-bodyOf-outcome zero level xs = refused-end bytes-run-out xs
-bodyOf-outcome (suc n) level [] = refused-end bytes-run-out []
-bodyOf-outcome (suc n) level (x ∷ left) =
-    first-outcome level x left _
-    (items-outcome (item (bodyOf n) level (x ∷ left)) (bodyOf n) (bodyOf-outcome n) level (x ∷ left)
-    (item-outcome (bodyOf n) (bodyOf-outcome n) level (x ∷ left)))
+bodyOf-outcome zero level opened xs = refused-end bytes-run-out xs
+bodyOf-outcome (suc n) level opened [] = refused-end bytes-run-out []
+bodyOf-outcome (suc n) level opened (x ∷ left) =
+    first-outcome level opened x left _
+    (items-outcome (item (bodyOf n) level opened (x ∷ left)) (bodyOf n) (bodyOf-outcome n) level opened (x ∷ left)
+    (item-outcome (bodyOf n) (bodyOf-outcome n) level opened (x ∷ left)))
 
 -- What reading a body comes to.
 pub body-outcome : Sound body
 unfolding body
-body-outcome level xs = bodyOf-outcome (length xs) level xs
+body-outcome level opened xs = bodyOf-outcome (length xs) level opened xs
 
 -- A body that is read stands at the start of the bytes.
-pub body-sound : (level : ℕ) (xs : List ℕ) (b : Body) (rest : List ℕ) → body level xs ≡ took b rest → xs ≡ encode b ++ rest
-body-sound level xs b rest e = took-bytes (rw e at (body-outcome level xs))
+pub body-sound : (level opened : ℕ) (xs : List ℕ) (b : Body) (rest : List ℕ) → body level opened xs ≡ took b rest → xs ≡ encode b ++ rest
+body-sound level opened xs b rest e = took-bytes (rw e at (body-outcome level opened xs))
 
 -- It fits there,
-pub body-fits-at : (level : ℕ) (xs : List ℕ) (b : Body) (rest : List ℕ) → body level xs ≡ took b rest → FitsAt level b
-body-fits-at level xs b rest e = took-fits (rw e at (body-outcome level xs))
+pub body-fits-at : (level opened : ℕ) (xs : List ℕ) (b : Body) (rest : List ℕ) → body level opened xs ≡ took b rest → FitsAt level opened b
+body-fits-at level opened xs b rest e = took-fits (rw e at (body-outcome level opened xs))
 
--- which is to say that it is within the limits.
-pub body-fits : (level : ℕ) (xs : List ℕ) (b : Body) (rest : List ℕ) → body level xs ≡ took b rest → level ≤ levelLimit
-    → (largest b ≤ jobLimit) × (depth b + level ≤ suc levelLimit)
-body-fits level xs b rest e l = fits-limits level b (body-fits-at level xs b rest e) l
+-- which is to say that it is within the limits, and that every force has its future.
+pub body-fits : (level opened : ℕ) (xs : List ℕ) (b : Body) (rest : List ℕ) → body level opened xs ≡ took b rest → level ≤ levelLimit
+    → FitsFrom level opened b
+body-fits level opened xs b rest e l = fits-limits level opened b (body-fits-at level opened xs b rest e) l
 
 -- An item that is read stands at the start of the bytes,
-pub item-sound : (level : ℕ) (xs : List ℕ) (i : Item) (rest : List ℕ) → item body level xs ≡ took i rest → xs ≡ itemBytes i ++ rest
-item-sound level xs i rest e = took-bytes (rw e at (item-outcome body body-outcome level xs))
+pub item-sound : (level opened : ℕ) (xs : List ℕ) (i : Item) (rest : List ℕ) → item body level opened xs ≡ took i rest
+    → xs ≡ itemBytes i ++ rest
+item-sound level opened xs i rest e = took-bytes (rw e at (item-outcome body body-outcome level opened xs))
 
 -- it fits,
-pub item-fits : (level : ℕ) (xs : List ℕ) (i : Item) (rest : List ℕ) → item body level xs ≡ took i rest → ItemFits level i
-item-fits level xs i rest e = took-fits (rw e at (item-outcome body body-outcome level xs))
+pub item-fits : (level opened : ℕ) (xs : List ℕ) (i : Item) (rest : List ℕ) → item body level opened xs ≡ took i rest
+    → ItemFits level opened i
+item-fits level opened xs i rest e = took-fits (rw e at (item-outcome body body-outcome level opened xs))
 
 -- what stands behind it is shorter,
-pub behind-item : (level x : ℕ) (left : List ℕ) (i : Item) (rest : List ℕ) → item body level (x ∷ left) ≡ took i rest
+pub behind-item : (level opened x : ℕ) (left : List ℕ) (i : Item) (rest : List ℕ) → item body level opened (x ∷ left) ≡ took i rest
     → length rest ≤ length left
-behind-item level x left i rest e = behind-item-of level x left body body-outcome i rest e
+behind-item level opened x left i rest e = behind-item-of level opened x left body body-outcome i rest e

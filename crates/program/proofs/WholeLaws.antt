@@ -42,11 +42,11 @@ read-outside xs out = sym (ap told (reading-outside xs out))
 
 -- what was counted before the first item
 abbrev none-seen : Counts
-none-seen = record { w = 0; a = 0; f = 0; k = 0 }
+none-seen = record { w = 0; a = 0; f = 0; k = 0; u = 0; x = 0 }
 
 plus-none : (c : Counts) → plus none-seen c ≡ c
 unfolding plus
-plus-none c = rw (zero-add (c .w), zero-add (c .a), zero-add (c .f), zero-add (c .k)) refl
+plus-none c = rw (zero-add (c .w), zero-add (c .a), zero-add (c .f), zero-add (c .k), zero-add (c .u), zero-add (c .x)) refl
 
 -- the main body ends with the program
 counted-said : (len : ℕ) (b : Body) → finished len len (counts b) ≡ told (counted b)
@@ -72,16 +72,24 @@ body-said len (refused n left) some = refl
 pub start-ready : (r : Reader) (xs : List ℕ) → r ≡ readerAt 0 → length xs ≤ programBytes → Ready r xs
 start-ready r xs is few =
     subst (λ (r : Reader). Ready r xs) (sym is)
-    (record { within = omega arith; jobs = omega arith; asyncs = omega arith; finishes = omega arith; forks = omega arith })
+    (record {
+      within = omega arith;
+      jobs = omega arith;
+      asyncs = omega arith;
+      finishes = omega arith;
+      forks = omega arith;
+      futures = omega arith;
+      forces = omega arith;
+    })
 
 -- the program comes to what its main body does
 pub main-said :
     (r : Reader) (xs : List ℕ) (g : Progress) → r ≡ readerAt 0 → Within xs
-    → g ≡ progress counts (r .place + length xs) (itemCounts (r .seen)) (body 1 xs) → concluded (length xs) g ≡ told (reading xs)
+    → g ≡ progress counts (r .place + length xs) (itemCounts (r .seen)) (body 1 0 xs) → concluded (length xs) g ≡ told (reading xs)
 main-said r xs g start within is =
     ap (concluded (length xs))
     (is
-    ∙ ap (λ (r : Reader). progress counts (r .place + length xs) (itemCounts (r .seen)) (body 1 xs)) start
-    ∙ ap (λ (m : ℕ). progress counts m none-seen (body 1 xs)) (zero-add (length xs)))
-    ∙ body-said (length xs) (body 1 xs) (within .0)
+    ∙ ap (λ (r : Reader). progress counts (r .place + length xs) (itemCounts (r .seen)) (body 1 0 xs)) start
+    ∙ ap (λ (m : ℕ). progress counts m none-seen (body 1 0 xs)) (zero-add (length xs)))
+    ∙ body-said (length xs) (body 1 0 xs) (within .0)
     ∙ ap told (sym (reading-within xs within))

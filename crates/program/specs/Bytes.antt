@@ -5,7 +5,7 @@ use mathlib.Core.List.{List, [], _∷_, _++_}
 use lib.Dec.{ltb}
 use lib.ListN.{length}
 use Rattle.program.specs.Limits.{numberBytes}
-use Rattle.program.specs.Trees.{Body, end, job, async, finish, fork}
+use Rattle.program.specs.Trees.{Body, end, job, async, finish, fork, future, force}
 
 -- "A body ends with the byte 0. Items, by first byte: 1 job, .. 2 async, .. 3 finish, .. 4 fork"
 abbrev pub endByte : ℕ
@@ -22,6 +22,13 @@ finishByte = 3
 
 abbrev pub forkByte : ℕ
 forkByte = 4
+
+-- "Byte 5 is a future with one body; byte 6 is a force with a number" (note 5)
+abbrev pub futureByte : ℕ
+futureByte = 5
+
+abbrev pub forceByte : ℕ
+forceByte = 6
 
 -- "groups of seven bits", and the weight of "the top bit"
 abbrev pub topBit : ℕ
@@ -43,6 +50,8 @@ encode (job n r) = jobByte ∷ (encodeNumber n ++ encode r)
 encode (async b r) = asyncByte ∷ (encode b ++ encode r)
 encode (finish b r) = finishByte ∷ (encode b ++ encode r)
 encode (fork b c r) = forkByte ∷ (encode b ++ (encode c ++ encode r))
+encode (future b r) = futureByte ∷ (encode b ++ encode r)
+encode (force n r) = forceByte ∷ (encodeNumber n ++ encode r)
 
 unfoldable pub numberSize : ℕ → ℕ
 numberSize n = length (encodeNumber n)

@@ -1,33 +1,51 @@
 -- A tree laid out from an offset on, and what stands at a place.
-use Prim.Native.Nat.{ℕ, suc, _+_, _<_}
+use Prim.Native.Nat.{ℕ, zero, suc, _+_, _<_}
 use mathlib.Core.Path.{_≡_}
 use mathlib.Core.Bool.{Bool, true, false, cond}
-use mathlib.Core.List.{List}
+use mathlib.Core.List.{List, [], _∷_}
 use mathlib.Core.Option.{Option, none, some}
 use lib.Dec.{eqb}
 use lib.ListN.{length, getD}
-use Rattle.program.specs.Trees.{Body, end, job, async, finish, fork}
+use Rattle.program.specs.Trees.{Body, end, job, async, finish, fork, future, force}
 use Rattle.program.specs.Bytes.{numberSize, size}
 use Rattle.program.specs.Reader.{Reading, program, refusal, reading}
 use Rattle.refusal.specs.Refusals.{nothing-starts}
 use Rattle.program.specs.Answers.{Stands}
 
 -- A body with the byte offset of each of its items and of its end byte. It is also the code that a vertex has left: what stands
--- from its place to the end byte of the body that the place is in.
+-- from its place to the end byte of the body that the place is in. A force has its number and, for the order of jobs, the body of the future
+-- that it names, with the offsets that this body has in the program.
 pub data Code : Type 0 where
   end-at : ℕ → Code
   job-at : ℕ → ℕ → Code → Code
   async-at : ℕ → Code → Code → Code
   finish-at : ℕ → Code → Code → Code
   fork-at : ℕ → Code → Code → Code → Code
+  future-at : ℕ → Code → Code → Code
+  force-at : ℕ → ℕ → Code → Code → Code
 
-unfoldable pub locate : ℕ → Body → Code
-locate o end = end-at o
-locate o (job n r) = job-at o n (locate (suc (o + numberSize n)) r)
-locate o (async b r) = async-at o (locate (suc o) b) (locate (suc (o + size b)) r)
-locate o (finish b r) = finish-at o (locate (suc o) b) (locate (suc (o + size b)) r)
-locate o (fork b c r) =
-    fork-at o (locate (suc o) b) (locate (suc (o + size b)) c) (locate (suc (o + size b + size c)) r)
+-- "0 for the nearest future open there": the body of open future number n, the nearest first. Where there is none this is an empty body at o;
+-- a program that is read has no such force.
+unfoldable pub openAt : List Code → ℕ → ℕ → Code
+openAt [] n o = end-at o
+openAt (b ∷ opened) zero o = b
+openAt (b ∷ opened) (suc n) o = openAt opened n o
+
+-- a tree from an offset on, where these are the bodies of the open futures
+unfoldable pub locate : List Code → ℕ → Body → Code
+locate opened o end = end-at o
+locate opened o (job n r) = job-at o n (locate opened (suc (o + numberSize n)) r)
+locate opened o (async b r) = async-at o (locate opened (suc o) b) (locate opened (suc (o + size b)) r)
+locate opened o (finish b r) = finish-at o (locate opened (suc o) b) (locate opened (suc (o + size b)) r)
+locate opened o (fork b c r) =
+    fork-at o (locate opened (suc o) b) (locate opened (suc (o + size b)) c) (locate opened (suc (o + size b + size c)) r)
+locate opened o (future b r) =
+    future-at o (locate opened (suc o) b) (locate (locate opened (suc o) b ∷ opened) (suc (o + size b)) r)
+locate opened o (force n r) = force-at o n (openAt opened n o) (locate opened (suc (o + numberSize n)) r)
+
+-- a program, from its first byte on
+unfoldable pub located : Body → Code
+located b = locate [] 0 b
 
 -- where code starts
 unfoldable pub startOf : Code → ℕ
@@ -36,6 +54,8 @@ startOf (job-at o n r) = o
 startOf (async-at o b r) = o
 startOf (finish-at o b r) = o
 startOf (fork-at o b c r) = o
+startOf (future-at o b r) = o
+startOf (force-at o n b r) = o
 
 -- the offset of its end byte
 unfoldable pub last : Code → ℕ
@@ -44,6 +64,8 @@ last (job-at o n r) = last r
 last (async-at o b r) = last r
 last (finish-at o b r) = last r
 last (fork-at o b c r) = last r
+last (future-at o b r) = last r
+last (force-at o n b r) = last r
 
 unfoldable pub here : Bool → Code → Option Code → Option Code
 here true c others = some c
@@ -60,6 +82,8 @@ codeAt (job-at o n r) p = here (eqb p o) (job-at o n r) (codeAt r p)
 codeAt (async-at o b r) p = here (eqb p o) (async-at o b r) (orElse (codeAt b p) (codeAt r p))
 codeAt (finish-at o b r) p = here (eqb p o) (finish-at o b r) (orElse (codeAt b p) (codeAt r p))
 codeAt (fork-at o b c r) p = here (eqb p o) (fork-at o b c r) (orElse (codeAt b p) (orElse (codeAt c p) (codeAt r p)))
+codeAt (future-at o b r) p = here (eqb p o) (future-at o b r) (orElse (codeAt b p) (codeAt r p))
+codeAt (force-at o n b r) p = here (eqb p o) (force-at o n b r) (codeAt r p)
 
 -- what stands where code starts
 unfoldable pub head : Code → Stands
@@ -68,17 +92,19 @@ head (job-at o n r) = Stands.job n (startOf r)
 head (async-at o b r) = Stands.async (startOf b) (startOf r)
 head (finish-at o b r) = Stands.finish (startOf b) (startOf r)
 head (fork-at o b c r) = Stands.fork (startOf b) (startOf c) (startOf r)
+head (future-at o b r) = Stands.future (startOf b) (startOf r)
+head (force-at o n b r) = Stands.force n (startOf r)
 
 unfoldable pub found : Option Code → Stands
 found none = Stands.refused nothing-starts 0
 found (some c) = head c
 
 unfoldable pub standsIn : Reading → ℕ → Stands
-standsIn (program b) p = found (codeAt (locate 0 b) p)
+standsIn (program b) p = found (codeAt (located b) p)
 standsIn (refusal n q) p = Stands.refused nothing-starts 0
 
--- What stands at a place "in the reading of the whole program from its first byte". "13 .. bytes that loading refuses by 1 to 8, a
--- place where no item or end byte starts"
+-- What stands at a place, where the whole program is read from its first byte on. "13 .. bytes that loading refuses by 1 to 8, a place where no
+-- item or end byte starts"; "13 counts 43 as it does 1 to 8" (note 5)
 unfoldable pub itemAt : List ℕ → ℕ → Stands
 itemAt bytes p = standsIn (reading bytes) p
 
@@ -88,7 +114,7 @@ isSome none = false
 isSome (some c) = true
 
 unfoldable pub startsIn : Reading → ℕ → Bool
-startsIn (program b) p = isSome (codeAt (locate 0 b) p)
+startsIn (program b) p = isSome (codeAt (located b) p)
 startsIn (refusal n q) p = false
 
 unfoldable pub startsAt : List ℕ → ℕ → Bool

@@ -6,11 +6,12 @@ use mathlib.Core.Option.{Option, none, some}
 use lib.Dec.{eqb, ltb, leb}
 use lib.ListN.{length}
 use Rattle.program.specs.Limits.{numberBytes, jobLimit, levelLimit, programBytes, vertexLimit}
-use Rattle.program.specs.Trees.{Kind, jobs, asyncs, finishes, forks, Body, end, Item, a-job, an-async, a-finish, a-fork, withFirst}
+use Rattle.program.specs.Trees.{Kind, jobs, asyncs, finishes, forks, futures, forces, Body, end, Item, a-job, an-async, a-finish, a-fork}
+use Rattle.program.specs.Trees.{a-future, a-force, withFirst, openBehind}
 use Rattle.program.specs.Bytes.{endByte, topBit}
 use Rattle.program.specs.Encodings.{firstEdition, verticesMade}
 use Rattle.refusal.specs.Refusals.{byte-unknown, level-too-deep, length-outside, bytes-run-out}
-use Rattle.refusal.specs.Refusals.{number-malformed, too-many-vertices, bytes-after-end, job-too-large}
+use Rattle.refusal.specs.Refusals.{number-malformed, too-many-vertices, bytes-after-end, job-too-large, no-such-future}
 
 -- What is read from bytes: a value, and the bytes behind it, or a refusal, and the bytes from its place on.
 pub data Read (A : Type 0) : Type 0 where
@@ -45,14 +46,16 @@ number start =
     andThen (groups start true numberBytes start)
     (λ n rest. takeIf (leb n jobLimit) job-too-large start (took n rest))
 
--- "Items, by first byte: 1 job, .. 2 async, .. 3 finish, .. 4 fork"
+-- "Items, by first byte: 1 job, .. 2 async, .. 3 finish, .. 4 fork"; "Byte 5 is a future .. byte 6 is a force"
 unfoldable pub kindOf : ℕ → Option Kind
 kindOf zero = none
 kindOf (suc zero) = some jobs
 kindOf (suc (suc zero)) = some asyncs
 kindOf (suc (suc (suc zero))) = some finishes
 kindOf (suc (suc (suc (suc zero)))) = some forks
-kindOf (suc (suc (suc (suc (suc n))))) = none
+kindOf (suc (suc (suc (suc (suc zero))))) = some futures
+kindOf (suc (suc (suc (suc (suc (suc zero)))))) = some forces
+kindOf (suc (suc (suc (suc (suc (suc (suc n))))))) = none
 
 -- "4 a body at level 33 (place: its opener)": what an item holds is read only where its bodies are not too deep
 unfoldable pub deeper : ℕ → List ℕ → Read Item → Read Item
@@ -62,35 +65,43 @@ deeper level opener held = takeIf (ltb level levelLimit) level-too-deep opener h
 unfoldable pub jobOf : List ℕ → Read Item
 jobOf left = andThen (number left) (λ n rest. took (a-job n) rest)
 
--- what stands behind an item's first byte, in a body at this level; `readBody` reads a body at a level
-unfoldable pub itemOf : (ℕ → List ℕ → Read Body) → ℕ → List ℕ → Option Kind → List ℕ → Read Item
-itemOf readBody level place none left = refused byte-unknown place
-itemOf readBody level place (some jobs) left = jobOf left
-itemOf readBody level place (some asyncs) left =
-    deeper level place (andThen (readBody (suc level) left) (λ b rest. took (an-async b) rest))
-itemOf readBody level place (some finishes) left =
-    deeper level place (andThen (readBody (suc level) left) (λ b rest. took (a-finish b) rest))
-itemOf readBody level place (some forks) left =
+-- "43 a force with no such future open, at its number's first byte, .. after 7, which holds for that number too"; so many futures are open
+unfoldable pub forceOf : ℕ → List ℕ → Read Item
+forceOf opened left = andThen (number left) (λ n rest. takeIf (ltb n opened) no-such-future left (took (a-force n) rest))
+
+-- What stands behind an item's first byte, in a body at this level, where so many futures are open; `readBody` reads a body at a level, with
+-- so many open at its start.
+unfoldable pub itemOf : (ℕ → ℕ → List ℕ → Read Body) → ℕ → ℕ → List ℕ → Option Kind → List ℕ → Read Item
+itemOf readBody level opened place none left = refused byte-unknown place
+itemOf readBody level opened place (some jobs) left = jobOf left
+itemOf readBody level opened place (some asyncs) left =
+    deeper level place (andThen (readBody (suc level) opened left) (λ b rest. took (an-async b) rest))
+itemOf readBody level opened place (some finishes) left =
+    deeper level place (andThen (readBody (suc level) opened left) (λ b rest. took (a-finish b) rest))
+itemOf readBody level opened place (some forks) left =
     deeper level place
-    (andThen (readBody (suc level) left)
-    (λ b rest. andThen (readBody (suc level) rest) (λ c rest'. took (a-fork b c) rest')))
+    (andThen (readBody (suc level) opened left)
+    (λ b rest. andThen (readBody (suc level) opened rest) (λ c rest'. took (a-fork b c) rest')))
+itemOf readBody level opened place (some futures) left =
+    deeper level place (andThen (readBody (suc level) opened left) (λ b rest. took (a-future b) rest))
+itemOf readBody level opened place (some forces) left = forceOf opened left
 
 -- an item, from its first byte on
-unfoldable pub item : (ℕ → List ℕ → Read Body) → ℕ → List ℕ → Read Item
-item readBody level [] = refused bytes-run-out []
-item readBody level (x ∷ left) = itemOf readBody level (x ∷ left) (kindOf x) left
+unfoldable pub item : (ℕ → ℕ → List ℕ → Read Body) → ℕ → ℕ → List ℕ → Read Item
+item readBody level opened [] = refused bytes-run-out []
+item readBody level opened (x ∷ left) = itemOf readBody level opened (x ∷ left) (kindOf x) left
 
--- A body at a level, from its first byte on: items up to the end byte. There are at most n bytes left.
-unfoldable pub bodyOf : ℕ → ℕ → List ℕ → Read Body
-bodyOf zero level left = refused bytes-run-out []
-bodyOf (suc n) level [] = refused bytes-run-out []
-bodyOf (suc n) level (x ∷ left) =
+-- A body at a level, with so many futures open at its start, from its first byte on: items up to the end byte. There are at most n bytes left.
+unfoldable pub bodyOf : ℕ → ℕ → ℕ → List ℕ → Read Body
+bodyOf zero level opened left = refused bytes-run-out []
+bodyOf (suc n) level opened [] = refused bytes-run-out []
+bodyOf (suc n) level opened (x ∷ left) =
     cond (eqb x endByte) (took end left)
-    (andThen (item (bodyOf n) level (x ∷ left))
-    (λ first rest. andThen (bodyOf n level rest) (λ others rest'. took (withFirst first others) rest')))
+    (andThen (item (bodyOf n) level opened (x ∷ left))
+    (λ first rest. andThen (bodyOf n level (openBehind first opened) rest) (λ others rest'. took (withFirst first others) rest')))
 
-unfoldable pub body : ℕ → List ℕ → Read Body
-body level left = bodyOf (length left) level left
+unfoldable pub body : ℕ → ℕ → List ℕ → Read Body
+body level opened left = bodyOf (length left) level opened left
 
 -- what reading a whole program comes to: its tree, or the refusal's number and place
 pub data Reading : Type 0 where
@@ -107,8 +118,8 @@ whole len (took b []) = counted b
 whole len (took b (x ∷ left)) = refusal bytes-after-end (len - length (x ∷ left))
 whole len (refused n left) = refusal n (len - length left)
 
--- "Load: 1; the first of 2 to 7 by place, ..; 8"
+-- "Load: 1; the first of 2 to 7 by place, ..; 8"; 43 is "by place among 2 to 7"
 unfoldable pub reading : List ℕ → Reading
 reading bytes =
     cond (eqb (length bytes) 0) (refusal length-outside 0)
-    (cond (leb (length bytes) programBytes) (whole (length bytes) (body 1 bytes)) (refusal length-outside 0))
+    (cond (leb (length bytes) programBytes) (whole (length bytes) (body 1 0 bytes)) (refusal length-outside 0))

@@ -10,6 +10,10 @@ pub const FINISH: u8 = 3;
 
 pub const FORK: u8 = 4;
 
+pub const FUTURE: u8 = 5;
+
+pub const FORCE: u8 = 6;
+
 // Set on every byte of a number but its last.
 pub const TOP_BIT: u8 = 128;
 

@@ -6,7 +6,9 @@ use crate::Reader;
 use crate::format::ASYNC;
 use crate::format::END;
 use crate::format::FINISH;
+use crate::format::FORCE;
 use crate::format::FORK;
+use crate::format::FUTURE;
 use crate::format::JOB;
 use crate::numbers::number_end;
 use crate::starts::starts_at;
@@ -17,8 +19,8 @@ ghost use Prim.Native.Nat.{_+_, _≤_};
 ghost use lib.ListN.{length};
 ghost use Rattle.program.specs.Limits.{programBytes};
 ghost use Rattle.program.specs.Located.{itemAt};
-ghost use Rattle.program.specs.Answers.{stands, readerAt, handedBack, movedPast};
-ghost use Rattle.program.specs.Internal.Progress.{BeginsWithBody, Shows, ShowsJob, Sized};
+ghost use Rattle.program.specs.Answers.{Stands, stands, readerAt, handedBack, movedPast};
+ghost use Rattle.program.specs.Internal.Progress.{BeginsWithBody, Shows, ShowsNumbered, Sized};
 
 // What stands at a place of a program, with a reader moved past it that has seen nothing; refused where the program is, and where no item
 // or end byte starts.
@@ -45,6 +47,8 @@ impl Reader {
             asyncs: 0,
             finishes: 0,
             forks: 0,
+            futures: 0,
+            forces: 0,
         };
         Reader {
             place,
@@ -67,6 +71,9 @@ impl Reader {
         if first == JOB {
             return self.job_here(bytes);
         }
+        if first == FORCE {
+            return self.force_here(bytes);
+        }
         let body = self.place + 1;
         let behind = 1 + body_size(&bytes[1..]);
         let past = self.moved(behind as u32);
@@ -75,6 +82,9 @@ impl Reader {
         }
         if first == FINISH {
             return ItemRead::Finish { body, past };
+        }
+        if first == FUTURE {
+            return ItemRead::Future { body, past };
         }
         ItemRead::Fork {
             left: body,
@@ -86,12 +96,24 @@ impl Reader {
     // The job at this reader's place, where `bytes` start.
     fn job_here(self, bytes: &[u8]) -> ItemRead
         requires { ⌜ (1 ≤ length (now bytes)) × (self .place + length (now bytes) ≤ programBytes) ⌝ }
-        ensures { λ r. ⌜ ShowsJob (now (bytes .entry)) (self .place) (stands r) × (handedBack r ≡ movedPast self (stands r)) ⌝ }
+        ensures { λ r. ⌜ ShowsNumbered Stands.job (now (bytes .entry)) (self .place) (stands r) × (handedBack r ≡ movedPast self (stands r)) ⌝ }
     {
         let read = self.moved(1).number(&bytes[1..]);
         match read {
             NumberRead::Refused(refusal) => ItemRead::Refused(refusal),
             NumberRead::Number(number, past) => ItemRead::Job { number, past },
+        }
+    }
+
+    // The force at this reader's place, where `bytes` start.
+    fn force_here(self, bytes: &[u8]) -> ItemRead
+        requires { ⌜ (1 ≤ length (now bytes)) × (self .place + length (now bytes) ≤ programBytes) ⌝ }
+        ensures { λ r. ⌜ ShowsNumbered Stands.force (now (bytes .entry)) (self .place) (stands r) × (handedBack r ≡ movedPast self (stands r)) ⌝ }
+    {
+        let read = self.moved(1).number(&bytes[1..]);
+        match read {
+            NumberRead::Refused(refusal) => ItemRead::Refused(refusal),
+            NumberRead::Number(number, past) => ItemRead::Force { number, past },
         }
     }
 }
@@ -104,7 +126,7 @@ fn body_size(bytes: &[u8]) -> usize
     let mut from = 0;
     while bytes[from] != END {
         let first = bytes[from];
-        if first == JOB {
+        if first == JOB || first == FORCE {
             from = from + 1 + number_end(&bytes[from + 1..]);
             continue;
         }

@@ -11,12 +11,15 @@ pub mod starts;
 
 use refusal::Refusal;
 
-// How many items of each kind.
+// How many items of each kind. A program has fewer bytes than 16 bits can count; so narrow, and in this order, with the counts that rise most
+// often in a word of their own, they cost a reader little to carry along (docs/COST.md).
 pub struct ItemCounts {
-    pub jobs: u32,
-    pub asyncs: u32,
-    pub finishes: u32,
-    pub forks: u32,
+    pub futures: u16,
+    pub forces: u16,
+    pub jobs: u16,
+    pub asyncs: u16,
+    pub finishes: u16,
+    pub forks: u16,
 }
 
 // Where a reader is in the program, and the items that it has seen.
@@ -37,9 +40,10 @@ pub enum NumberRead {
     Refused(Refusal),
 }
 
-// What a reader carries along into a body: the level of that body.
+// What a reader carries along into a body, and from item to item: the level of that body, and how many futures are open.
 pub struct Inside {
     pub level: u32,
+    pub opened: u32,
 }
 
 // What reading a whole program answers.
@@ -54,6 +58,8 @@ pub enum ItemRead {
     Async { body: u32, past: Reader },
     Finish { body: u32, past: Reader },
     Fork { left: u32, right: u32, past: Reader },
+    Future { body: u32, past: Reader },
+    Force { number: u32, past: Reader },
     End { past: Reader },
     Refused(Refusal),
 }

@@ -20,14 +20,24 @@ ghost use Rattle.program.specs.Internal.Progress.{finished};
 pub fn vertices(items: ItemCounts) -> u64
     ensures { λ r. ⌜ r ≡ vertexFormula (itemCounts items) ⌝ }
 {
-    2 + items.asyncs as u64 + 2 * items.finishes as u64 + 3 * items.forks as u64
+    2
+        + items.asyncs as u64
+        + 2 * items.finishes as u64
+        + 3 * items.forks as u64
+        + 2 * items.futures as u64
+        + items.forces as u64
 }
 
 // Edge rows that it needs.
 pub fn edge_rows(items: ItemCounts) -> u64
     ensures { λ r. ⌜ r ≡ edgeRowFormula (itemCounts items) ⌝ }
 {
-    1 + items.asyncs as u64 + items.finishes as u64 + 2 * items.forks as u64
+    1
+        + items.asyncs as u64
+        + items.finishes as u64
+        + 2 * items.forks as u64
+        + items.futures as u64
+        + items.forces as u64
 }
 
 // Steps that it takes.
@@ -39,6 +49,8 @@ pub fn steps(items: ItemCounts) -> u64
         + 5 * items.asyncs as u64
         + 10 * items.finishes as u64
         + 15 * items.forks as u64
+        + 9 * items.futures as u64
+        + 6 * items.forces as u64
 }
 
 // The counts of a program's items, or the first refusal.
@@ -52,7 +64,13 @@ pub fn read(program: &[u8]) -> ProgramRead
     if PROGRAM_BYTES < length {
         return refused(LENGTH_OUTSIDE, 0);
     }
-    let main = Reader::at(0).body(program, Inside { level: 1 });
+    let main = Reader::at(0).body(
+        program,
+        Inside {
+            level: 1,
+            opened: 0,
+        },
+    );
     match main {
         Advanced::Refused(refusal) => ProgramRead::Refused(refusal),
         Advanced::Past(end) => at_end(end, length),

@@ -1,17 +1,18 @@
 // Where items and end bytes start in a program.
 use crate::ProgramRead;
+use crate::format::FORCE;
 use crate::format::JOB;
 use crate::format::TOP_BIT;
 use crate::reading::read;
 ghost use mathlib.Core.Path.{_≡_};
 ghost use mathlib.Core.Bool.{cond};
 ghost use Prim.Native.Nat.{_≤_};
-ghost use lib.Dec.{eqb, leb};
+ghost use lib.Dec.{leb};
 ghost use lib.ListN.{length, replicate};
-ghost use Rattle.program.specs.Bytes.{jobByte, topBit};
+ghost use Rattle.program.specs.Bytes.{topBit};
 ghost use Rattle.program.specs.Located.{startsAt, MarksStarts};
 ghost use Rattle.program.specs.Claims.{Encoding};
-ghost use Rattle.program.specs.Internal.Progress.{inNumber, Outside};
+ghost use Rattle.program.specs.Internal.Progress.{opensNumber, inNumber, Outside};
 
 // Whether an item or an end byte starts at a place of a program.
 pub fn starts_at(program: &[u8], place: u32) -> bool
@@ -65,16 +66,23 @@ fn mark(starts: bool) -> u8
 
 // The byte behind `byte` stands inside a number, where `inside` tells it of `byte` itself.
 fn still_inside(inside: bool, byte: u8) -> bool
-    ensures { λ r. ⌜ r ≡ cond inside (leb topBit byte) (eqb byte jobByte) ⌝ }
+    ensures { λ r. ⌜ r ≡ cond inside (leb topBit byte) (opensNumber byte) ⌝ }
 {
     if inside {
         return TOP_BIT <= byte;
     }
-    byte == JOB
+    opens_number(byte)
+}
+
+// The byte is a job's first or a force's, unless it is itself one of a number.
+fn opens_number(byte: u8) -> bool
+    ensures { λ r. ⌜ r ≡ opensNumber byte ⌝ }
+{
+    byte == JOB || byte == FORCE
 }
 
 // The byte at a place stands inside a number of a program. The bytes before tell it, from the last on: one with its top bit set has another
-// of its number behind it, and one that is 1 is a job's first byte, unless it is itself the last of a number.
+// of its number behind it, and one that is 1 or 6 is a job's first byte or a force's, unless it is itself the last of a number.
 fn in_number(program: &[u8], place: usize) -> bool
     requires { ⌜ Encoding (now program) × (place ≤ length (now program)) ⌝ }
     ensures { λ r. ⌜ r ≡ inNumber (now (program .entry)) place ⌝ }
@@ -83,7 +91,7 @@ fn in_number(program: &[u8], place: usize) -> bool
     let mut turned = false;
     while 0 < before {
         let byte = program[before - 1];
-        if byte != JOB {
+        if !opens_number(byte) {
             return turned != (TOP_BIT <= byte);
         }
         before -= 1;

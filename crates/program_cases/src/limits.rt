@@ -1,13 +1,24 @@
 // The longest, deepest and largest programs, and those just past the limits.
 use crate::show;
 use cases::number;
+use program::format::FORCE;
+use program::format::FUTURE;
+ghost use Prim.Native.Nat.{_≤_};
 
 pub(crate) fn all() {
     nested(31, 63);
     openers(32);
     nested(32, 65);
+    nested_futures(31, 63);
+    nested_futures(32, 65);
     asyncs(1022, 2045);
     asyncs(1023, 2047);
+    futures(511, 1023);
+    futures(512, 1025);
+    forces(1020, 2043);
+    forces(1021, 2045);
+    far_force(128, 256);
+    far_force(129, 258);
     jobs(4096);
     jobs(4097);
 }
@@ -17,6 +28,14 @@ fn nested(openers: u32, length: usize) {
     let mut bytes = [0u8; 4097];
     fill(&mut bytes, 0, openers, 1, 2);
     number(b"nested ", openers);
+    part(&bytes, length);
+}
+
+// The same with futures.
+fn nested_futures(openers: u32, length: usize) {
+    let mut bytes = [0u8; 4097];
+    fill(&mut bytes, 0, openers, 1, FUTURE);
+    number(b"nested futures ", openers);
     part(&bytes, length);
 }
 
@@ -34,6 +53,36 @@ fn asyncs(count: u32, length: usize) {
     fill(&mut bytes, 0, count, 2, 2);
     number(b"asyncs ", count);
     part(&bytes, length);
+}
+
+// Futures with an empty body.
+fn futures(count: u32, length: usize) {
+    let mut bytes = [0u8; 4097];
+    fill(&mut bytes, 0, count, 2, FUTURE);
+    number(b"futures ", count);
+    part(&bytes, length);
+}
+
+// A future with an empty body, and forces of it.
+fn forces(count: u32, length: usize) {
+    let mut bytes = [0u8; 4097];
+    bytes[0] = FUTURE;
+    fill(&mut bytes, 2, count, 2, FORCE);
+    number(b"forces ", count);
+    part(&bytes, length);
+}
+
+// Futures with an empty body, and where they end a force with the number 128.
+fn far_force(count: u32, at: usize)
+    requires { ⌜ at ≤ 4000 ⌝ }
+{
+    let mut bytes = [0u8; 4097];
+    fill(&mut bytes, 0, count, 2, FUTURE);
+    bytes[at] = FORCE;
+    bytes[at + 1] = 128;
+    bytes[at + 2] = 1;
+    number(b"force 128 of ", count);
+    part(&bytes, at + 4);
 }
 
 // Jobs in a program of this length: the first has a number of two bytes, the others have the number 0.

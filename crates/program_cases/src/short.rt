@@ -1,9 +1,11 @@
-// Every program of one and of two bytes, and every fifth byte of a job's number. Those that differ in their last byte only and are answered alike stand together, as
-// `first-last number place`; an accepted program has the number 0.
+// Every program of one and of two bytes, and every fifth byte of a job's number and of a force's. Those that differ in their last byte only
+// and are answered alike stand together, as `first-last number place`; an accepted program has the number 0.
 use cases::hex;
 use cases::number;
 use cases::text;
 use program::ProgramRead;
+use program::format::FORCE;
+use program::format::JOB;
 use program::reading::read;
 
 pub(crate) fn all() {
@@ -11,8 +13,10 @@ pub(crate) fn all() {
     for first in 0..256u32 {
         two_bytes(first);
     }
-    fifth_byte(128);
-    fifth_byte(255);
+    fifth_byte(JOB, 128);
+    fifth_byte(JOB, 255);
+    fifth_byte(FORCE, 128);
+    fifth_byte(FORCE, 255);
 }
 
 fn one_byte() {
@@ -28,10 +32,11 @@ fn two_bytes(first: u32) {
 }
 
 // The last byte is the number's fifth, behind four that are the same.
-fn fifth_byte(others: u8) {
+fn fifth_byte(first: u8, others: u8) {
     let mut program = [others; 6];
-    program[0] = 1;
-    hex(b"01 and four times ", others);
+    program[0] = first;
+    hex(b"", first);
+    hex(b" and four times ", others);
     last_bytes(&mut program);
 }
 

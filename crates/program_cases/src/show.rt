@@ -10,10 +10,12 @@ pub(crate) fn reading(program: &[u8]) {
     let answer = read(program);
     match answer {
         ProgramRead::Program(items) => {
-            number(b": jobs ", items.jobs);
-            number(b" asyncs ", items.asyncs);
-            number(b" finishes ", items.finishes);
-            number(b" forks ", items.forks);
+            number(b": jobs ", items.jobs as u32);
+            number(b" asyncs ", items.asyncs as u32);
+            number(b" finishes ", items.finishes as u32);
+            number(b" forks ", items.forks as u32);
+            number(b" futures ", items.futures as u32);
+            number(b" forces ", items.forces as u32);
             text(b"\n");
         }
         ProgramRead::Refused(refusal) => {
@@ -36,6 +38,8 @@ pub(crate) fn item(program: &[u8], place: u32) {
             number(b" fork ", left);
             two(b" ", right, past.place);
         }
+        ItemRead::Future { body, past } => two(b" future ", body, past.place),
+        ItemRead::Force { number: n, past } => two(b" force ", n, past.place),
         ItemRead::End { past } => text(b" end\n"),
         ItemRead::Refused(refusal) => two(b" refused ", refusal.number, refusal.place),
     }

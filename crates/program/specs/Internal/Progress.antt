@@ -12,7 +12,7 @@ use Rattle.program.specs.declared.NumberRead.{NumberRead}
 use Rattle.program.specs.declared.NumberRead.the-variants as of-number
 use Rattle.program.specs.Limits.{jobLimit, programBytes, vertexLimit}
 use Rattle.program.specs.Trees.{Counts, counts, Body, end, Item, withFirst}
-use Rattle.program.specs.Bytes.{jobByte, asyncByte, finishByte, forkByte, topBit, encodeNumber, numberSize, encode, size}
+use Rattle.program.specs.Bytes.{jobByte, asyncByte, finishByte, forkByte, futureByte, forceByte, topBit, encodeNumber, numberSize, encode, size}
 use Rattle.refusal.specs.Refusals.{number-malformed, bytes-after-end, job-too-large, too-many-vertices}
 use Rattle.program.specs.Reader.{Read, took, refused}
 use Rattle.program.specs.Answers.{ProgramSaid, loads, itemCounts, Stands}
@@ -21,7 +21,7 @@ use Rattle.program.specs.Encodings.{vertexFormula}
 use Rattle.program.specs.Claims.{Fits}
 
 unfoldable pub plus : Counts → Counts → Counts
-plus c d = record { w = c .w + d .w; a = c .a + d .a; f = c .f + d .f; k = c .k + d .k }
+plus c d = record { w = c .w + d .w; a = c .a + d .a; f = c .f + d .f; k = c .k + d .k; u = c .u + d .u; x = c .x + d .x }
 
 -- what a reader has come to: its place and the items that it has seen, or a refusal's number and place
 pub data Progress : Type 0 where
@@ -69,6 +69,8 @@ oneOf first =
       a = cond (eqb first asyncByte) 1 0;
       f = cond (eqb first finishByte) 1 0;
       k = cond (eqb first forkByte) 1 0;
+      u = cond (eqb first futureByte) 1 0;
+      x = cond (eqb first forceByte) 1 0;
     }
 
 -- no more than a program can have
@@ -77,6 +79,8 @@ pub record Few (c : Counts) : Type 0 where
   pub a-few : c .a ≤ programBytes
   pub f-few : c .f ≤ programBytes
   pub k-few : c .k ≤ programBytes
+  pub u-few : c .u ≤ programBytes
+  pub x-few : c .x ≤ programBytes
 
 -- what a program of this length comes to whose main body ends at this place and has these items
 unfoldable pub finished : ℕ → ℕ → Counts → ProgramSaid
@@ -91,6 +95,8 @@ pub record Ready (r : Reader) (left : List ℕ) : Type 0 where
   pub asyncs : r .seen .asyncs ≤ r .place
   pub finishes : r .seen .finishes ≤ r .place
   pub forks : r .seen .forks ≤ r .place
+  pub futures : r .seen .futures ≤ r .place
+  pub forces : r .seen .forces ≤ r .place
 
 -- these bytes begin with a body's
 pub data BeginsWithBody (xs : List ℕ) : Type 0 where
@@ -102,21 +108,25 @@ Sized xs r = (b : Body) (rest : List ℕ) → Fits b → xs ≡ encode b ++ rest
 
 -- s is what stands at a place, where these bytes start: what the body begins with that they begin with
 abbrev pub Shows : List ℕ → ℕ → Stands → Type 0
-Shows xs p s = (b : Body) (rest : List ℕ) → Fits b → xs ≡ encode b ++ rest → s ≡ head (locate p b)
+Shows xs p s = (b : Body) (rest : List ℕ) → Fits b → xs ≡ encode b ++ rest → s ≡ head (locate [] p b)
 
--- s is the job that stands at a place, where these bytes start
-abbrev pub ShowsJob : List ℕ → ℕ → Stands → Type 0
-ShowsJob xs p s = (n : ℕ) (rest : List ℕ) → n ≤ jobLimit → drop 1 xs ≡ encodeNumber n ++ rest → s ≡ Stands.job n (p + 1 + numberSize n)
+-- s is the job or the force that stands at a place, where these bytes start
+abbrev pub ShowsNumbered : (ℕ → ℕ → Stands) → List ℕ → ℕ → Stands → Type 0
+ShowsNumbered said xs p s = (n : ℕ) (rest : List ℕ) → n ≤ jobLimit → drop 1 xs ≡ encodeNumber n ++ rest → s ≡ said n (p + 1 + numberSize n)
 
 -- how many bytes a number has, from its first on: up to the first whose top bit is clear
 unfoldable pub numberEnd : List ℕ → ℕ
 numberEnd [] = 0
 numberEnd (b ∷ left) = cond (ltb b topBit) 1 (suc (numberEnd left))
 
--- the byte at i stands inside a number, behind a job's first byte or behind a byte of the number with its top bit set
+-- a job's first byte or a force's
+unfoldable pub opensNumber : ℕ → Bool
+opensNumber x = cond (eqb x jobByte) true (eqb x forceByte)
+
+-- the byte at i stands inside a number, behind a job's or a force's first byte or behind a byte of the number with its top bit set
 unfoldable pub inNumber : List ℕ → ℕ → Bool
 inNumber xs zero = false
-inNumber xs (suc i) = cond (inNumber xs i) (leb topBit (getD xs i 0)) (eqb (getD xs i 0) jobByte)
+inNumber xs (suc i) = cond (inNumber xs i) (leb topBit (getD xs i 0)) (opensNumber (getD xs i 0))
 
 -- marks that tell of each of their places whether it is one of these bytes' and outside their numbers
 abbrev pub Outside : List ℕ → List ℕ → Type 0

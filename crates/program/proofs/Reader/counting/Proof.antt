@@ -1,7 +1,7 @@
 -- Each count is one more or the same.
 use mathlib.Core.Path.{refl}
 use borrow.Author.Needs.{needs}
-use Rattle.program.specs.Bytes.{jobByte, asyncByte, finishByte, forkByte}
+use Rattle.program.specs.Bytes.{jobByte, asyncByte, finishByte, forkByte, futureByte, forceByte}
 use Rattle.program.proofs.CodeLaws.{count-fits, one-more}
 use Rattle.program.proofs.Reader.counting.Statement.{statement}
 use Rattle.program.proofs.Reader.counting.Tie as tie
@@ -26,15 +26,30 @@ add-t12 c =
     let start = c .before .before .before .before .before .before .before .before .before in
     record { fits = count-fits _ (start .args .first) forkByte (c .before .one4 .ensures) (start .pre .k-few) }
 
+add-t14 : tie.Need-add-t14
+add-t14 c =
+    let start = c .before .before .before .before .before .before .before .before .before .before .before in
+    record { fits = count-fits _ (start .args .first) futureByte (c .before .one5 .ensures) (start .pre .u-few) }
+
+add-t16 : tie.Need-add-t16
+add-t16 c =
+    let start = c .before .before .before .before .before .before .before .before .before .before .before .before .before in
+    record { fits = count-fits _ (start .args .first) forceByte (c .before .one6 .ensures) (start .pre .x-few) }
+
 returns : tie.Need-returns
 returns c =
-    let three = c .before .before .before in
+    let five = c .before .before .before in
+    let four = five .before .before in
+    let three = four .before .before in
     let two = three .before .before in
-    let one = two .before .before in
-    (refl, one-more _ _ _ _ _ _ (one .one .ensures) (two .one2 .ensures) (three .one3 .ensures) (c .before .one4 .ensures))
+    let one = two .before .before in (
+      refl,
+      one-more _ _ _ _ _ _ _ _ (one .one .ensures) (two .one2 .ensures) (three .one3 .ensures) (four .one4 .ensures) (five .one5 .ensures)
+          (c .before .one6 .ensures),
+    )
 
 pub counting-spec : {M : Type 1} → statement M
 counting-spec =
     tie.close
     (tie.spec (λ c κs. search needs) add-t6 (λ c κs. search needs) add-t8 (λ c κs. search needs) add-t10 (λ c κs. search needs) add-t12
-    returns)
+    (λ c κs. search needs) add-t14 (λ c κs. search needs) add-t16 returns)

@@ -1,4 +1,4 @@
--- By the first byte: an end byte, a job, an async, a finish or a fork. The reader is moved by the bytes of what stands there.
+-- By the first byte: an end byte, a job, a force, an async, a finish, a future or a fork. The reader is moved by the bytes of what stands there.
 use Prim.Native.Nat.{_+_, _<_, _≤_}
 use mathlib.Core.Path.{_≡_, refl, _∙_}
 use native.Mathlib.Omega.{arith}
@@ -6,44 +6,57 @@ use lib.ListN.{length, getD}
 use borrow.Author.Needs.{needs}
 use Rattle.program.specs.Bytes.{forkByte}
 use Rattle.program.proofs.SkipLaws.{skip-none, skip-fork, first-holds, second-holds, first-within}
-use Rattle.program.proofs.ItemLaws.{shows-end, shows-job, shows-async, shows-finish, shows-fork, handed}
+use Rattle.program.proofs.ItemLaws.{shows-end, shows-job, shows-force, shows-async, shows-finish, shows-future, shows-fork, handed}
 use Rattle.program.proofs.Reader.item_here.Statement.{statement}
 use Rattle.program.proofs.Reader.item_here.Tie as tie
 
 -- the first body ends within the bytes
-first : (c : tie.After-body-size) → 1 + c .body-size .result ≤ length (c .before .before .before .before .before .before .before .args .bytes .now)
-first c = first-within _ 0 _ (skip-none _ (c .before .before .before .before .before .before .before .pre .0)) (omega arith) (c .body-size .ensures)
+first :
+    (c : tie.After-body-size)
+    → 1 + c .body-size .result ≤ length (c .before .before .before .before .before .before .before .before .args .bytes .now)
+first c =
+    first-within _ 0 _ (skip-none _ (c .before .before .before .before .before .before .before .before .pre .0)) (omega arith)
+    (c .before .before .before .if3 .left) (c .body-size .ensures)
 
 -- no other byte is left
-forked : (c : tie.Else4) → getD (c .before .before .before .before .before .before .before .before .before .before .args .bytes .now) 0 0 ≡ forkByte
-forked c = omega (arith, skip-none _ (c .before .before .before .before .before .before .before .before .before .before .pre .0))
+forked :
+    (c : tie.Else6)
+    → getD (c .before .before .before .before .before .before .before .before .before .before .before .before .args .bytes .now) 0 0 ≡ forkByte
+forked c = omega (arith, skip-none _ (c .before .before .before .before .before .before .before .before .before .before .before .before .pre .0))
 
 -- so does a fork's second
 second :
     (c : tie.After-body-size2)
-    → 1 + c .before .before .before .before .before .body-size .result + c .body-size2 .result
-    < length (c .before .before .before .before .before .before .before .before .before .before .before .before .args .bytes .now)
+    → 1 + c .before .before .before .before .before .before .body-size .result + c .body-size2 .result
+    < length (c .before .before .before .before .before .before .before .before .before .before .before .before .before .before .args .bytes .now)
 second c =
-    skip-fork _ 0 _ _ (skip-none _ (c .before .before .before .before .before .before .before .before .before .before .before .before .pre .0))
-    (forked (c .before .before)) (c .before .before .before .before .before .body-size .ensures) (c .body-size2 .ensures) .0
-
-returns-3 : tie.Need-returns-3
-returns-3 c = (
-  shows-async _ _ _ (c .if3 .taken) (c .before .before .body-size .ensures) (c .before .moved2 .ensures .0),
-  handed _ refl (c .before .moved2 .ensures .1),
-)
+    skip-fork _ 0 _ _
+    (skip-none _ (c .before .before .before .before .before .before .before .before .before .before .before .before .before .before .pre .0))
+    (forked (c .before .before)) (c .before .before .before .before .before .before .body-size .ensures) (c .body-size2 .ensures) .0
 
 returns-4 : tie.Need-returns-4
 returns-4 c = (
-  shows-finish _ _ _ (c .if4 .taken) (c .before .before .before .body-size .ensures) (c .before .before .moved2 .ensures .0),
-  handed _ refl (c .before .before .moved2 .ensures .1),
+  shows-async _ _ _ (c .if4 .taken) (c .before .before .body-size .ensures) (c .before .moved2 .ensures .0),
+  handed _ refl (c .before .moved2 .ensures .1),
 )
 
 returns-5 : tie.Need-returns-5
 returns-5 c = (
-  shows-fork _ _ _ _ (forked (c .before .before .before)) (c .before .before .before .before .before .before .body-size .ensures)
-      (c .before .body-size2 .ensures) (c .before .before .before .before .before .moved2 .ensures .0) (c .moved3 .ensures .0),
-  handed _ refl (c .moved3 .ensures .1 ∙ c .before .before .before .before .before .moved2 .ensures .1),
+  shows-finish _ _ _ (c .if5 .taken) (c .before .before .before .body-size .ensures) (c .before .before .moved2 .ensures .0),
+  handed _ refl (c .before .before .moved2 .ensures .1),
+)
+
+returns-6 : tie.Need-returns-6
+returns-6 c = (
+  shows-future _ _ _ (c .if6 .taken) (c .before .before .before .before .body-size .ensures) (c .before .before .before .moved2 .ensures .0),
+  handed _ refl (c .before .before .before .moved2 .ensures .1),
+)
+
+returns-7 : tie.Need-returns-7
+returns-7 c = (
+  shows-fork _ _ _ _ (forked (c .before .before .before)) (c .before .before .before .before .before .before .before .body-size .ensures)
+      (c .before .body-size2 .ensures) (c .before .before .before .before .before .before .moved2 .ensures .0) (c .moved3 .ensures .0),
+  handed _ refl (c .moved3 .ensures .1 ∙ c .before .before .before .before .before .before .moved2 .ensures .1),
 )
 
 pub item-here-spec : {M : Type 1} → statement M
@@ -55,22 +68,27 @@ item-here-spec =
     (λ c. (shows-end _ _ (c .before .if1 .taken), handed _ (c .moved .ensures .0) (c .moved .ensures .1)))
     (λ c κs. (omega (arith, skip-none _ (c .before .before .before .before .pre .0)), c .before .before .before .before .pre .1))
     (λ c. (shows-job _ _ _ (c .before .if2 .taken) (c .job-here .ensures .0), c .job-here .ensures .1))
+    (λ c κs. (omega (arith, skip-none _ (c .before .before .before .before .before .pre .0)), c .before .before .before .before .before .pre .1))
+    (λ c. (shows-force _ _ _ (c .before .if3 .taken) (c .force-here .ensures .0), c .force-here .ensures .1))
     (λ c. search needs)
-    (λ c. omega (arith, skip-none _ (c .before .before .before .before .before .pre .0)))
-    (λ c. omega (arith, skip-none _ (c .before .before .before .before .before .pre .0)))
+    (λ c. omega (arith, skip-none _ (c .before .before .before .before .before .before .pre .0)))
+    (λ c. omega (arith, skip-none _ (c .before .before .before .before .before .before .pre .0)))
     (λ c. search needs)
-    (λ c κs. first-holds _ 0 (skip-none _ (c .before .before .before .before .before .before .pre .0)) (omega arith))
+    (λ c κs.
+    first-holds _ 0 (skip-none _ (c .before .before .before .before .before .before .before .pre .0)) (omega arith) (c .before .before .if3 .left))
     (λ c. omega (arith, first c))
     (λ c. omega (arith, first c))
     (λ c κs. omega (arith, first c))
-    returns-3
     returns-4
-    (λ c. omega (arith, first (c .before .before .before)))
-    (λ c. omega (arith, first (c .before .before .before)))
+    returns-5
+    returns-6
+    (λ c. omega (arith, first (c .before .before .before .before)))
+    (λ c. omega (arith, first (c .before .before .before .before)))
     (λ c. search needs)
     (λ c κs.
-    second-holds _ 0 _ (skip-none _ (c .before .before .before .before .before .before .before .before .before .before .before .pre .0))
-    (forked (c .before)) (c .before .before .before .before .body-size .ensures))
+    second-holds _ 0 _
+    (skip-none _ (c .before .before .before .before .before .before .before .before .before .before .before .before .before .pre .0))
+    (forked (c .before)) (c .before .before .before .before .before .body-size .ensures))
     (λ c. omega (arith, second c))
-    (λ c κs. omega (arith, second c, c .before .before .before .before .moved2 .ensures .0))
-    returns-5)
+    (λ c κs. omega (arith, second c, c .before .before .before .before .before .moved2 .ensures .0))
+    returns-7)

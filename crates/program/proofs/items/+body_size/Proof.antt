@@ -1,10 +1,12 @@
 -- The search for a body's end: it skips item by item, and for an item the bodies that it holds. The measure is the number of bytes.
 use Prim.Native.Nat.{ℕ, _-_, _<_}
+use mathlib.Core.Logic.{inl, inr, ⊎-elim}
 use native.Mathlib.Omega.{arith}
 use lib.ListN.{length}
+use borrow.Author.Tests.{eqb-true, eqb-false}
 use borrow.Fn.Kinds.{In}
 use borrow.Fn.PlainCycle.{Measures, is, falls, and}
-use Rattle.program.proofs.SkipLaws.{Searched, skip-none, skip-job, skip-one, skip-fork, skip-end}
+use Rattle.program.proofs.SkipLaws.{Searched, skip-none, skip-number, skip-one, skip-fork, skip-end}
 use Rattle.program.proofs.SkipLaws.{first-holds, second-holds, first-within, part-falls}
 use Rattle.program.proofs.numbers.number_end.Reads as number-end-reads
 use Rattle.program.proofs.items.body_size.Reads as body-size
@@ -52,12 +54,14 @@ pub +body-size-spec : {M : Type 1} → statement M
     (λ c.
     omega (
       arith,
-      skip-job _ _ _ (c .before .before .before .before .before .before .loop .inv) (c .before .before .if2 .taken)
+      skip-number _ _ _ (c .before .before .before .before .before .before .loop .inv)
+          (⊎-elim (λ h. inl (h .taken)) (λ h. inr (eqb-true _ _ (h .1 .taken))) (c .before .before .if2 .came))
           (c .number-end .ensures),
     ))
     (λ c. omega arith)
     (λ c.
-    skip-job _ _ _ (c .before .before .before .before .before .before .loop .inv) (c .before .before .if2 .taken)
+    skip-number _ _ _ (c .before .before .before .before .before .before .loop .inv)
+    (⊎-elim (λ h. inl (h .taken)) (λ h. inr (eqb-true _ _ (h .1 .taken))) (c .before .before .if2 .came))
     (c .number-end .ensures))
     (λ c. omega arith)
     (λ c. omega arith)
@@ -65,52 +69,54 @@ pub +body-size-spec : {M : Type 1} → statement M
     (λ c. omega arith)
     (λ c. omega arith)
     (λ c κs. (
-      part-falls _ _ _ t (c .before .before .before .before .before .loop .inv) (omega arith)
-          (c .before .before .before .before .before .before .before .pre .0),
-      first-holds _ _ (c .before .before .before .before .before .loop .inv) (omega arith),
+      part-falls _ _ _ t (c .before .before .before .before .before .before .loop .inv) (omega arith)
+          (c .before .before .before .before .before .before .before .before .pre .0),
+      first-holds _ _ (c .before .before .before .before .before .before .loop .inv) (omega arith) (eqb-false _ _ (c .before .if3 .left)),
     ))
     (λ c.
     omega (
       arith,
-      first-within _ _ _ (c .before .before .before .before .before .before .loop .inv) (omega arith) (c .body-size .ensures),
+      first-within _ _ _ (c .before .before .before .before .before .before .before .loop .inv) (omega arith)
+          (eqb-false _ _ (c .before .before .if3 .left)) (c .body-size .ensures),
     ))
     (λ c. omega arith)
     (λ c.
-    skip-one _ _ _ (c .before .before .before .before .before .before .before .loop .inv) (omega arith) (omega arith)
+    skip-one _ _ _ (c .before .before .before .before .before .before .before .before .loop .inv)
+    (omega arith, c .if4 .taken, eqb-false _ _ (c .before .before .before .if3 .left))
     (c .before .body-size .ensures))
     (λ c.
     omega (
       arith,
-      first-within _ _ _ (c .before .before .before .before .before .before .before .loop .inv) (omega arith)
-          (c .before .body-size .ensures),
+      first-within _ _ _ (c .before .before .before .before .before .before .before .before .loop .inv) (omega arith)
+          (eqb-false _ _ (c .before .before .before .if3 .left)) (c .before .body-size .ensures),
     ))
     (λ c.
     omega (
       arith,
-      first-within _ _ _ (c .before .before .before .before .before .before .before .loop .inv) (omega arith)
-          (c .before .body-size .ensures),
+      first-within _ _ _ (c .before .before .before .before .before .before .before .before .loop .inv) (omega arith)
+          (eqb-false _ _ (c .before .before .before .if3 .left)) (c .before .body-size .ensures),
     ))
     (λ c.
     omega (
       arith,
-      first-within _ _ _ (c .before .before .before .before .before .before .before .loop .inv) (omega arith)
-          (c .before .body-size .ensures),
+      first-within _ _ _ (c .before .before .before .before .before .before .before .before .loop .inv) (omega arith)
+          (eqb-false _ _ (c .before .before .before .if3 .left)) (c .before .body-size .ensures),
     ))
     (λ c κs. (
-      part-falls _ _ _ t (c .before .before .before .before .before .before .before .before .loop .inv) (omega arith)
-          (c .before .before .before .before .before .before .before .before .before .before .pre .0),
-      second-holds _ _ _ (c .before .before .before .before .before .before .before .before .loop .inv) (c .before .if3 .left)
+      part-falls _ _ _ t (c .before .before .before .before .before .before .before .before .before .loop .inv) (omega arith)
+          (c .before .before .before .before .before .before .before .before .before .before .before .pre .0),
+      second-holds _ _ _ (c .before .before .before .before .before .before .before .before .before .loop .inv) (c .before .if4 .left)
           (c .before .before .body-size .ensures),
     ))
     (λ c.
     omega (
       arith,
-      skip-fork _ _ _ _ (c .before .before .before .before .before .before .before .before .before .loop .inv)
-          (c .before .before .if3 .left) (c .before .before .before .body-size .ensures) (c .body-size2 .ensures),
+      skip-fork _ _ _ _ (c .before .before .before .before .before .before .before .before .before .before .loop .inv)
+          (c .before .before .if4 .left) (c .before .before .before .body-size .ensures) (c .body-size2 .ensures),
     ))
     (λ c. omega arith)
     (λ c.
-    skip-fork _ _ _ _ (c .before .before .before .before .before .before .before .before .before .loop .inv)
-    (c .before .before .if3 .left) (c .before .before .before .body-size .ensures) (c .body-size2 .ensures))
+    skip-fork _ _ _ _ (c .before .before .before .before .before .before .before .before .before .before .loop .inv)
+    (c .before .before .if4 .left) (c .before .before .before .body-size .ensures) (c .body-size2 .ensures))
     (λ c. omega arith)
     (λ c. skip-end _ _ (c .before .before .loop .inv) (c .if1 .left)))

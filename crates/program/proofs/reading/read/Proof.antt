@@ -17,7 +17,7 @@ read-spec =
     (λ c κs. search needs)
     (λ c. c .refused2 .ensures ∙ read-outside _ (inr (c .before .if2 .taken)))
     (λ c κs. search needs)
-    (λ c κs. start-ready _ _ (c .at .ensures) (c .before .if2 .left))
+    (λ c κs. (start-ready _ _ (c .at .ensures) (c .before .if2 .left), omega arith))
     (λ c. search needs)
     (λ c. search needs)
     (λ c κs. search needs)

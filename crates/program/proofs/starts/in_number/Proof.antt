@@ -1,6 +1,8 @@
--- The bytes from `before` up to the place are all 1, and each has turned what the byte at `before` tells of the place.
+-- The bytes from `before` up to the place are all 1 or 6, and each has turned what the byte at `before` tells of the place.
 use Prim.Native.Nat.{_≤_}
+use mathlib.Core.Path.{sym, _∙_}
 use native.Mathlib.Omega.{arith}
+use borrow.Author.Tests.{not-true, not-false}
 use Rattle.program.proofs.NumberEnds.{ToldBy, told-here, told-before, told-other, told-first}
 use Rattle.program.proofs.starts.in_number.Statement.{statement}
 use Rattle.program.proofs.starts.in_number.Tie as tie
@@ -20,10 +22,15 @@ in-number-spec =
     (λ c. (omega arith, told-here))
     (λ c. omega arith)
     (λ c. omega arith)
+    (λ c κs. tt)
     (λ c.
-    told-other (c .before .before .before .loop .inv .1) (c .before .before .before .before .pre .0)
-    (c .before .before .loop-test .taken) (omega arith) (c .if1 .taken))
+    told-other (c .before .before .before .before .loop .inv .1) (c .before .before .before .before .before .before .pre .0)
+    (c .before .before .before .loop-test .taken) (omega arith) (sym (c .before .opens-number .ensures) ∙ not-true _ (c .if1 .taken)))
     (λ c. omega arith)
     (λ c. omega arith)
-    (λ c. (omega arith, told-before (c .before .before .before .loop .inv .1) (c .before .before .loop-test .taken) (c .if1 .left)))
+    (λ c. (
+      omega arith,
+      told-before (c .before .before .before .before .loop .inv .1) (c .before .before .before .loop-test .taken)
+          (sym (c .before .opens-number .ensures) ∙ not-false _ (c .if1 .left)),
+    ))
     (λ c. told-first (c .before .loop .inv .1) (c .loop-test .left)))

@@ -22,4 +22,6 @@ all-spec = tie.close (tie.spec Inv-loop
     (λ c. omega arith)
     (λ c κs. search needs)
     (λ c κs. search needs)
+    (λ c κs. search needs)
+    (λ c κs. search needs)
     (λ c. search needs))
