@@ -1,5 +1,5 @@
 -- Demand 3, of whatever is reached from an accepted loading. What was reached follows a run of the ghost machine (Tracked). Its counts are
--- conserved (Counts), its edges lead to higher ranks (Acyclic), one of its vertices can move on as long as one is not over (Progress), and
+-- conserved (CountLaws), its edges lead to higher ranks (Acyclic), one of its vertices can move on as long as one is not over (Progress), and
 -- a job that is answered has nothing ahead of it that is not (WaitLaws, Unanswered). How a run ends from there is in RunEnds.
 use Prim.Native.Nat.{ℕ, _+_, _-_, _<_, _≤_}
 use mathlib.Core.Path.{_≡_, refl, sym, _∙_, ap, subst}
@@ -17,8 +17,8 @@ use Rattle.graph.proofs.TestLaws.{true-false, both-true}
 use Rattle.program.specs.Trees.{Body, counts}
 use Rattle.program.specs.Encodings.{stepsTaken, firstEdition, stepFormula}
 use Rattle.program.specs.Reader.{reading, program}
-use Rattle.program.specs.Located.{Code, job-at, locate}
-use Rattle.program.proofs.LocatedLaws.{laid-locate}
+use Rattle.program.specs.Located.{Code, job-at, located}
+use Rattle.program.proofs.LocatedLaws.{laid-located}
 use Rattle.program.proofs.Exactness.{reading-complete}
 use Rattle.program.proofs.Formulas.{steps-formula}
 use Rattle.machine.specs.Answers.{StepSaid, accepted}
@@ -32,6 +32,7 @@ use Rattle.machine.proofs.Calls.{run-reached}
 use Rattle.machine.proofs.LoadLaws.{load-exact}
 use Rattle.machine.proofs.RunDemand2.{run-ran}
 use Rattle.machine.proofs.AheadIsPre.{ahead-is-pre}
+use Rattle.machine.proofs.AheadUnique.{pre-jobs}
 use Rattle.machine.proofs.GhostMachine.Ghost.{Control, draft, fresh, ready, busy, joining, over, State, Event}
 use Rattle.machine.proofs.GhostMachine.Invariant.{Shape, isNew}
 use Rattle.machine.proofs.GhostMachine.GhostLaws.{clash, ready-old, busy-old, joining-old}
@@ -42,11 +43,11 @@ use Rattle.machine.proofs.Counting.Conservation.{and-then}
 use Rattle.machine.proofs.Counting.CountLaws.{job-past, over-all, steps-run, steps-bound, job-once, job-done}
 use Rattle.machine.proofs.Counting.Unanswered.{nothing-or-held}
 use Rattle.machine.proofs.JobOrder.Order.{Pre, Held}
-use Rattle.machine.proofs.JobOrder.OrderLaws.{pre-job, written-job}
+use Rattle.machine.proofs.JobOrder.OrderLaws.{written-job}
 use Rattle.machine.proofs.JobOrder.WaitLaws.{in-order}
-use Rattle.machine.proofs.TablesFollow.Follows.{Refuses, absent, blocked, is-new, is-over, Answers, says-start, says-new, says-edge, says-release}
-use Rattle.machine.proofs.TablesFollow.Follows.{says-transfer, says-job, says-stop, Followed, refused, moved}
-use Rattle.machine.proofs.TablesFollow.Tracked.{Tracked, answers-accepted, stepped-as, room-steps, rows-lent, tracked}
+use Rattle.machine.proofs.TablesFollow.Follows.{Refuses, absent, blocked, is-new, is-over, Answers, says-start, says-new, says-edge}
+use Rattle.machine.proofs.TablesFollow.Follows.{says-release, says-transfer, says-job, says-stop, Followed, refused, moved}
+use Rattle.machine.proofs.TablesFollow.Tracked.{Tracked, opens-located, answers-accepted, stepped-as, room-steps, rows-lent, tracked}
 use Rattle.machine.proofs.TablesFollow.RunEnds.{Ends, ends-done, ends-spent, run-ends}
 
 -- no path of held edges closes
@@ -110,7 +111,7 @@ module _ (bytes : List ℕ) (t : Body) {s₀ : Lent} {answers : List StepSaid} {
     abbrev T : Tracked bytes t s₀ answers s
     T = tracked bytes t r q
 
-    seen : (v : ℕ) → Followed (locate 0 t) (length bytes - 1) s (T .state) v (step bytes s v)
+    seen : (v : ℕ) → Followed (located t) (length bytes - 1) s (T .state) v (step bytes s v)
     seen v = stepped-as bytes t s₀ r (rows-lent bytes t r q) T v
 
     -- an accepted step is one of those that are left
@@ -118,18 +119,18 @@ module _ (bytes : List ℕ) (t : Body) {s₀ : Lent} {answers : List StepSaid} {
     one-left v h = go (step bytes s v) h (seen v)
       where
         go :
-            (o : Outcome StepSaid) → accepted (o .answer) ≡ true → Followed (locate 0 t) (length bytes - 1) s (T .state) v o
+            (o : Outcome StepSaid) → accepted (o .answer) ≡ true → Followed (located t) (length bytes - 1) s (T .state) v o
             → acceptedIn answers < stepFormula (counts t)
         go o p (refused n why e) = true-false p (ap (λ (x : Outcome StepSaid). accepted (x .answer)) e)
         go o p (moved e S' m f says tally) =
-            let b : length (e ∷ T .events) ≤ stepsTaken firstEdition t = steps-bound 0 t (length bytes - 1) (and-then (T .runs) m) in
+            let b : length (e ∷ T .events) ≤ stepsTaken firstEdition t = steps-bound t (length bytes - 1) (and-then (T .runs) m) in
             omega (arith, b, T .accepted-are, steps-formula t)
 
     -- a vertex that can move on can step
     pub free-steps : (v : ℕ) → Free (T .state) v → canStep bytes s v ≡ true
     free-steps v f = go (step bytes s v) (seen v)
       where
-        go : (o : Outcome StepSaid) → Followed (locate 0 t) (length bytes - 1) s (T .state) v o → accepted (o .answer) ≡ true
+        go : (o : Outcome StepSaid) → Followed (located t) (length bytes - 1) s (T .state) v o → accepted (o .answer) ≡ true
         go o (refused n why e) = absurd (free-taken (T .inv .shape) f why)
         go o (moved e S' m f' says tally) = answers-accepted says
 
@@ -145,25 +146,25 @@ module _ (bytes : List ℕ) (t : Body) {s₀ : Lent} {answers : List StepSaid} {
         go (inl (v, h)) = (v, λ e. true-false h (ap (λ (x : Control). not (isOver x)) e))
         go (inr none) =
             let z : total each (T .state) ≡ 0 = over-all each (T .state) (λ v l. is-all (T .state .control v) (none v l)) in
-            absurd (omega (arith, lt, z, steps-run 0 t (length bytes - 1) (T .runs), T .accepted-are, steps-formula t))
+            absurd (omega (arith, lt, z, steps-run t (length bytes - 1) (T .runs), T .accepted-are, steps-formula t))
 
     -- at the full count nothing is left
     nothing : acceptedIn answers ≡ stepFormula (counts t) → total each (T .state) ≡ 0
-    nothing h = omega (arith, h, steps-run 0 t (length bytes - 1) (T .runs), T .accepted-are, steps-formula t)
+    nothing h = omega (arith, h, steps-run t (length bytes - 1) (T .runs), T .accepted-are, steps-formula t)
 
     keeps : (v : ℕ) → accepted (step bytes s v .answer) ≡ false → step bytes s v .after ≡ s
     keeps v h = go (step bytes s v) h (seen v)
       where
-        go : (o : Outcome StepSaid) → accepted (o .answer) ≡ false → Followed (locate 0 t) (length bytes - 1) s (T .state) v o → o .after ≡ s
+        go : (o : Outcome StepSaid) → accepted (o .answer) ≡ false → Followed (located t) (length bytes - 1) s (T .state) v o → o .after ≡ s
         go o p (refused n why e) = ap (λ (x : Outcome StepSaid). x .after) e
         go o p (moved e S' m f says tally) = true-false (answers-accepted says) p
 
     -- a job ahead of one that is answered now was answered
-    was-answered : (v n o p : ℕ) → step bytes s v .answer ≡ said.job n o → Ahead (locate 0 t) p o → ranIn p answers ≡ 1
+    was-answered : (v n o p : ℕ) → step bytes s v .answer ≡ said.job n o → Ahead (located t) p o → ranIn p answers ≡ 1
     was-answered v n o p h a = go (step bytes s v) h (seen v)
       where
-        before : Pre (locate 0 t) p o
-        before = ahead-is-pre (locate 0 t) p o .0 a
+        before : Pre (located t) p o
+        before = ahead-is-pre (located t) p o .0 a
 
         now :
             (r' : Code) × (T .state .control v ≡ busy (job-at o n r') [])
@@ -171,12 +172,12 @@ module _ (bytes : List ℕ) (t : Body) {s₀ : Lent} {answers : List StepSaid} {
             → ranIn p answers ≡ 1
         now at (inl z) =
             T .jobs-are p
-            ∙ job-past p (locate 0 t) (length bytes - 1) (laid-locate 0 t) (pre-job (locate 0 t) p o before .0) (T .runs) z
+            ∙ job-past p (located t) (length bytes - 1) (laid-located t) (pre-jobs (located t) p o (opens-located bytes t r) before .0) (T .runs) z
         now (r', at) (inr (u, h')) =
             let inv = T .inv in
-            absurd (in-order (inv .roads) (laid-locate 0 t) (inv .coded) (inv .orders) v o n r' at u p h' before)
+            absurd (in-order (inv .roads) (laid-located t) (inv .coded) (inv .orders) v o n r' at u p h' before)
 
-        go : (x : Outcome StepSaid) → x .answer ≡ said.job n o → Followed (locate 0 t) (length bytes - 1) s (T .state) v x → ranIn p answers ≡ 1
+        go : (x : Outcome StepSaid) → x .answer ≡ said.job n o → Followed (located t) (length bytes - 1) s (T .state) v x → ranIn p answers ≡ 1
         go x e (refused k why eq) = let g : said.refused k 0 ≡ said.job n o = sym (ap (λ (y : Outcome StepSaid). y .answer) eq) ∙ e in clash cc
         go x e (moved ev S' m f says tally) = now (answers-at says e) (nothing-or-held (T .state) p (T .inv .shape))
 
@@ -184,7 +185,7 @@ module _ (bytes : List ℕ) (t : Body) {s₀ : Lent} {answers : List StepSaid} {
     runs-once : (n o : ℕ) → Written t o n → acceptedIn answers ≡ stepFormula (counts t) → ranIn o answers ≡ 1
     runs-once n o w h =
         T .jobs-are o
-        ∙ job-done o (locate 0 t) (length bytes - 1) (laid-locate 0 t) (written-job t o n w) (T .runs) (nothing h)
+        ∙ job-done o (located t) (length bytes - 1) (laid-located t) (written-job t o n w) (T .runs) (nothing h)
 
 -- an answer in a list with one more at its end is that one, or stands before it
 snoc-split :
@@ -227,7 +228,7 @@ none-left bytes t {s₀} {answers} {s} r q none = go (ltb (acceptedIn answers) (
     go true e U = absurd (over-count (ltb-true (acceptedIn answers) (stepFormula (counts t)) e))
     go false e U =
         let ge : stepFormula (counts t) ≤ acceptedIn answers = ltb-false (acceptedIn answers) (stepFormula (counts t)) e in
-        omega (arith, ge, U .accepted-are, U .steps-are, steps-bound 0 t (length bytes - 1) (U .runs), steps-formula t)
+        omega (arith, ge, U .accepted-are, U .steps-are, steps-bound t (length bytes - 1) (U .runs), steps-formula t)
 
 -- how a run ends from here
 ends :
@@ -264,7 +265,7 @@ rises (ends-spent e f c) = c
 -- in every list of answers
 ordered :
     (bytes : List ℕ) (t : Body) {s₀ : Lent} {answers : List StepSaid} {s : Lent} → reading bytes ≡ program t → (q : Reached bytes s₀ answers s)
-    → (before after : List StepSaid) (n o p : ℕ) → answers ≡ before ++ (said.job n o ∷ after) → Ahead (locate 0 t) p o → ranIn p before ≡ 1
+    → (before after : List StepSaid) (n o p : ℕ) → answers ≡ before ++ (said.job n o ∷ after) → Ahead (located t) p o → ranIn p before ≡ 1
 ordered bytes t r (begun h) [] after n o p e a = clash cc
 ordered bytes t r (begun h) (b ∷ before) after n o p e a = clash cc
 ordered bytes t r (stepped {answers} {s} q v) before after n o p e a =
@@ -283,7 +284,7 @@ pub demand3 :
 demand3 bytes t {answers} r q =
     let U = tracked bytes t r q in
     record {
-      at-most = omega (arith, U .accepted-are, steps-bound 0 t (length bytes - 1) (U .runs), steps-formula t);
+      at-most = omega (arith, U .accepted-are, steps-bound t (length bytes - 1) (U .runs), steps-formula t);
       tally-tells = U .steps-are ∙ sym (U .accepted-are);
       progress = (
         λ (v, h). one-left bytes t r q v h,
@@ -292,7 +293,7 @@ demand3 bytes t {answers} r q =
             let (w, f) = can-go-on (U .inv .shape) (U .inv .ranks) (U .inv .ended) v l in
             (w, free-steps bytes t r q w f),
       );
-      once = λ o. subst (λ (n : ℕ). n ≤ 1) (sym (U .jobs-are o)) (job-once o (locate 0 t) (length bytes - 1) (laid-locate 0 t) (U .runs));
+      once = λ o. subst (λ (n : ℕ). n ≤ 1) (sym (U .jobs-are o)) (job-once o (located t) (length bytes - 1) (laid-located t) (U .runs));
       only-written = U .only-written;
       in-order = ordered bytes t r q;
       all-run = λ h n o w. runs-once bytes t r q n o w h;

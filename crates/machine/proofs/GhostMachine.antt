@@ -1,12 +1,12 @@
 -- The ghost machine, and what holds of every state that it reaches:
 --     Ghost           states, in which each vertex has its code, and moves
---     Invariant       the invariant in four parts: shape, ranks, roads, codes
+--     Invariant       the invariant in five parts: shape, ranks, roads, codes, open futures
 --     GhostLaws       laws of the parts that states and moves are made of
+--     RoadLaws        more of them: what is seen of a control, and edges with one more, handed on or dropped
 --     ShapeStep       what a move must show for the shape to be kept
 --     ShapeActs       the moves that make no vertex show it
 --     ShapeMakes      and so do those that make one
 --     ShapeKept       every move keeps the shape
---     RoadLaws        more of them: what is seen of a control, and edges with one more, handed on or dropped
 --     SettledLaws     settled edges as the moves change them
 --     SplitLaws       what a split does
 --     Ways            ways by settled edges: from each vertex with an item to its scope
@@ -14,6 +14,7 @@
 --     RoadsKept       every move keeps the roads
 --     RanksKept       every move leaves edges leading from lower ranks to higher ones
 --     CodedKept       every move leaves each vertex with code of the program
+--     OpenedKept      every move leaves at each vertex the futures that are open at its place
 --     Acyclic         ranks rise along edges, so no path closes
 --     Ended           a vertex that is over has no edge out
 --     Unsplit         an item that is not split has vertices to make
@@ -25,11 +26,11 @@
 pub mod Ghost
 pub mod Invariant
 pub mod GhostLaws
+pub mod RoadLaws
 pub mod ShapeStep
 pub mod ShapeActs
 pub mod ShapeMakes
 pub mod ShapeKept
-pub mod RoadLaws
 pub mod SettledLaws
 pub mod SplitLaws
 pub mod Ways
@@ -37,6 +38,7 @@ pub mod RoadsSplit
 pub mod RoadsKept
 pub mod RanksKept
 pub mod CodedKept
+pub mod OpenedKept
 pub mod Acyclic
 pub mod Ended
 pub mod Unsplit

@@ -12,9 +12,10 @@
 --     LookLaws        a run turn by turn: which vertex it finds, which cannot step, and what each look comes to
 --     Examples        the examples of the table hold
 --     AheadIsPre      the order of jobs as it is defined is the one by recursion on code that the proofs use
---     AheadUnique     the body that this order looks at is the only one there is, and so the innermost
---     AheadExamples   this order, on two of the example programs
---     OrderExamples   and in every list of steps of one of them
+--     AheadUnique     the body that this order looks at is the only one there is, and so the innermost; of a job that a force is read as
+--                     waiting for, the same of the force; two branches of a fork are not ordered
+--     AheadExamples   this order, on two of the example programs, and on two with a future
+--     OrderExamples   and in every list of steps of two of them
 --     ReachedLaws     more of whatever is reached: the rows suffice, an executing vertex can step, and a step's edge is a new one
 -- In rooms of their own, each with its list:
 --     GhostMachine    the ghost machine, and what holds of every state that it reaches

@@ -5,7 +5,7 @@
 --     load-keeps      a refused loading changes nothing
 --     load-accepted   the tables that an accepted one leaves
 --     load-usable     no word past the usable rows changes
---     load-place      a refusal has a place from 2 to 7 only
+--     load-place      a refusal has a place from 2 to 7 and for 43 only
 use Prim.Native.Nat.{ℕ, _+_, _-_, _*_, _<_, _≤_}
 use mathlib.Core.Path.{_≡_, refl, sym, _∙_, ap, subst}
 use mathlib.Core.Bool.{true, false}
@@ -16,8 +16,7 @@ use lib.Dec.{ltb}
 use lib.ListN.{length, set, length-set}
 use lib.Seq.{getD-set-other}
 use borrow.Author.Tests.{le-ltb, lt-ltb, ltb-true, ltb-false}
-use Rattle.graph.specs.Tables.{Lent, vertexWords, edgeWords, statusWord, placeWord, scopeWord, sourceWord, targetWord, vertexRows}
-use Rattle.graph.specs.Tables.{edgeRows, clear}
+use Rattle.graph.specs.Tables.{Lent, vertexWords, edgeWords, statusWord, placeWord, scopeWord, sourceWord, targetWord, vertexRows, edgeRows, clear}
 use Rattle.graph.specs.Commands.{appended}
 use Rattle.graph.specs.Demand2.{SameBut, UsableOnly}
 use Rattle.graph.specs.Answers.{Outcome}
@@ -28,7 +27,7 @@ use Rattle.program.specs.Bytes.{encode}
 use Rattle.program.specs.Encodings as needs
 use Rattle.program.specs.Encodings.{firstEdition}
 use Rattle.program.specs.Reader.{Reading, program, refusal, reading}
-use Rattle.program.specs.Claims.{Loadable, BadNumber, too-long, not-shortest, too-large, Offends, unknown, opener, misnumbered, no-byte}
+use Rattle.program.specs.Claims.{Loadable, BadNumber, too-long, not-shortest, too-large, Offends, unknown, opener, misnumbered, no-byte, unopened}
 use Rattle.program.proofs.CodeLaws.{cond-yes, cond-no}
 use Rattle.program.proofs.Exactness.{reading-sound, reading-complete}
 use Rattle.program.proofs.StopLaws.{ItemStop, ran-out, offended, Stop, stop, main-stop}
@@ -202,30 +201,31 @@ load-usable bytes s = there (load-comes bytes s)
 
 -- bytes that offend have a place, and so have bytes that run out
 number-place : {n : ℕ} {bad : List ℕ} → BadNumber n bad → HasPlace n
-number-place (too-long number e t) = omega arith
-number-place (not-shortest b groups t) = omega arith
-number-place (too-large m l r) = omega arith
+number-place (too-long number e t) = inl (omega arith)
+number-place (not-shortest b groups t) = inl (omega arith)
+number-place (too-large m l r) = inl (omega arith)
 
-offends-place : {level n : ℕ} {first bad : List ℕ} → Offends level n first bad → HasPlace n
-offends-place (unknown x l) = omega arith
-offends-place (opener x p q h) = omega arith
-offends-place (misnumbered bad) = number-place bad
-offends-place (no-byte groups x l t h) = omega arith
+offends-place : {level opened n : ℕ} {first bad : List ℕ} → Offends level opened n first bad → HasPlace n
+offends-place (unknown x l) = inl (omega arith)
+offends-place (opener x p q h) = inl (omega arith)
+offends-place (misnumbered x h bad) = number-place bad
+offends-place (no-byte first groups x f l t h) = inl (omega arith)
+offends-place (unopened n l h) = inr refl
 
-item-place : {level n : ℕ} {xs left : List ℕ} → ItemStop level xs n left → HasPlace n
-item-place (ran-out b x more f e) = omega arith
+item-place : {level opened n : ℕ} {xs left : List ℕ} → ItemStop level opened xs n left → HasPlace n
+item-place (ran-out w) = inl (omega arith)
 item-place (offended first bad rest o e q) = offends-place o
 
-stop-place : {level n : ℕ} {xs left : List ℕ} → Stop level xs n left → HasPlace n
-stop-place (stop to before ys l e s) = item-place s
+stop-place : {level opened n : ℕ} {xs left : List ℕ} → Stop level opened xs n left → HasPlace n
+stop-place (stop to there before ys l e s) = item-place s
 
 reading-place : {bytes : List ℕ} {n p : ℕ} → read.Comes bytes (refusal n p) → HasPlace n ⊎ (p ≡ 0)
 reading-place (read.outside o) = inr refl
 reading-place {bytes} (read.stopped n left w e) = inl (stop-place (main-stop bytes n left e))
-reading-place (read.overran b x left w e) = inl (omega arith)
+reading-place (read.overran b x left w e) = inl (inl (omega arith))
 reading-place (read.crowds b w e v) = inr refl
 
--- A refused loading has a place from 2 to 7 only.
+-- A refused loading has a place from 2 to 7 and for 43 only.
 pub load-place : (bytes : List ℕ) (s : Lent) (n p : ℕ) → load bytes s .answer ≡ loading-refused n p → HasPlace n ⊎ (p ≡ 0)
 load-place bytes s n p h = there (load-refused bytes s n p .0 h)
   where

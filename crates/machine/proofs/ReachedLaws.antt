@@ -1,5 +1,5 @@
 -- More that holds of whatever is reached from a loading: the rows that loading asked for are enough, an executing vertex can always step, and
--- a step's edge is a new one.
+-- an edge that a step says was not held before.
 use Prim.Native.Nat.{ℕ, _-_, _<_, _≤_}
 use mathlib.Core.Path.{_≡_, refl, sym, _∙_, ap, ap₂, subst}
 use mathlib.Core.Bool.{true, false}
@@ -14,7 +14,7 @@ use Rattle.graph.proofs.EdgeLaws.{held-decides}
 use Rattle.program.specs.Trees.{Body, counts}
 use Rattle.program.specs.Encodings.{vertexFormula, edgeRowFormula}
 use Rattle.program.specs.Reader.{reading, program}
-use Rattle.program.specs.Located.{locate}
+use Rattle.program.specs.Located.{located}
 use Rattle.program.proofs.Formulas.{vertices-formula, edgeRows-formula}
 use Rattle.machine.specs.Answers.{StepSaid}
 use Rattle.machine.specs.Stepping.{step}
@@ -35,8 +35,8 @@ pub rows-suffice : (bytes : List ℕ) (t : Body) {s₀ : Lent} {answers : List S
     → (s .made ≤ vertexFormula (counts t)) × (s .held ≤ edgeRowFormula (counts t))
 rows-suffice bytes t r q =
     let T = tracked bytes t r q in (
-      omega (arith, T .follows .made-is, vertices-bound 0 t (length bytes - 1) (T .runs), vertices-formula t),
-      omega (arith, T .held-le, edges-bound 0 t (length bytes - 1) (T .runs), edgeRows-formula t),
+      omega (arith, T .follows .made-is, vertices-bound t (length bytes - 1) (T .runs), vertices-formula t),
+      omega (arith, T .held-le, edges-bound t (length bytes - 1) (T .runs), edgeRows-formula t),
     )
 
 -- a vertex with the status of one that executes can move on
@@ -80,7 +80,7 @@ edge-is-new bytes t {s₀} {answers} {s} r q v a b h held =
     of-answer says-stop z = clash cc
 
     of-step :
-        (o : Outcome StepSaid) → Followed (locate 0 t) (length bytes - 1) s (T .state) v o → o .answer ≡ StepSaid.edge a b
+        (o : Outcome StepSaid) → Followed (located t) (length bytes - 1) s (T .state) v o → o .answer ≡ StepSaid.edge a b
         → T .state .edge a b ≡ false
     of-step o (refused n w e) z = let y = sym (ap (λ (x : Outcome StepSaid). x .answer) e) ∙ z in clash cc
     of-step o (moved e S' m f says tally) z = of-answer says z

@@ -43,7 +43,7 @@ use Rattle.graph.proofs.Demand2.{refused-keeps, effect, acceptance}
 use Rattle.program.specs.Encodings.{Spot, Command, perform, newTd, newEdge, transfer, release, Row}
 use Rattle.program.specs.Located.{itemAt}
 use Rattle.machine.specs.Answers.{StepSaid, accepted, refuse, saidAs}
-use Rattle.machine.specs.Stepping.{stepLimit, steppable, place, phase, Task, item, ends, nothing, task, Own, Due, refusal-due}
+use Rattle.machine.specs.Stepping.{stepLimit, steppable, place, phase, allStand, Task, item, ends, nothing, task, Own, Due, refusal-due}
 use Rattle.machine.specs.Stepping.{job-due, command-due, dueIf, filledIn, nextOf, nextAt, due, doDue, step}
 use Rattle.machine.specs.Demand2.{IsCommand, Does, Before, Refused, before, by-command}
 use Rattle.machine.proofs.TablesFollow.OwnLaws.{own-adds}
@@ -201,7 +201,7 @@ before-command s v n spot w (release a) = tt
 before-nth : (s : Lent) (v : ℕ) (row : Row) (n : ℕ) (spot : Spot → ℕ) (x : Option Command) → OnlyBefore (nextOf s v row n spot x)
 unfolding nextOf
 before-nth s v row n spot none = unreadable-before
-before-nth s v row n spot (some c) = before-command s v n spot _ c
+before-nth s v row n spot (some c) = before-if (allStand s v n c) _ _ unreadable-before (before-command s v n spot _ c)
 
 before-task : (s : Lent) (v : ℕ) (x : Task) → OnlyBefore (nextAt s v x)
 unfolding nextAt

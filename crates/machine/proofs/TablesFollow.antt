@@ -3,6 +3,7 @@
 --     RowLaws         what a vertex's row is after an update
 --     OwnLaws         a vertex's own words, stored and read
 --     FollowLaws      tables go on following, one law for each effect
+--     FutureLaws      the words that a force follows
 --     CommandLaws     the commands that are due are taken
 --     DoneLaws        what the tables follow after a command
 --     AnswerLaws      chains of tests before what is due
@@ -17,6 +18,7 @@ pub mod Follows
 pub mod RowLaws
 pub mod OwnLaws
 pub mod FollowLaws
+pub mod FutureLaws
 pub mod CommandLaws
 pub mod DoneLaws
 pub mod AnswerLaws

@@ -8,9 +8,9 @@ use mathlib.Core.Logic.{_⊎_}
 use mathlib.Core.Bool.{true, false}
 use mathlib.Core.List.{List}
 use mathlib.Core.Option.{Option, none, some}
-use Rattle.graph.specs.Tables.{Lent, FINISHED, vertexWords, placeWord, phaseWord, madeWord, vertexRows, edgeRows, status}
+use Rattle.graph.specs.Tables.{Lent, FINISHED, vertexWords, placeWord, phaseWord, madeWord, futureWord, vertexRows, edgeRows, status}
 use Rattle.refusal.specs.Refusals.{no-such-vertex, vertex-is-new, vertex-is-finished, number-malformed, job-too-large}
-use Rattle.refusal.specs.Refusals.{too-few-vertex-rows, too-few-edge-rows, unsound-tables, nothing-starts}
+use Rattle.refusal.specs.Refusals.{too-few-vertex-rows, too-few-edge-rows, unsound-tables, nothing-starts, no-such-future}
 use Rattle.graph.specs.Answers as of-graph
 use Rattle.graph.specs.Commands.{command}
 use Rattle.graph.specs.Demand2.{graph, SameBut}
@@ -40,16 +40,17 @@ pub data Unloaded (bytes : List ℕ) (s : Lent) : ℕ → ℕ → Type 0 where
       (b : Body) → reading bytes ≡ program b → needs.verticesMade firstEdition b ≤ vertexRows (s .vertices)
       → edgeRows (s .edges) < needs.edgeRowsNeeded firstEdition b → Unloaded bytes s too-few-edge-rows 0
 
--- "the first of 2 to 7 by place": these refusals have a place. All others have the place 0, as `load-place`, `step-place` and `run-place` say.
+-- "the first of 2 to 7 by place", and 43 "by place among 2 to 7": these refusals have a place. All others have the place 0, as `load-place`,
+-- `step-place` and `run-place` say.
 abbrev pub HasPlace : ℕ → Type 0
-HasPlace n = (number-malformed ≤ n) × (n ≤ job-too-large)
+HasPlace n = ((number-malformed ≤ n) × (n ≤ job-too-large)) ⊎ (n ≡ no-such-future)
 
 -- STEPS
 -- where v's own words stand
 abbrev pub OwnWord : ℕ → ℕ → Type 0
 OwnWord v i =
     (i ≡ vertexWords * v + placeWord) ⊎ (i ≡ vertexWords * v + phaseWord)
-    ⊎ ((vertexWords * v + madeWord ≤ i) × (i ≤ vertexWords * v + (madeWord + 2)))
+    ⊎ ((vertexWords * v + madeWord ≤ i) × (i ≤ vertexWords * v + futureWord))
 
 -- what a step of v adds to what its command left: v's own words become w, no other word changes, and the step is counted
 pub record Adds (v : ℕ) (w : Own) (left after : Lent) : Type 0 where

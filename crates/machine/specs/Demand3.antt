@@ -11,7 +11,7 @@ use Rattle.refusal.specs.Refusals.{no-such-vertex, edge-leads-in, vertex-is-new
 use Rattle.graph.specs.Paths.{CycleFree, holds}
 use Rattle.program.specs.Trees.{Body, counts}
 use Rattle.program.specs.Encodings.{stepFormula}
-use Rattle.program.specs.Located.{Code, job-at, locate, codeAt}
+use Rattle.program.specs.Located.{Code, job-at, located, codeAt}
 use Rattle.machine.specs.Answers.{StepSaid, accepted, start, new, edge, release, transfer, job, stop, refused}
 use Rattle.machine.specs.Loading.{load}
 use Rattle.machine.specs.Stepping.{step}
@@ -41,7 +41,7 @@ ranIn o (a ∷ answers) = answersJob o a + ranIn o answers
 
 -- a job with this number is written at this offset
 pub data Written (t : Body) (o n : ℕ) : Type 0 where
-  written : (r : Code) → codeAt (locate 0 t) o ≡ some (job-at o n r) → Written t o n
+  written : (r : Code) → codeAt (located t) o ≡ some (job-at o n r) → Written t o n
 
 -- an answer is in a list
 pub data Answered (a : StepSaid) : List StepSaid → Type 0 where
@@ -59,7 +59,7 @@ Throughout {bytes} P (stepped {s} r v) = Throughout P r × P (step bytes s v .af
 
 -- Demand 3 of a program with the tree t, and of what was reached from an accepted loading of it by whatever steps.
 pub record Demand3 (bytes : List ℕ) (t : Body) {s₀ : Lent} {answers : List StepSaid} {s : Lent} (q : Reached bytes s₀ answers s) : Type 0 where
-  -- "after the list the accepted steps number at most 4 + w + 5a + 10f + 15k"
+  -- "after the list the accepted steps number at most 4 + w + 5a + 10f + 15k", with 9 for each future and 6 for each force (note 5)
   pub at-most : acceptedIn answers ≤ stepFormula (counts t)
   -- "the tally's third number is how many were since loading"
   pub tally-tells : s .steps ≡ acceptedIn answers
@@ -70,7 +70,7 @@ pub record Demand3 (bytes : List ℕ) (t : Body) {s₀ : Lent} {answers : List S
   pub only-written : (n o : ℕ) → Answered (job n o) answers → Written t o n
   -- "none before a job that the text puts ahead of it": when one is answered, "each job ahead of it was answered before"
   pub in-order :
-      (before after : List StepSaid) (n o p : ℕ) → answers ≡ before ++ (job n o ∷ after) → Ahead (locate 0 t) p o → ranIn p before ≡ 1
+      (before after : List StepSaid) (n o p : ℕ) → answers ≡ before ++ (job n o ∷ after) → Ahead (located t) p o → ranIn p before ≡ 1
   -- "at the full count each has run once"
   pub all-run : acceptedIn answers ≡ stepFormula (counts t) → (n o : ℕ) → Written t o n → ranIn o answers ≡ 1
   -- "Never cyclic: neither after loading nor after any step does a path of one or more edges lead from a vertex to itself."

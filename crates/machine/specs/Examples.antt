@@ -182,8 +182,65 @@ table =
     ∷ [])
     -- "empty: 1"
     ∷ refuses [] 1 0
-    -- "`05`: 3 at 0"
-    ∷ refuses (0x05 ∷ []) 3 0
+    -- "the example `05` becomes 5 at 1, and `07` gives 3 at 0" (note 5); a force with no number, with no future open, and with one too few
+    ∷ refuses (0x05 ∷ []) 5 1
+    ∷ refuses (0x07 ∷ []) 3 0
+    ∷ refuses (0x06 ∷ []) 5 1
+    ∷ refuses (0x06 ∷ 0x00 ∷ []) 43 1
+    ∷ refuses (0x05 ∷ 0x00 ∷ 0x06 ∷ 0x01 ∷ 0x00 ∷ []) 43 3
+    -- a future is not open inside its own body; 7 comes before 43
+    ∷ refuses (0x05 ∷ 0x06 ∷ 0x00 ∷ 0x00 ∷ 0x00 ∷ []) 43 2
+    ∷ refuses (0x06 ∷ 0x80 ∷ 0x80 ∷ 0x80 ∷ 0x80 ∷ 0x10 ∷ 0x00 ∷ []) 7 1
+    -- a future and its force: 19 steps
+    ∷ takes (0x05 ∷ 0x00 ∷ 0x06 ∷ 0x00 ∷ 0x00 ∷ []) 19
+    -- the same with the future finished before the force's newEdge, which is then accepted and adds nothing
+    ∷ goes (0x05 ∷ 0x00 ∷ 0x06 ∷ 0x00 ∷ 0x00 ∷ [])
+    ((0, start)
+    ∷ (0, new 2)
+    ∷ (0, new 3)
+    ∷ (0, edge 3 2)
+    ∷ (0, release 2)
+    ∷ (0, release 3)
+    ∷ (3, start)
+    ∷ (3, stop)
+    ∷ (2, start)
+    ∷ (2, stop)
+    ∷ (0, new 4)
+    ∷ (0, edge 2 4)
+    ∷ (0, transfer 4)
+    ∷ (0, release 4)
+    ∷ (4, start)
+    ∷ (4, stop)
+    ∷ (0, stop)
+    ∷ (1, start)
+    ∷ (1, stop)
+    ∷ [])
+    -- a future with job 1, its force, and job 2: vertex 4 is refused until the future is finished
+    ∷ goes (0x05 ∷ 0x01 ∷ 0x01 ∷ 0x00 ∷ 0x06 ∷ 0x00 ∷ 0x01 ∷ 0x02 ∷ 0x00 ∷ [])
+    ((0, start)
+    ∷ (0, new 2)
+    ∷ (0, new 3)
+    ∷ (0, edge 3 2)
+    ∷ (0, release 2)
+    ∷ (0, release 3)
+    ∷ (0, new 4)
+    ∷ (0, edge 2 4)
+    ∷ (0, transfer 4)
+    ∷ (0, release 4)
+    ∷ (0, stop)
+    ∷ (4, refused 21 0)
+    ∷ (3, start)
+    ∷ (3, job 1 1)
+    ∷ (3, stop)
+    ∷ (4, refused 21 0)
+    ∷ (2, start)
+    ∷ (2, stop)
+    ∷ (4, start)
+    ∷ (4, job 2 6)
+    ∷ (4, stop)
+    ∷ (1, start)
+    ∷ (1, stop)
+    ∷ [])
     -- "`01 80 00 00`: 2 at 1"
     ∷ refuses (0x01 ∷ 0x80 ∷ 0x00 ∷ 0x00 ∷ []) 2 1
     -- "`00 00`: 6 at 1"

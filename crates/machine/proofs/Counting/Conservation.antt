@@ -1,27 +1,27 @@
 -- The conservation law: a move with the event e takes ω e off what is left in all, for every weight ω of events.
 --
 -- A move changes what is left to one vertex, the one that moves, and it may append one vertex. At all others the weight stays: a vertex
--- that is released, and a draft that is one no more, have the same to do as before. Of a state's shape the law needs only that no vertex
--- beyond those made has anything to do.
+-- that is released, and a draft that is one no more, have the same to do as before. The law needs of a state only that no vertex beyond
+-- those made has anything to do, which every move keeps.
 --
---     conserved      Shape S → Move L S v e S' → total ω S ≡ ω e + total ω S'
---     runs-pay       Shape S → Runs L S es S' → total ω S ≡ spent ω es + total ω S', where Runs is a row of moves with the events es
+--     conserved      Beyond S → Move S v e S' → total ω S ≡ ω e + total ω S', where Beyond S is that
+--     runs-pay       Beyond S → Runs S es S' → total ω S ≡ spent ω es + total ω S', where Runs is a row of moves with the events es
 --     nothing-left   left each x ≡ 0 → x ≡ over, where each event weighs 1
-use Prim.Native.Nat.{ℕ, zero, suc, _+_, _<_}
+use Prim.Native.Nat.{ℕ, zero, suc, _+_, _<_, _≤_}
 use mathlib.Core.Path.{_≡_, refl, sym, _∙_, ap}
+use mathlib.Core.Bool.{Bool, true, false, cond}
 use mathlib.Core.Logic.{⊎-elim}
 use mathlib.Core.List.{List, [], _∷_, _++_}
-use native.Mathlib.Nat.{eq-or-lt-of-le, le-of-suc-le-suc}
+use native.Mathlib.Nat.{eq-or-lt-of-le, le-of-suc-le-suc, lt-of-not-le}
 use native.Mathlib.Omega.{arith}
 use lib.ListN.{length, drop, length-append}
-use Rattle.program.specs.Encodings.{Name, Command, perform, newTd, newEdge, transfer, release, weight}
-use Rattle.program.specs.Located.{Code, end-at, job-at, async-at, finish-at, fork-at}
-use Rattle.machine.proofs.GhostMachine.Ghost.{Do, link, hand, free, Control, draft, fresh, ready, busy, joining, over, State, put, kids, goes}
-use Rattle.machine.proofs.GhostMachine.Ghost.{kindOf, commandsOf, joins, todo, onward, done, Event, a-start, a-new, a-job, a-stop}
-use Rattle.machine.proofs.GhostMachine.Ghost.{eventOf, Move, begins, performs, stops, makes, splits, acts, stirred}
-use Rattle.machine.proofs.GhostMachine.Invariant.{Shape}
-use Rattle.machine.proofs.GhostMachine.GhostLaws.{put-same, put-other, clash, below}
-use Rattle.machine.proofs.GhostMachine.ShapeKept.{shape-kept}
+use Rattle.program.specs.Encodings.{Command, perform, newTd, newEdge, transfer, release, weight}
+use Rattle.program.specs.Located.{Code, end-at, job-at, async-at, finish-at, fork-at, future-at, force-at}
+use Rattle.machine.proofs.GhostMachine.Ghost.{Do, link, hand, free, Control, draft, fresh, ready, busy, joining, over, State, put, Kid, kids}
+use Rattle.machine.proofs.GhostMachine.Ghost.{goes}
+use Rattle.machine.proofs.GhostMachine.Ghost.{kindOf, commandsOf, forcedBy, joins, todo, onward, done, Event, a-start, a-new, a-job, a-stop}
+use Rattle.machine.proofs.GhostMachine.Ghost.{woken, freed, among, eventOf, Move, begins, performs, stops, makes, splits, acts, stirred}
+use Rattle.machine.proofs.GhostMachine.GhostLaws.{put-same, put-other, put-cases, clash}
 use Rattle.machine.proofs.GhostMachine.RoadLaws.{done-keeps}
 use Rattle.machine.proofs.GhostMachine.SplitLaws.{stirred-keeps}
 use Rattle.machine.proofs.Counting.Weights.{joinWeight, joinsWeight, bodyWeight, kidsWeight, behindWeight, tasksWeight, left, sumBelow, total}
@@ -63,14 +63,15 @@ sum-but f g (suc n) v h same =
 -- What is left to a vertex.
 
 -- joining commands weigh the same with their vertices filled in
-joins-weight : (ω : Event → ℕ) (σ : ℕ) (ms : List ℕ) (cs : List Command) → tasksWeight ω (joins σ ms cs) ≡ weight (joinWeight ω) cs
+joins-weight :
+    (ω : Event → ℕ) (σ f : ℕ) (ms : List ℕ) (cs : List Command) → tasksWeight ω (joins σ f ms cs) ≡ weight (joinWeight ω) cs
 unfolding tasksWeight joins weight joinWeight eventOf
-joins-weight ω σ ms [] = refl
-joins-weight ω σ ms (perform ∷ cs) = omega (arith, joins-weight ω σ ms cs)
-joins-weight ω σ ms (newTd p a ∷ cs) = omega (arith, joins-weight ω σ ms cs)
-joins-weight ω σ ms (newEdge a b ∷ cs) = omega (arith, joins-weight ω σ ms cs)
-joins-weight ω σ ms (transfer a ∷ cs) = omega (arith, joins-weight ω σ ms cs)
-joins-weight ω σ ms (release a ∷ cs) = omega (arith, joins-weight ω σ ms cs)
+joins-weight ω σ f ms [] = refl
+joins-weight ω σ f ms (perform ∷ cs) = omega (arith, joins-weight ω σ f ms cs)
+joins-weight ω σ f ms (newTd p a ∷ cs) = omega (arith, joins-weight ω σ f ms cs)
+joins-weight ω σ f ms (newEdge a b ∷ cs) = omega (arith, joins-weight ω σ f ms cs)
+joins-weight ω σ f ms (transfer a ∷ cs) = omega (arith, joins-weight ω σ f ms cs)
+joins-weight ω σ f ms (release a ∷ cs) = omega (arith, joins-weight ω σ f ms cs)
 
 -- an item that has not made any vertex weighs as its code
 busy-none : (ω : Event → ℕ) (c : Code) → left ω (busy c []) ≡ bodyWeight ω c
@@ -80,6 +81,8 @@ busy-none ω (job-at o n r) = omega arith
 busy-none ω (async-at o b r) = omega arith
 busy-none ω (finish-at o b r) = omega arith
 busy-none ω (fork-at o b c r) = omega arith
+busy-none ω (future-at o b r) = omega arith
+busy-none ω (force-at o n b r) = omega arith
 
 -- a vertex that goes on with these commands and then with this code
 onward-weight : (ω : Event → ℕ) (c : Code) (ds : List Do) → left ω (onward c ds) ≡ tasksWeight ω ds + bodyWeight ω c
@@ -98,9 +101,21 @@ drop-more n [] x xs e = absurd (drop-some n x xs e)
 drop-more zero (y ∷ l) x xs e = ap (drop 1) e
 drop-more (suc n) (y ∷ l) x xs e = drop-more n l x xs e
 
+-- the vertices still to be made weigh the same wherever the program's last byte is
+kids-anywhere : (ω : Event → ℕ) (L : ℕ) (c : Code) (n : ℕ) → kidsWeight ω (drop n (kids 0 c)) ≡ kidsWeight ω (drop n (kids L c))
+unfolding kids kidsWeight bodyWeight
+kids-anywhere ω L (end-at o) n = refl
+kids-anywhere ω L (job-at o m r) n = refl
+kids-anywhere ω L (async-at o b r) n = refl
+kids-anywhere ω L (finish-at o b r) n = refl
+kids-anywhere ω L (fork-at o b c r) n = refl
+kids-anywhere ω L (future-at o b r) zero = refl
+kids-anywhere ω L (future-at o b r) (suc n) = refl
+kids-anywhere ω L (force-at o m b r) n = refl
+
 -- behind its vertices, an item that makes some has its joining commands, and the code where its vertex goes
 behind-weight :
-    (ω : Event → ℕ) (L : ℕ) (c : Code) (n : ℕ) (k : Code × Name) (ks : List (Code × Name)) → drop n (kids c) ≡ k ∷ ks
+    (ω : Event → ℕ) (L : ℕ) (c : Code) (n : ℕ) (k : Kid) (ks : List Kid) → drop n (kids L c) ≡ k ∷ ks
     → behindWeight ω c ≡ weight (joinWeight ω) (commandsOf (kindOf c)) + bodyWeight ω (goes L c)
 unfolding kids goes kindOf commandsOf behindWeight bodyWeight joinsWeight
 behind-weight ω L (end-at o) n k ks e = absurd (drop-some n k ks e)
@@ -108,6 +123,8 @@ behind-weight ω L (job-at o m r) n k ks e = absurd (drop-some n k ks e)
 behind-weight ω L (async-at o b r) n k ks e = refl
 behind-weight ω L (finish-at o b r) n k ks e = refl
 behind-weight ω L (fork-at o b c r) n k ks e = refl
+behind-weight ω L (future-at o b r) n k ks e = refl
+behind-weight ω L (force-at o m b r) n k ks e = refl
 
 -- What each move takes off the vertex that moves.
 
@@ -124,21 +141,24 @@ unfolding bodyWeight left
 stops-weight ω o = omega (arith, busy-none ω (end-at o))
 
 makes-weight :
-    (ω : Event → ℕ) (c : Code) (ms : List ℕ) (m : ℕ) (k : Code) (a : Name) (ks : List (Code × Name))
-    → drop (length ms) (kids c) ≡ (k, a) ∷ ks → left ω (busy c ms) ≡ ω a-new + left ω (draft k) + left ω (busy c (ms ++ (m ∷ [])))
+    (ω : Event → ℕ) (L : ℕ) (c : Code) (ms : List ℕ) (m : ℕ) (k : Kid) (ks : List Kid) → drop (length ms) (kids L c) ≡ k ∷ ks
+    → left ω (busy c ms) ≡ ω a-new + left ω (draft (k .code)) + left ω (busy c (ms ++ (m ∷ [])))
 unfolding left kidsWeight
-makes-weight ω c ms m k a ks e =
+makes-weight ω L c ms m k ks e =
     let one : length (ms ++ (m ∷ [])) ≡ suc (length ms) = omega (arith, length-append ms (m ∷ [])) in
-    rw (one, drop-more (length ms) (kids c) (k, a) ks e, e) (omega arith)
+    let now = kids-anywhere ω L c (length ms) ∙ ap (kidsWeight ω) e in
+    let more = kids-anywhere ω L c (suc (length ms)) ∙ ap (kidsWeight ω) (drop-more (length ms) (kids L c) k ks e) in
+    rw (one, now, more) (omega arith)
 
 splits-weight :
-    (ω : Event → ℕ) (L σ : ℕ) (c : Code) (ms all : List ℕ) (k : Code) (a : Name) → drop (length ms) (kids c) ≡ (k, a) ∷ []
-    → left ω (busy c ms) ≡ ω a-new + left ω (fresh k) + left ω (onward (goes L c) (todo σ all c))
+    (ω : Event → ℕ) (L σ f : ℕ) (c : Code) (ms all : List ℕ) (k : Kid) → drop (length ms) (kids L c) ≡ k ∷ []
+    → left ω (busy c ms) ≡ ω a-new + left ω (fresh (k .code)) + left ω (onward (goes L c) (todo σ f all c))
 unfolding left kidsWeight todo
-splits-weight ω L σ c ms all k a e =
+splits-weight ω L σ f c ms all k e =
     let cs : List Command = commandsOf (kindOf c) in
-    let behind = behind-weight ω L c (length ms) (k, a) [] e in
-    rw e (omega (arith, onward-weight ω (goes L c) (joins σ all cs), joins-weight ω σ all cs, behind))
+    let behind = behind-weight ω L c (length ms) k [] e in
+    let now = kids-anywhere ω L c (length ms) ∙ ap (kidsWeight ω) e in
+    rw now (omega (arith, onward-weight ω (goes L c) (joins σ f all cs), joins-weight ω σ f all cs, behind))
 
 acts-weight : (ω : Event → ℕ) (c : Code) (d : Do) (ds : List Do) → left ω (joining c d ds) ≡ ω (eventOf d) + left ω (onward c ds)
 unfolding left tasksWeight
@@ -152,6 +172,8 @@ body-some (job-at o n r) = omega arith
 body-some (async-at o b r) = omega arith
 body-some (finish-at o b r) = omega arith
 body-some (fork-at o b c r) = omega arith
+body-some (future-at o b r) = omega arith
+body-some (force-at o n b r) = omega arith
 
 -- so behind the vertices of its first item
 behind-some : (c : Code) → 0 < behindWeight each c
@@ -161,6 +183,8 @@ behind-some (job-at o n r) = omega arith
 behind-some (async-at o b r) = omega (arith, body-some r)
 behind-some (finish-at o b r) = omega arith
 behind-some (fork-at o b c r) = omega arith
+behind-some (future-at o b r) = omega (arith, body-some r)
+behind-some (force-at o n b r) = omega arith
 
 -- so only a vertex that is over has nothing to do
 pub nothing-left : (x : Control) → left each x ≡ 0 → x ≡ over
@@ -219,40 +243,86 @@ done-count S v (link a b) = refl
 done-count S v (hand h) = refl
 done-count S v (free m) = refl
 
+-- Vertices beyond those made.
+
+-- they are over
+abbrev pub Beyond : State → Type 0
+Beyond S = (u : ℕ) → S .count ≤ u → S .control u ≡ over
+
+-- so a vertex that is not over has been made
+below : (S : State) → Beyond S → (v : ℕ) → (S .control v ≡ over → ⊥) → v < S .count
+below S beyond v live = lt-of-not-le (λ le. live (beyond v le))
+
+-- one that is over stays so where another one changes, where drafts become fresh, and after a joining command
+put-over : (f : ℕ → Control) (v : ℕ) (x : Control) (u : ℕ) → (f v ≡ over → ⊥) → f u ≡ over → put f v x u ≡ over
+put-over f v x u live o = put-other f v x u (λ q. live (ap f (sym q) ∙ o)) ∙ o
+
+stirred-over : (f : ℕ → Control) (ms : List ℕ) (u : ℕ) → f u ≡ over → stirred f ms u ≡ over
+unfolding woken
+stirred-over f ms u o = go (among u ms)
+  where
+    go : (b : Bool) → cond b (woken (f u)) (f u) ≡ over
+    go true = ap woken o
+    go false = o
+
+done-over : (S : State) (v : ℕ) (d : Do) (u : ℕ) → S .control u ≡ over → done S v d .control u ≡ over
+unfolding done freed
+done-over S v (link a b) u o = o
+done-over S v (hand h) u o = o
+done-over S v (free m) u o =
+    put-cases (λ x. x ≡ over) (S .control) m (freed (S .control m)) u (λ q. ap (λ w. freed (S .control w)) (sym q) ∙ ap freed o) (λ n. o)
+
+-- with one vertex more
+new-over :
+    (f : ℕ → Control) (n v : ℕ) (x y : Control) → ((u : ℕ) → n ≤ u → f u ≡ over) → v < n → (u : ℕ) → suc n ≤ u
+    → put (put f n y) v x u ≡ over
+new-over f n v x y beyond lt u le =
+    put-other (put f n y) v x u (λ q. absurd (omega arith)) ∙ put-other f n y u (λ q. absurd (omega arith)) ∙ beyond u (omega arith)
+
+beyond-kept : {S S' : State} {v : ℕ} {e : Event} → Beyond S → Move S v e S' → Beyond S'
+beyond-kept {S} {v = v} h (begins q bare) u le = put-over (S .control) v _ u (λ o. clash cc) (h u le)
+beyond-kept {S} {v = v} h (performs q) u le = put-over (S .control) v _ u (λ o. clash cc) (h u le)
+beyond-kept {S} {v = v} h (stops q) u le = put-over (S .control) v _ u (λ o. clash cc) (h u le)
+beyond-kept {S} {v = v} h (makes q e) u le = new-over (S .control) (S .count) v _ _ h (below S h v (λ o. clash cc)) u le
+beyond-kept {S} {v = v} h (splits {ms = ms} q e) u le =
+    new-over (stirred (S .control) ms) (S .count) v _ _ (λ u le. stirred-over (S .control) ms u (h u le)) (below S h v (λ o. clash cc)) u le
+beyond-kept {S} {v = v} h (acts {d = d} q) u le =
+    let kept = done-over S v d u (h u (omega (arith, le, done-count S v d))) in
+    put-other (done S v d .control) v _ u (λ z. absurd (omega (arith, z, le, done-count S v d, below S h v (λ o. clash cc)))) ∙ kept
+
 -- The law.
-pub conserved : (ω : Event → ℕ) {L v : ℕ} {S S' : State} {e : Event} → Shape S → Move L S v e S' → total ω S ≡ ω e + total ω S'
+pub conserved : (ω : Event → ℕ) {v : ℕ} {S S' : State} {e : Event} → Beyond S → Move S v e S' → total ω S ≡ ω e + total ω S'
 unfolding total
-conserved ω {v = v} {S = S} sh (begins {c} q bare) =
-    changed ω (S .control) (S .control) (S .count) v _ _ (below sh v (λ o. clash cc)) (λ u. refl) (ap (left ω) q ∙ begins-weight ω c)
-conserved ω {v = v} {S = S} sh (performs {o} {n} {r} q) =
-    changed ω (S .control) (S .control) (S .count) v _ _ (below sh v (λ o. clash cc)) (λ u. refl) (ap (left ω) q ∙ performs-weight ω o n r)
-conserved ω {v = v} {S = S} sh (stops {o} q) =
-    changed ω (S .control) (S .control) (S .count) v _ _ (below sh v (λ o. clash cc)) (λ u. refl) (ap (left ω) q ∙ stops-weight ω o)
-conserved ω {v = v} {S = S} sh (makes {c} {ms} {k} {a} q e) =
-    increased ω (S .control) (S .control) (S .count) v _ _ _ (below sh v (λ o. clash cc)) (λ u. refl)
-    (ap (left ω) q ∙ makes-weight ω c ms (S .count) k a _ e)
-conserved ω {L} {v} {S} sh (splits {c} {ms} {k} {a} q e) =
-    increased ω (S .control) (stirred (S .control) ms) (S .count) v _ _ _ (below sh v (λ o. clash cc))
+conserved ω {v} {S} h (begins {c} q bare) =
+    changed ω (S .control) (S .control) (S .count) v _ _ (below S h v (λ o. clash cc)) (λ u. refl) (ap (left ω) q ∙ begins-weight ω c)
+conserved ω {v} {S} h (performs {o} {n} {r} q) =
+    changed ω (S .control) (S .control) (S .count) v _ _ (below S h v (λ o. clash cc)) (λ u. refl) (ap (left ω) q ∙ performs-weight ω o n r)
+conserved ω {v} {S} h (stops {o} q) =
+    changed ω (S .control) (S .control) (S .count) v _ _ (below S h v (λ o. clash cc)) (λ u. refl) (ap (left ω) q ∙ stops-weight ω o)
+conserved ω {v} {S} h (makes {c} {ms} {k} q e) =
+    increased ω (S .control) (S .control) (S .count) v _ _ _ (below S h v (λ o. clash cc)) (λ u. refl)
+    (ap (left ω) q ∙ makes-weight ω (S .lastByte) c ms (S .count) k _ e)
+conserved ω {v} {S} h (splits {c} {ms} {k} q e) =
+    increased ω (S .control) (stirred (S .control) ms) (S .count) v _ _ _ (below S h v (λ o. clash cc))
     (stirred-weight ω (S .control) ms)
-    (ap (left ω) q ∙ splits-weight ω L (S .scope v) c ms (ms ++ (S .count ∷ [])) k a e)
-conserved ω {v = v} {S = S} sh (acts {c} {d} {ds} q) =
-    changed ω (S .control) (done S v d .control) (S .count) v _ _ (below sh v (λ o. clash cc)) (done-weight ω S v d)
+    (ap (left ω) q ∙ splits-weight ω (S .lastByte) (S .scope v) (forcedBy (S .opens v) c) c ms (ms ++ (S .count ∷ [])) k e)
+conserved ω {v} {S} h (acts {c} {d} {ds} q) =
+    changed ω (S .control) (done S v d .control) (S .count) v _ _ (below S h v (λ o. clash cc)) (done-weight ω S v d)
     (ap (left ω) q ∙ acts-weight ω c d ds)
     ∙ ap (λ n. ω (eventOf d) + sumBelow (λ u. left ω (put (done S v d .control) v (onward c ds) u)) n) (sym (done-count S v d))
 
 -- Moves one after the other, with their events, the latest first.
-pub data Runs (L : ℕ) (S : State) : List Event → State → Type 0 where
-  no-move : Runs L S [] S
-  and-then : {v : ℕ} {e : Event} {es : List Event} {S1 S2 : State} → Runs L S es S1 → Move L S1 v e S2 → Runs L S (e ∷ es) S2
+pub data Runs (S : State) : List Event → State → Type 0 where
+  no-move : Runs S [] S
+  and-then : {v : ℕ} {e : Event} {es : List Event} {S1 S2 : State} → Runs S es S1 → Move S1 v e S2 → Runs S (e ∷ es) S2
 
--- all of them keep the shape
-runs-shape : {L : ℕ} {S S' : State} {es : List Event} → Shape S → Runs L S es S' → Shape S'
-runs-shape sh no-move = sh
-runs-shape sh (and-then r m) = shape-kept (runs-shape sh r) m
+-- all of them keep it that vertices beyond those made are over
+runs-beyond : {S S' : State} {es : List Event} → Beyond S → Runs S es S' → Beyond S'
+runs-beyond h no-move = h
+runs-beyond h (and-then r m) = beyond-kept (runs-beyond h r) m
 
 -- what was left is what has been done and what is left
-pub runs-pay :
-    (ω : Event → ℕ) {L : ℕ} {S S' : State} {es : List Event} → Shape S → Runs L S es S' → total ω S ≡ spent ω es + total ω S'
+pub runs-pay : (ω : Event → ℕ) {S S' : State} {es : List Event} → Beyond S → Runs S es S' → total ω S ≡ spent ω es + total ω S'
 unfolding spent
-runs-pay ω sh no-move = omega arith
-runs-pay ω sh (and-then r m) = omega (arith, runs-pay ω sh r, conserved ω (runs-shape sh r) m)
+runs-pay ω h no-move = omega arith
+runs-pay ω h (and-then r m) = omega (arith, runs-pay ω h r, conserved ω (runs-beyond h r) m)

@@ -3,7 +3,7 @@
 -- At the beginning a program's state weighs what the table of commands says of its items; so what has been done in a run never weighs more,
 -- and weighs as much once every vertex is over. A job is weighed by its offset, which no other job of laid code has.
 --
--- Of beginning p L, where p is locate o t:
+-- Of beginning (located t) L:
 --     steps-total       total each ≡ steps firstEdition t
 --     vertices-total    2 + total news ≡ vertices firstEdition t
 --     edges-total       1 + total links ≡ edgeRows firstEdition t
@@ -28,16 +28,16 @@ use native.Mathlib.Omega.{arith}
 use lib.ListN.{length}
 use borrow.Author.Tests.{eq-eqb, ne-eqb}
 use Rattle.graph.proofs.TestLaws.{equal?}
-use Rattle.program.specs.Trees.{Kind, jobs, asyncs, finishes, forks, Body, end, job, async, finish, fork}
+use Rattle.program.specs.Trees.{Kind, jobs, asyncs, finishes, forks, futures, forces, Body, end, job, async, finish, fork, future, force}
 use Rattle.program.specs.Trees as trees
 use Rattle.program.specs.Encodings as table
 use Rattle.program.specs.Encodings.{Command, perform, newTd, newEdge, transfer, release, firstEdition, weight, itemsWeight, verticesMade}
 use Rattle.program.specs.Encodings.{edgeRowsNeeded, stepsTaken}
 use Rattle.program.specs.Bytes.{numberSize, size}
-use Rattle.program.specs.Located.{Code, end-at, job-at, async-at, finish-at, fork-at, locate, startOf, last}
+use Rattle.program.specs.Located.{Code, end-at, job-at, async-at, finish-at, fork-at, future-at, force-at, locate, located, startOf, last}
 use Rattle.program.proofs.LocatedLaws.{Laid}
-use Rattle.machine.proofs.GhostMachine.Ghost.{Event, a-start, a-new, an-edge, a-release, a-transfer, a-job, a-stop, eventOf, Do, link, hand, free}
-use Rattle.machine.proofs.GhostMachine.Ghost.{over, State, Move, begins, performs, stops, makes, splits, acts}
+use Rattle.machine.proofs.GhostMachine.Ghost.{Event, a-start, a-new, an-edge, a-release, a-transfer, a-job, a-stop, eventOf, Do, link, hand}
+use Rattle.machine.proofs.GhostMachine.Ghost.{free, over, State, Move, begins, performs, stops, makes, splits, acts}
 use Rattle.machine.proofs.GhostMachine.Beginning.{beginning}
 use Rattle.machine.proofs.GhostMachine.BeginningShape.{shape-beginning}
 use Rattle.machine.proofs.Counting.Weights.{joinWeight, joinsWeight, bodyWeight, left, sumBelow, total, spent, each, news, links, jobAt}
@@ -61,16 +61,21 @@ kindWeight ω j k =
 
 -- where all jobs weigh the same, code weighs what its items do, and one stop
 items-weight :
-    (ω : Event → ℕ) (j : ℕ) → ((o : ℕ) → ω (a-job o) ≡ j) → (o : ℕ) (b : Body)
-    → bodyWeight ω (locate o b) ≡ ω a-stop + trees.total (kindWeight ω j) b
+    (ω : Event → ℕ) (j : ℕ) → ((o : ℕ) → ω (a-job o) ≡ j) → (opened : List Code) (o : ℕ) (b : Body)
+    → bodyWeight ω (locate opened o b) ≡ ω a-stop + trees.total (kindWeight ω j) b
 unfolding locate bodyWeight joinsWeight joinWeight trees.total kindWeight commandWeight weight table.makes firstEdition
-items-weight ω j same o end = omega arith
-items-weight ω j same o (job n r) = omega (arith, same o, items-weight ω j same (suc (o + numberSize n)) r)
-items-weight ω j same o (async b r) = omega (arith, items-weight ω j same (suc o) b, items-weight ω j same (suc (o + size b)) r)
-items-weight ω j same o (finish b r) = omega (arith, items-weight ω j same (suc o) b, items-weight ω j same (suc (o + size b)) r)
-items-weight ω j same o (fork b c r) =
-    let past = items-weight ω j same (suc (o + size b + size c)) r in
-    omega (arith, items-weight ω j same (suc o) b, items-weight ω j same (suc (o + size b)) c, past)
+items-weight ω j same fs o end = omega arith
+items-weight ω j same fs o (job n r) = omega (arith, same o, items-weight ω j same fs (suc (o + numberSize n)) r)
+items-weight ω j same fs o (async b r) =
+    omega (arith, items-weight ω j same fs (suc o) b, items-weight ω j same fs (suc (o + size b)) r)
+items-weight ω j same fs o (finish b r) =
+    omega (arith, items-weight ω j same fs (suc o) b, items-weight ω j same fs (suc (o + size b)) r)
+items-weight ω j same fs o (fork b c r) =
+    let past = items-weight ω j same fs (suc (o + size b + size c)) r in
+    omega (arith, items-weight ω j same fs (suc o) b, items-weight ω j same fs (suc (o + size b)) c, past)
+items-weight ω j same fs o (future b r) =
+    omega (arith, items-weight ω j same fs (suc o) b, items-weight ω j same (locate fs (suc o) b ∷ fs) (suc (o + size b)) r)
+items-weight ω j same fs o (force n r) = omega (arith, items-weight ω j same fs (suc (o + numberSize n)) r)
 
 -- sums over the items of the same weights
 total-same : (f g : Kind → ℕ) → ((k : Kind) → f k ≡ g k) → (b : Body) → trees.total f b ≡ trees.total g b
@@ -81,6 +86,8 @@ total-same f g same (async b r) = omega (arith, same asyncs, total-same f g same
 total-same f g same (finish b r) = omega (arith, same finishes, total-same f g same b, total-same f g same r)
 total-same f g same (fork b c r) =
     omega (arith, same forks, total-same f g same b, total-same f g same c, total-same f g same r)
+total-same f g same (future b r) = omega (arith, same futures, total-same f g same b, total-same f g same r)
+total-same f g same (force n r) = omega (arith, same forces, total-same f g same r)
 
 -- with a second sum counted twice
 total-plus : (f g : Kind → ℕ) (b : Body) → trees.total (λ k. f k + 2 * g k) b ≡ trees.total f b + 2 * trees.total g b
@@ -90,6 +97,8 @@ total-plus f g (job n r) = omega (arith, total-plus f g r)
 total-plus f g (async b r) = omega (arith, total-plus f g b, total-plus f g r)
 total-plus f g (finish b r) = omega (arith, total-plus f g b, total-plus f g r)
 total-plus f g (fork b c r) = omega (arith, total-plus f g b, total-plus f g c, total-plus f g r)
+total-plus f g (future b r) = omega (arith, total-plus f g b, total-plus f g r)
+total-plus f g (force n r) = omega (arith, total-plus f g r)
 
 -- each kind, by the weights of the table
 each-kind :
@@ -99,6 +108,8 @@ each-kind jobs = omega arith
 each-kind asyncs = omega arith
 each-kind finishes = omega arith
 each-kind forks = omega arith
+each-kind futures = omega arith
+each-kind forces = omega arith
 
 -- and so all items
 each-items :
@@ -112,6 +123,8 @@ news-kind jobs = omega arith
 news-kind asyncs = omega arith
 news-kind finishes = omega arith
 news-kind forks = omega arith
+news-kind futures = omega arith
+news-kind forces = omega arith
 
 links-kind : (k : Kind) → kindWeight links 0 k ≡ weight table.links (firstEdition k .commands)
 unfolding kindWeight commandWeight weight links table.makes table.links firstEdition
@@ -119,6 +132,8 @@ links-kind jobs = omega arith
 links-kind asyncs = omega arith
 links-kind finishes = omega arith
 links-kind forks = omega arith
+links-kind futures = omega arith
+links-kind forces = omega arith
 
 -- The beginning: two vertices are ready, one at the program's start and one at its last byte.
 
@@ -128,19 +143,17 @@ unfolding beginning total sumBelow left bodyWeight
 opening ω p L = omega arith
 
 -- what is counted at the beginning is what the program needs
-pub steps-total : (o L : ℕ) (t : Body) → total each (beginning (locate o t) L) ≡ stepsTaken firstEdition t
-unfolding stepsTaken verticesMade
-steps-total o L t = omega (arith, opening each (locate o t) L, items-weight each 1 (λ o. refl) o t, each-items t)
+pub steps-total : (L : ℕ) (t : Body) → total each (beginning (located t) L) ≡ stepsTaken firstEdition t
+unfolding located stepsTaken verticesMade
+steps-total L t = omega (arith, opening each (located t) L, items-weight each 1 (λ o. refl) [] 0 t, each-items t)
 
-pub vertices-total : (o L : ℕ) (t : Body) → 2 + total news (beginning (locate o t) L) ≡ verticesMade firstEdition t
-unfolding verticesMade itemsWeight news
-vertices-total o L t =
-    omega (arith, opening news (locate o t) L, items-weight news 0 (λ o. refl) o t, total-same _ _ news-kind t)
+pub vertices-total : (L : ℕ) (t : Body) → 2 + total news (beginning (located t) L) ≡ verticesMade firstEdition t
+unfolding located verticesMade itemsWeight news
+vertices-total L t = omega (arith, opening news (located t) L, items-weight news 0 (λ o. refl) [] 0 t, total-same _ _ news-kind t)
 
-pub edges-total : (o L : ℕ) (t : Body) → 1 + total links (beginning (locate o t) L) ≡ edgeRowsNeeded firstEdition t
-unfolding edgeRowsNeeded itemsWeight links
-edges-total o L t =
-    omega (arith, opening links (locate o t) L, items-weight links 0 (λ o. refl) o t, total-same _ _ links-kind t)
+pub edges-total : (L : ℕ) (t : Body) → 1 + total links (beginning (located t) L) ≡ edgeRowsNeeded firstEdition t
+unfolding located edgeRowsNeeded itemsWeight links
+edges-total L t = omega (arith, opening links (located t) L, items-weight links 0 (λ o. refl) [] 0 t, total-same _ _ links-kind t)
 
 -- Jobs.
 
@@ -178,6 +191,15 @@ pub jobs-fork : (q o : ℕ) (b c r : Code) → jobsAt q (fork-at o b c r) ≡ jo
 unfolding bodyWeight joinsWeight joinWeight weight firstEdition jobAt
 jobs-fork q o b c r = omega arith
 
+pub jobs-future : (q o : ℕ) (b r : Code) → jobsAt q (future-at o b r) ≡ jobsAt q b + jobsAt q r
+unfolding bodyWeight joinsWeight joinWeight weight firstEdition jobAt
+jobs-future q o b r = omega arith
+
+-- a force's own body is not counted: its jobs are those of its future
+pub jobs-force : (q o n : ℕ) (b r : Code) → jobsAt q (force-at o n b r) ≡ jobsAt q r
+unfolding bodyWeight joinsWeight joinWeight weight firstEdition jobAt
+jobs-force q o n b r = omega arith
+
 -- Of jobs between lo and hi, w are at q: none, and J says that one is written there, or one.
 data Told (q w : ℕ) (J : Type 0) (lo hi : ℕ) : Type 0 where
   none-there : w ≡ 0 → (J → ⊥) → Told q w J lo hi
@@ -191,6 +213,11 @@ beside (none-there e f) (none-there e' f') sum apart s l l' = none-there (omega 
 beside (none-there e f) (one-there e' s' i') sum apart s l l' = one-there (omega arith) (omega arith) (omega arith)
 beside (one-there e s' i') (none-there e' f') sum apart s l l' = one-there (omega arith) (omega arith) (omega arith)
 beside (one-there e s' i') (one-there e' s'' i'') sum apart s l l' = absurd (omega arith)
+
+-- with a wider range, from an item that is no job on
+told-from : {q w all lo hi from : ℕ} {J : Type 0} → Told q w J lo hi → all ≡ w → from ≤ lo → Told q all J from hi
+told-from (none-there e f) sum s = none-there (omega arith) f
+told-from (one-there e s' i) sum s = one-there (omega arith) (omega arith) (omega arith)
 
 -- a job by itself
 told-job : (q o : ℕ) → Told q (jobAt q (a-job o)) (q ≡ o) o o
@@ -215,6 +242,10 @@ told q (fork-at o b c r) l =
     (beside {from = startOf c} (told q c (l .2)) (told q r (l .3)) refl (omega (arith, l .0 .ends)) (omega arith) (l .0 .right) (l .0 .rest))
     (jobs-fork q o b c r) (omega (arith, l .0 .between)) (omega (arith, l .0 .starts)) (l .0 .left)
     (omega (arith, l .0 .right, l .0 .ends, l .0 .rest))
+told q (future-at o b r) l =
+    beside (told q b (l .1)) (told q r (l .2)) (jobs-future q o b r) (omega (arith, l .0 .ends)) (omega (arith, l .0 .starts)) (l .0 .body)
+    (l .0 .rest)
+told q (force-at o n b r) l = told-from (told q r (l .1)) (jobs-force q o n b r) (omega (arith, l .0 .starts))
 
 -- so no two are at the same offset
 jobs-le : (q : ℕ) (c : Code) → Laid c → jobsAt q c ≤ 1
@@ -259,9 +290,9 @@ over-all ω S h = zero-sum (λ v. left ω (S .control v)) (S .count) (λ v l. ap
 
 -- what has been done and what is left is what a program's state weighs at the beginning
 runs-on :
-    (ω : Event → ℕ) (p : Code) (L : ℕ) {es : List Event} {S : State} → Runs L (beginning p L) es S
+    (ω : Event → ℕ) (p : Code) (L : ℕ) {es : List Event} {S : State} → Runs (beginning p L) es S
     → total ω (beginning p L) ≡ spent ω es + total ω S
-runs-on ω p L r = runs-pay ω (shape-beginning p L) r
+runs-on ω p L r = runs-pay ω (shape-beginning p L .beyond) r
 
 -- Steps.
 
@@ -271,14 +302,14 @@ spent-each [] = refl
 spent-each (e ∷ es) = omega (arith, spent-each es)
 
 pub steps-run :
-    (o : ℕ) (t : Body) (L : ℕ) {es : List Event} {S : State} → Runs L (beginning (locate o t) L) es S
+    (t : Body) (L : ℕ) {es : List Event} {S : State} → Runs (beginning (located t) L) es S
     → length es + total each S ≡ stepsTaken firstEdition t
-steps-run o t L {es} r = omega (arith, runs-on each (locate o t) L r, spent-each es, steps-total o L t)
+steps-run t L {es} r = omega (arith, runs-on each (located t) L r, spent-each es, steps-total L t)
 
 pub steps-bound :
-    (o : ℕ) (t : Body) (L : ℕ) {es : List Event} {S : State} → Runs L (beginning (locate o t) L) es S
+    (t : Body) (L : ℕ) {es : List Event} {S : State} → Runs (beginning (located t) L) es S
     → length es ≤ stepsTaken firstEdition t
-steps-bound o t L r = omega (arith, steps-run o t L r)
+steps-bound t L r = omega (arith, steps-run t L r)
 
 -- Vertices: each new one is counted.
 
@@ -288,31 +319,31 @@ news-none (link a b) = refl
 news-none (hand h) = refl
 news-none (free m) = refl
 
-pub move-count : {L v : ℕ} {S S' : State} {e : Event} → Move L S v e S' → S' .count ≡ news e + S .count
+pub move-count : {v : ℕ} {S S' : State} {e : Event} → Move S v e S' → S' .count ≡ news e + S .count
 unfolding news
 move-count (begins q bare) = omega arith
 move-count (performs q) = omega arith
 move-count (stops q) = omega arith
 move-count (makes q e) = omega arith
 move-count (splits q e) = omega arith
-move-count {v = v} {S = S} (acts {d = d} q) = omega (arith, done-count S v d, news-none d)
+move-count {v} {S} (acts {d = d} q) = omega (arith, done-count S v d, news-none d)
 
-runs-count : {L : ℕ} {S S' : State} {es : List Event} → Runs L S es S' → S' .count ≡ spent news es + S .count
+runs-count : {S S' : State} {es : List Event} → Runs S es S' → S' .count ≡ spent news es + S .count
 unfolding spent
 runs-count no-move = omega arith
 runs-count (and-then r m) = omega (arith, runs-count r, move-count m)
 
 pub vertices-bound :
-    (o : ℕ) (t : Body) (L : ℕ) {es : List Event} {S : State} → Runs L (beginning (locate o t) L) es S → S .count ≤ verticesMade firstEdition t
+    (t : Body) (L : ℕ) {es : List Event} {S : State} → Runs (beginning (located t) L) es S → S .count ≤ verticesMade firstEdition t
 unfolding beginning
-vertices-bound o t L r = omega (arith, runs-on news (locate o t) L r, runs-count r, vertices-total o L t)
+vertices-bound t L r = omega (arith, runs-on news (located t) L r, runs-count r, vertices-total L t)
 
 -- Edge rows: the one that is held at the beginning, and each new one.
 
 pub edges-bound :
-    (o : ℕ) (t : Body) (L : ℕ) {es : List Event} {S : State} → Runs L (beginning (locate o t) L) es S
+    (t : Body) (L : ℕ) {es : List Event} {S : State} → Runs (beginning (located t) L) es S
     → 1 + spent links es ≤ edgeRowsNeeded firstEdition t
-edges-bound o t L r = omega (arith, runs-on links (locate o t) L r, edges-total o L t)
+edges-bound t L r = omega (arith, runs-on links (located t) L r, edges-total L t)
 
 -- Jobs.
 
@@ -323,17 +354,17 @@ jobs-total q p L = omega (arith, opening (jobAt q) p L)
 
 -- a job is done once at most
 pub job-once :
-    (q : ℕ) (p : Code) (L : ℕ) {es : List Event} {S : State} → Laid p → Runs L (beginning p L) es S → spent (jobAt q) es ≤ 1
+    (q : ℕ) (p : Code) (L : ℕ) {es : List Event} {S : State} → Laid p → Runs (beginning p L) es S → spent (jobAt q) es ≤ 1
 job-once q p L l r = omega (arith, runs-on (jobAt q) p L r, jobs-total q p L, jobs-le q p l)
 
 -- exactly once, if it is written, when nothing of it is left
 pub job-past :
-    (q : ℕ) (p : Code) (L : ℕ) {es : List Event} {S : State} → Laid p → Job p q → Runs L (beginning p L) es S
+    (q : ℕ) (p : Code) (L : ℕ) {es : List Event} {S : State} → Laid p → Job p q → Runs (beginning p L) es S
     → total (jobAt q) S ≡ 0 → spent (jobAt q) es ≡ 1
 job-past q p L l j r z = omega (arith, runs-on (jobAt q) p L r, jobs-total q p L, jobs-one q p l j, z)
 
 -- so it is when all is done
 pub job-done :
-    (q : ℕ) (p : Code) (L : ℕ) {es : List Event} {S : State} → Laid p → Job p q → Runs L (beginning p L) es S → total each S ≡ 0
+    (q : ℕ) (p : Code) (L : ℕ) {es : List Event} {S : State} → Laid p → Job p q → Runs (beginning p L) es S → total each S ≡ 0
     → spent (jobAt q) es ≡ 1
 job-done q p L {S = S} l j r z = job-past q p L l j r (over-all (jobAt q) S (all-over S z))

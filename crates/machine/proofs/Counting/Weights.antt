@@ -10,11 +10,11 @@ use mathlib.Core.Bool.{cond}
 use mathlib.Core.List.{List, [], _∷_}
 use lib.Dec.{eqb}
 use lib.ListN.{length, drop}
-use Rattle.program.specs.Trees.{Kind, asyncs, finishes, forks}
-use Rattle.program.specs.Encodings.{Name, Command, perform, newTd, newEdge, transfer, release, firstEdition, weight}
-use Rattle.program.specs.Located.{Code, end-at, job-at, async-at, finish-at, fork-at}
-use Rattle.machine.proofs.GhostMachine.Ghost.{Do, Control, draft, fresh, ready, busy, joining, over, State, kids, Event, a-start, a-new, an-edge}
-use Rattle.machine.proofs.GhostMachine.Ghost.{a-release, a-transfer, a-job, a-stop, eventOf}
+use Rattle.program.specs.Trees.{Kind, asyncs, finishes, forks, futures, forces}
+use Rattle.program.specs.Encodings.{Command, perform, newTd, newEdge, transfer, release, firstEdition, weight}
+use Rattle.program.specs.Located.{Code, end-at, job-at, async-at, finish-at, fork-at, future-at, force-at}
+use Rattle.machine.proofs.GhostMachine.Ghost.{Do, Control, draft, fresh, ready, busy, joining, over, State, Kid, kids, Event, a-start, a-new}
+use Rattle.machine.proofs.GhostMachine.Ghost.{an-edge, a-release, a-transfer, a-job, a-stop, eventOf}
 
 -- what a command weighs that joins vertices
 unfoldable pub joinWeight : (Event → ℕ) → Command → ℕ
@@ -32,7 +32,8 @@ joinsWeight ω k = weight (joinWeight ω) (firstEdition k .commands)
 abbrev pub kidWeight : (Event → ℕ) → ℕ → ℕ
 kidWeight ω w = ω a-new + ω a-start + w
 
--- What a vertex that executes at the start of this code has still to do. After a finish or a fork it goes to an end byte.
+-- What a vertex that executes at the start of this code has still to do. After a finish, a fork or a force it goes to an end byte. A future's
+-- first vertex is at one when it is made.
 unfoldable pub bodyWeight : (Event → ℕ) → Code → ℕ
 bodyWeight ω (end-at o) = ω a-stop
 bodyWeight ω (job-at o n r) = ω (a-job o) + bodyWeight ω r
@@ -42,11 +43,13 @@ bodyWeight ω (finish-at o b r) =
 bodyWeight ω (fork-at o b c r) =
     kidWeight ω (bodyWeight ω b)
     + (kidWeight ω (bodyWeight ω c) + (kidWeight ω (bodyWeight ω r) + (joinsWeight ω forks + ω a-stop)))
+bodyWeight ω (future-at o b r) = kidWeight ω (ω a-stop) + (kidWeight ω (bodyWeight ω b) + (joinsWeight ω futures + bodyWeight ω r))
+bodyWeight ω (force-at o n b r) = kidWeight ω (bodyWeight ω r) + (joinsWeight ω forces + ω a-stop)
 
 -- vertices still to be made
-unfoldable pub kidsWeight : (Event → ℕ) → List (Code × Name) → ℕ
+unfoldable pub kidsWeight : (Event → ℕ) → List Kid → ℕ
 kidsWeight ω [] = 0
-kidsWeight ω (k ∷ ks) = kidWeight ω (bodyWeight ω (k .0)) + kidsWeight ω ks
+kidsWeight ω (k ∷ ks) = kidWeight ω (bodyWeight ω (k .code)) + kidsWeight ω ks
 
 -- what code weighs without the vertices that its first item makes
 unfoldable pub behindWeight : (Event → ℕ) → Code → ℕ
@@ -55,18 +58,20 @@ behindWeight ω (job-at o n r) = ω (a-job o) + bodyWeight ω r
 behindWeight ω (async-at o b r) = joinsWeight ω asyncs + bodyWeight ω r
 behindWeight ω (finish-at o b r) = joinsWeight ω finishes + ω a-stop
 behindWeight ω (fork-at o b c r) = joinsWeight ω forks + ω a-stop
+behindWeight ω (future-at o b r) = joinsWeight ω futures + bodyWeight ω r
+behindWeight ω (force-at o n b r) = joinsWeight ω forces + ω a-stop
 
 -- joining commands with the vertices filled in
 unfoldable pub tasksWeight : (Event → ℕ) → List Do → ℕ
 tasksWeight ω [] = 0
 tasksWeight ω (d ∷ ds) = ω (eventOf d) + tasksWeight ω ds
 
--- what is left to a vertex
+-- what is left to a vertex; it does not matter where the program's last byte is
 unfoldable pub left : (Event → ℕ) → Control → ℕ
 left ω (draft c) = ω a-start + bodyWeight ω c
 left ω (fresh c) = ω a-start + bodyWeight ω c
 left ω (ready c) = ω a-start + bodyWeight ω c
-left ω (busy c ms) = kidsWeight ω (drop (length ms) (kids c)) + behindWeight ω c
+left ω (busy c ms) = kidsWeight ω (drop (length ms) (kids 0 c)) + behindWeight ω c
 left ω (joining c d ds) = tasksWeight ω (d ∷ ds) + bodyWeight ω c
 left ω over = 0
 

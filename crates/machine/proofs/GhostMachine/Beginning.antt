@@ -23,6 +23,8 @@ beginning p L =
       maker = λ u. 0;
       rank = put (λ u. suc L) 0 0;
       fin = put (λ u. suc L) 0 L;
+      opens = λ u. [];
+      lastByte = L;
     }
 
 -- its two vertices are ready, and there are no others

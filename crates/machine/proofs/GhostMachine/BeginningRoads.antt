@@ -18,7 +18,7 @@ use Rattle.machine.proofs.GhostMachine.Beginning.{beginning, beginning-
 pub beginning-settled : (p : Code) (L : ℕ) {a b : ℕ} → Settled (beginning p L) a b → (a ≡ 0) × (b ≡ 1)
 beginning-settled p L {a} {b} (held e n) = beginning-edge p L a b e
 beginning-settled p L (given t i e) = in-empty (beginning-tasks p L t) i
-beginning-settled p L (planned t i) = in-empty (beginning-tasks p L t) i
+beginning-settled p L (planned t i l) = in-empty (beginning-tasks p L t) i
 
 beginning-held : (p : Code) (L : ℕ) → Settled (beginning p L) 0 1
 unfolding beginning
@@ -55,7 +55,7 @@ roads-beginning p L =
       into = λ a b s. let (e, q) = beginning-settled p L s in rw q refl;
       way = λ u c h d. beginning-item p L u h (λ e q. rw e (one (beginning-held p L)));
       plan = λ t a i. in-empty (beginning-tasks p L t) i;
-      bare = λ t a b x i s. in-empty (beginning-tasks p L t) i;
+      bare = λ t a b x i f s. in-empty (beginning-tasks p L t) i;
     }
 
 -- the program starts at its place, and ends with its last byte

@@ -1,18 +1,19 @@
 -- The code of every vertex stands in the program, and a move leaves it so: a vertex goes on to code that is right inside the code that it
--- had or to the program's last byte, and what is made starts with code that is right inside too.
-use Prim.Native.Nat.{ℕ}
+-- had or to the program's last byte, and what is made starts with code that is right inside too, or with that byte.
+use Prim.Native.Nat.{ℕ, _≤_}
 use mathlib.Core.Path.{_≡_, refl, sym, _∙_, ap, subst}
+use mathlib.Core.Logic.{_⊎_, inl, inr, ⊎-elim}
 use mathlib.Core.List.{List, [], _∷_, _++_}
 use mathlib.Core.Option.{some, Option·some-injective, Option·none-ne-some}
-use Rattle.program.specs.Encodings.{Name}
-use Rattle.program.specs.Located.{Code, startOf, last, codeAt}
+use native.Mathlib.Omega.{arith}
+use Rattle.program.specs.Located.{Code, end-at, startOf, last, codeAt}
 use Rattle.program.proofs.LocatedLaws.{Laid, Inner, job-rest, async-body, async-rest, finish-body, finish-rest, fork-left, fork-right}
-use Rattle.program.proofs.LocatedLaws.{fork-rest, code-inner, code-end}
-use Rattle.machine.proofs.GhostMachine.Ghost.{Do, Control, draft, fresh, busy, over, State, put, goes, onward, Event, Move, begins, performs}
-use Rattle.machine.proofs.GhostMachine.Ghost.{stops, makes, splits, acts, done, stirred}
+use Rattle.program.proofs.LocatedLaws.{fork-rest, future-body, future-rest, force-rest, code-inner, code-end}
+use Rattle.machine.proofs.GhostMachine.Ghost.{Do, Control, draft, fresh, busy, over, State, Kid, put, goes, onward, Event, Move, begins}
+use Rattle.machine.proofs.GhostMachine.Ghost.{performs, stops, makes, splits, acts, done, stirred}
 use Rattle.machine.proofs.GhostMachine.Invariant.{codeOf, Coded}
-use Rattle.machine.proofs.GhostMachine.GhostLaws.{Makes, finish-1, fork-1, fork-2, Splits, async-1, finish-2, fork-3, makes-at, splits-at}
-use Rattle.machine.proofs.GhostMachine.GhostLaws.{put-all}
+use Rattle.machine.proofs.GhostMachine.GhostLaws.{Makes, finish-1, fork-1, fork-2, future-1, Splits, async-1, finish-2, fork-3, future-2}
+use Rattle.machine.proofs.GhostMachine.GhostLaws.{force-1, makes-at, splits-at, put-all}
 use Rattle.machine.proofs.GhostMachine.RoadLaws.{code-onward, done-keeps}
 use Rattle.machine.proofs.GhostMachine.SplitLaws.{stirred-keeps}
 
@@ -31,25 +32,62 @@ stands-code p x {c} e h d q = subst (λ (c : Code). codeAt p (startOf c) ≡ som
 stands-onward : (p c : Code) (ds : List Do) → codeAt p (startOf c) ≡ some c → Stands p (onward c ds)
 stands-onward p c ds = stands-code p (onward c ds) (code-onward c ds)
 
--- what an item makes is right inside it
-pub makes-inner : {c k : Code} {ms : List ℕ} {a : Name} → Makes c ms k a → Inner c k
-makes-inner finish-1 = finish-rest
-makes-inner fork-1 = fork-left
-makes-inner fork-2 = fork-right
+-- what an item makes is right inside it, or has the program's last byte
+pub makes-inner : {L : ℕ} {c : Code} {ms : List ℕ} {k : Kid} → Makes L c ms k → Inner c (k .code) ⊎ (k .code ≡ end-at L)
+makes-inner finish-1 = inl finish-rest
+makes-inner fork-1 = inl fork-left
+makes-inner fork-2 = inl fork-right
+makes-inner future-1 = inr refl
 
-pub splits-inner : {c k : Code} {ms : List ℕ} {a : Name} → Splits c ms k a → Inner c k
+-- its last vertex is right inside it
+pub splits-inner : {c : Code} {ms : List ℕ} {k : Kid} → Splits c ms k → Inner c (k .code)
 splits-inner async-1 = async-body
 splits-inner finish-2 = finish-body
 splits-inner fork-3 = fork-rest
+splits-inner future-2 = future-body
+splits-inner force-1 = force-rest
 
--- where an item's vertex goes stands in the program
+-- what an item makes does not rank behind its end
+pub makes-le : {L : ℕ} {c : Code} {ms : List ℕ} {k : Kid} → Laid c → Makes L c ms k → k .low ≤ k .high
+unfolding Laid
+makes-le l finish-1 = l .0 .rest
+makes-le l fork-1 = l .0 .left
+makes-le l fork-2 = l .0 .right
+makes-le l future-1 = omega arith
+
+pub splits-le : {c : Code} {ms : List ℕ} {k : Kid} → Laid c → Splits c ms k → k .low ≤ k .high
+unfolding Laid
+splits-le l async-1 = l .0 .body
+splits-le l finish-2 = l .0 .body
+splits-le l fork-3 = l .0 .rest
+splits-le l future-2 = l .0 .body
+splits-le l force-1 = l .0 .rest
+
+-- the program's last byte stands in it
+end-stands : (p : Code) {L : ℕ} → Laid p → last p ≡ L → codeAt p (startOf (end-at L)) ≡ some (end-at L)
+unfolding startOf
+end-stands p l e = rw (← e) (code-end p l)
+
+-- so what an item makes stands in the program
+makes-stands :
+    (p : Code) {c : Code} {L : ℕ} {ms : List ℕ} {k : Kid} → Laid p → last p ≡ L → Makes L c ms k → codeAt p (startOf c) ≡ some c
+    → codeAt p (startOf (k .code)) ≡ some (k .code)
+makes-stands p {k = k} l e m h =
+    ⊎-elim
+    (λ i. code-inner p _ l h i)
+    (λ q. subst (λ (d : Code). codeAt p (startOf d) ≡ some d) (sym q) (end-stands p l e))
+    (makes-inner m)
+
+-- and so does where its vertex goes
 goes-stands :
-    (p : Code) {c k : Code} {L : ℕ} {ms : List ℕ} {a : Name} → Laid p → last p ≡ L → Splits c ms k a → codeAt p (startOf c) ≡ some c
+    (p : Code) {c : Code} {L : ℕ} {ms : List ℕ} {k : Kid} → Laid p → last p ≡ L → Splits c ms k → codeAt p (startOf c) ≡ some c
     → codeAt p (startOf (goes L c)) ≡ some (goes L c)
-unfolding goes startOf
+unfolding goes
 goes-stands p l e async-1 h = code-inner p _ l h async-rest
-goes-stands p l e finish-2 h = rw (← e) (code-end p l)
-goes-stands p l e fork-3 h = rw (← e) (code-end p l)
+goes-stands p l e finish-2 h = end-stands p l e
+goes-stands p l e fork-3 h = end-stands p l e
+goes-stands p l e future-2 h = code-inner p _ l h future-rest
+goes-stands p l e force-1 h = end-stands p l e
 
 -- one more vertex, whose maker has come to x
 stands-made :
@@ -66,7 +104,7 @@ stands-woken p f ms h u = stands-same p (f u) (stirred f ms u) (stirred-keeps co
 
 -- every move leaves the codes
 pub coded-kept :
-    {L v : ℕ} {S S' : State} {e : Event} (p : Code) → Laid p → last p ≡ L → Coded p S → Move L S v e S' → Coded p S'
+    {v : ℕ} {S S' : State} {e : Event} (p : Code) → Laid p → last p ≡ S .lastByte → Coded p S → Move S v e S' → Coded p S'
 unfolding codeOf
 coded-kept {v = v} {S = S} p l e h (begins {c = c} q f) =
     put-all (λ x. Stands p x) (S .control) v _ h (stands-code p (busy c []) refl (h v c (ap codeOf q)))
@@ -75,14 +113,16 @@ coded-kept {v = v} {S = S} p l e h (performs {r = r} q) =
 coded-kept {v = v} {S = S} p l e h (stops q) =
     put-all (λ x. Stands p x) (S .control) v over h (λ c q. absurd (Option·none-ne-some c q))
 coded-kept {v = v} {S = S} p l e h (makes {c = c} {ms = ms} {k = k} q w) =
-    let here = h v c (ap codeOf q) in
-    stands-made p (S .control) (S .count) v _ _ h (stands-code p (draft k) refl (code-inner p _ l here (makes-inner (makes-at c ms w))))
-    (stands-code p (busy c (ms ++ (S .count ∷ []))) refl here)
+    let at = h v c (ap codeOf q) in
+    stands-made p (S .control) (S .count) v _ _ h
+    (stands-code p (draft (k .code)) refl (makes-stands p l e (makes-at (S .lastByte) c ms w) at))
+    (stands-code p (busy c (ms ++ (S .count ∷ []))) refl at)
 coded-kept {v = v} {S = S} p l e h (splits {c = c} {ms = ms} {k = k} q w) =
-    let here = h v c (ap codeOf q) in
+    let at = h v c (ap codeOf q) in
+    let item = splits-at (S .lastByte) c ms w in
     stands-made p _ (S .count) v _ _ (stands-woken p (S .control) ms h)
-    (stands-code p (fresh k) refl (code-inner p _ l here (splits-inner (splits-at c ms w))))
-    (stands-onward p _ _ (goes-stands p l e (splits-at c ms w) here))
+    (stands-code p (fresh (k .code)) refl (code-inner p _ l at (splits-inner item)))
+    (stands-onward p _ _ (goes-stands p l e item at))
 coded-kept {v = v} {S = S} p l e h (acts {c = c} {d = d} {ds = ds} q) =
     put-all (λ x. Stands p x) (done S v d .control) v _
     (λ u. stands-same p (S .control u) (done S v d .control u) (done-keeps codeOf (λ c. refl) S v d u) (h u))

@@ -22,6 +22,7 @@
 --     in-snoc        In x (xs ++ (y ∷ [])): In x xs, or x is y
 --     once-snoc      Once (xs ++ (x ∷ [])), where x is not in xs
 --     among-in, in-among, among-out    among u ms is In u ms
+--     parts-are      lists that are equal have the same first element and the same rest
 -- What is left to do
 --     each-link, each-hand, each-free    what holds of each link, transfer, release in a list, holds of one that is in it. For a list that
 --                            is written out, EachLink, EachHand and EachFree are tuples that skip the other commands
@@ -33,25 +34,32 @@
 -- Vertices of a state with a shape
 --     below          a vertex that is not over is below count
 --     new-below      so is a new one
---     doer-below     so is one that has something left to do
+--     doer-below     so is one that has something left to do; doer-old: it is not new
+--     coded-below    and one that has code; over-uncoded: one that is over has none
 --     draft-of       what is known of a vertex of an item that is not split
 --     one-freer      no vertex is released by two
+-- Open futures
+--     vertex-open    the vertex that a number names is the first of the future whose body the number names
+--     forced-open    so the future of the force that a vertex is at is open there
 use Prim.Native.Nat.{ℕ, zero, suc, _<_}
 use mathlib.Core.Path.{_≡_, refl, sym, _∙_, ap, subst}
 use mathlib.Core.Bool.{Bool, true, false}
 use mathlib.Core.Logic.{_⊎_, inl, inr, ⊎-elim}
 use mathlib.Core.List.{List, [], _∷_, _++_}
+use mathlib.Core.Option.{some, Option·some-injective, Option·none-ne-some}
 use native.Mathlib.Nat.{lt-of-not-le}
 use native.Mathlib.Omega.{arith}
 use lib.Dec.{eqb}
 use lib.ListN.{length, drop}
 use borrow.Author.Tests.{eq-eqb, ne-eqb, eqb-true}
 use Rattle.graph.proofs.TestLaws.{equal?, either-left, either-right, either-cases, true-false, not-so}
-use Rattle.program.specs.Encodings.{Name, own-scope, made-1}
-use Rattle.program.specs.Located.{Code, end-at, job-at, async-at, finish-at, fork-at}
-use Rattle.machine.proofs.GhostMachine.Ghost.{Do, link, hand, free, Control, draft, fresh, ready, busy, joining, over, State, put, kids, onward}
-use Rattle.machine.proofs.GhostMachine.Ghost.{woken, freed, among}
+use Rattle.program.specs.Encodings.{own-scope, made-1}
+use Rattle.program.specs.Located.{Code, end-at, job-at, async-at, finish-at, fork-at, future-at, force-at}
+use Rattle.program.proofs.OpenLaws.{nthOpen, Opens}
+use Rattle.machine.proofs.GhostMachine.Ghost.{Do, link, hand, free, Control, draft, fresh, ready, busy, joining, over, State, put, kids}
+use Rattle.machine.proofs.GhostMachine.Ghost.{onward, woken, freed, among, Kid, kid, awaiting, vertexAt, forcedBy}
 use Rattle.machine.proofs.GhostMachine.Invariant.{In, here, later, Once, tasks, tasksOf, isNew, Draft, Drafts, FreesOnly, Shape}
+use Rattle.machine.proofs.GhostMachine.Invariant.{codeOf, bodies, Opened}
 
 -- a function is changed at v
 pub put-same : {A : Type 0} (f : ℕ → A) (v : ℕ) (x : A) → put f v x v ≡ x
@@ -287,60 +295,68 @@ unfolding tasks onward
 tasks-onward c [] = refl
 tasks-onward c (d ∷ ds) = refl
 
--- an item that has made ms makes a vertex with this code and scope next, and others behind it
-pub data Makes : Code → List ℕ → Code → Name → Type 0 where
-  finish-1 : {o : ℕ} {b r : Code} → Makes (finish-at o b r) [] r own-scope
-  fork-1 : {o : ℕ} {b c r : Code} → Makes (fork-at o b c r) [] b own-scope
-  fork-2 : {o m : ℕ} {b c r : Code} → Makes (fork-at o b c r) (m ∷ []) c own-scope
+-- an item that has made ms makes this vertex next, and others behind it; L is the program's last byte
+pub data Makes (L : ℕ) : Code → List ℕ → Kid → Type 0 where
+  finish-1 : {o : ℕ} {b r : Code} → Makes L (finish-at o b r) [] (kid r own-scope)
+  fork-1 : {o : ℕ} {b c r : Code} → Makes L (fork-at o b c r) [] (kid b own-scope)
+  fork-2 : {o m : ℕ} {b c r : Code} → Makes L (fork-at o b c r) (m ∷ []) (kid c own-scope)
+  future-1 : {o : ℕ} {b r : Code} → Makes L (future-at o b r) [] (awaiting L r)
 
 -- the same of its last vertex
-pub data Splits : Code → List ℕ → Code → Name → Type 0 where
-  async-1 : {o : ℕ} {b r : Code} → Splits (async-at o b r) [] b own-scope
-  finish-2 : {o m : ℕ} {b r : Code} → Splits (finish-at o b r) (m ∷ []) b made-1
-  fork-3 : {o m m' : ℕ} {b c r : Code} → Splits (fork-at o b c r) (m ∷ m' ∷ []) r own-scope
+pub data Splits : Code → List ℕ → Kid → Type 0 where
+  async-1 : {o : ℕ} {b r : Code} → Splits (async-at o b r) [] (kid b own-scope)
+  finish-2 : {o m : ℕ} {b r : Code} → Splits (finish-at o b r) (m ∷ []) (kid b made-1)
+  fork-3 : {o m m' : ℕ} {b c r : Code} → Splits (fork-at o b c r) (m ∷ m' ∷ []) (kid r own-scope)
+  future-2 : {o m : ℕ} {b r : Code} → Splits (future-at o b r) (m ∷ []) (kid b made-1)
+  force-1 : {o n : ℕ} {b r : Code} → Splits (force-at o n b r) [] (kid r own-scope)
 
 -- nothing is left of a list behind its end
 drop-none : {A : Type 0} (n : ℕ) → drop {A = A} n [] ≡ []
 drop-none zero = refl
 drop-none (suc n) = refl
 
--- lists that are equal have the same first element
-first-is : {A : Type 0} {x y : A} {xs ys : List A} → x ∷ xs ≡ y ∷ ys → x ≡ y
-first-is e = cc
+-- lists that are equal have the same first element and the same rest
+pub parts-are : {A : Type 0} {x y : A} {xs ys : List A} → x ∷ xs ≡ y ∷ ys → (x ≡ y) × (xs ≡ ys)
+parts-are e = (cc, cc)
 
 pub makes-at :
-    (c : Code) (ms : List ℕ) {k : Code} {a : Name} {next : Code × Name} {more : List (Code × Name)}
-    → drop (length ms) (kids c) ≡ (k, a) ∷ (next ∷ more) → Makes c ms k a
+    (L : ℕ) (c : Code) (ms : List ℕ) {k next : Kid} {more : List Kid} → drop (length ms) (kids L c) ≡ k ∷ (next ∷ more) → Makes L c ms k
 unfolding kids
-makes-at (end-at o) ms h = clash (cc (drop-none {A = Code × Name} (length ms)))
-makes-at (job-at o n r) ms h = clash (cc (drop-none {A = Code × Name} (length ms)))
-makes-at (async-at o b r) [] h = clash cc
-makes-at (async-at o b r) (m ∷ ms) h = clash (cc (drop-none {A = Code × Name} (length ms)))
-makes-at (finish-at o b r) [] h = subst (λ (p : Code × Name). Makes (finish-at o b r) [] (p .0) (p .1)) (first-is h) finish-1
-makes-at (finish-at o b r) (m ∷ []) h = clash cc
-makes-at (finish-at o b r) (m ∷ m' ∷ ms) h = clash (cc (drop-none {A = Code × Name} (length ms)))
-makes-at (fork-at o b c r) [] h = subst (λ (p : Code × Name). Makes (fork-at o b c r) [] (p .0) (p .1)) (first-is h) fork-1
-makes-at (fork-at o b c r) (m ∷ []) h =
-    subst (λ (p : Code × Name). Makes (fork-at o b c r) (m ∷ []) (p .0) (p .1)) (first-is h) fork-2
-makes-at (fork-at o b c r) (m ∷ m' ∷ []) h = clash cc
-makes-at (fork-at o b c r) (m ∷ m' ∷ m'' ∷ ms) h = clash (cc (drop-none {A = Code × Name} (length ms)))
+makes-at L (end-at o) ms h = clash (cc (drop-none {A = Kid} (length ms)))
+makes-at L (job-at o n r) ms h = clash (cc (drop-none {A = Kid} (length ms)))
+makes-at L (async-at o b r) [] h = clash cc
+makes-at L (async-at o b r) (m ∷ ms) h = clash (cc (drop-none {A = Kid} (length ms)))
+makes-at L (finish-at o b r) [] h = subst (λ (k : Kid). Makes L (finish-at o b r) [] k) (parts-are h .0) finish-1
+makes-at L (finish-at o b r) (m ∷ []) h = clash cc
+makes-at L (finish-at o b r) (m ∷ m' ∷ ms) h = clash (cc (drop-none {A = Kid} (length ms)))
+makes-at L (fork-at o b c r) [] h = subst (λ (k : Kid). Makes L (fork-at o b c r) [] k) (parts-are h .0) fork-1
+makes-at L (fork-at o b c r) (m ∷ []) h = subst (λ (k : Kid). Makes L (fork-at o b c r) (m ∷ []) k) (parts-are h .0) fork-2
+makes-at L (fork-at o b c r) (m ∷ m' ∷ []) h = clash cc
+makes-at L (fork-at o b c r) (m ∷ m' ∷ m'' ∷ ms) h = clash (cc (drop-none {A = Kid} (length ms)))
+makes-at L (future-at o b r) [] h = subst (λ (k : Kid). Makes L (future-at o b r) [] k) (parts-are h .0) future-1
+makes-at L (future-at o b r) (m ∷ []) h = clash cc
+makes-at L (future-at o b r) (m ∷ m' ∷ ms) h = clash (cc (drop-none {A = Kid} (length ms)))
+makes-at L (force-at o n b r) [] h = clash cc
+makes-at L (force-at o n b r) (m ∷ ms) h = clash (cc (drop-none {A = Kid} (length ms)))
 
-pub splits-at :
-    (c : Code) (ms : List ℕ) {k : Code} {a : Name} → drop (length ms) (kids c) ≡ (k, a) ∷ [] → Splits c ms k a
+pub splits-at : (L : ℕ) (c : Code) (ms : List ℕ) {k : Kid} → drop (length ms) (kids L c) ≡ k ∷ [] → Splits c ms k
 unfolding kids
-splits-at (end-at o) ms h = clash (cc (drop-none {A = Code × Name} (length ms)))
-splits-at (job-at o n r) ms h = clash (cc (drop-none {A = Code × Name} (length ms)))
-splits-at (async-at o b r) [] h = subst (λ (p : Code × Name). Splits (async-at o b r) [] (p .0) (p .1)) (first-is h) async-1
-splits-at (async-at o b r) (m ∷ ms) h = clash (cc (drop-none {A = Code × Name} (length ms)))
-splits-at (finish-at o b r) [] h = clash cc
-splits-at (finish-at o b r) (m ∷ []) h =
-    subst (λ (p : Code × Name). Splits (finish-at o b r) (m ∷ []) (p .0) (p .1)) (first-is h) finish-2
-splits-at (finish-at o b r) (m ∷ m' ∷ ms) h = clash (cc (drop-none {A = Code × Name} (length ms)))
-splits-at (fork-at o b c r) [] h = clash cc
-splits-at (fork-at o b c r) (m ∷ []) h = clash cc
-splits-at (fork-at o b c r) (m ∷ m' ∷ []) h =
-    subst (λ (p : Code × Name). Splits (fork-at o b c r) (m ∷ m' ∷ []) (p .0) (p .1)) (first-is h) fork-3
-splits-at (fork-at o b c r) (m ∷ m' ∷ m'' ∷ ms) h = clash (cc (drop-none {A = Code × Name} (length ms)))
+splits-at L (end-at o) ms h = clash (cc (drop-none {A = Kid} (length ms)))
+splits-at L (job-at o n r) ms h = clash (cc (drop-none {A = Kid} (length ms)))
+splits-at L (async-at o b r) [] h = subst (λ (k : Kid). Splits (async-at o b r) [] k) (parts-are h .0) async-1
+splits-at L (async-at o b r) (m ∷ ms) h = clash (cc (drop-none {A = Kid} (length ms)))
+splits-at L (finish-at o b r) [] h = clash cc
+splits-at L (finish-at o b r) (m ∷ []) h = subst (λ (k : Kid). Splits (finish-at o b r) (m ∷ []) k) (parts-are h .0) finish-2
+splits-at L (finish-at o b r) (m ∷ m' ∷ ms) h = clash (cc (drop-none {A = Kid} (length ms)))
+splits-at L (fork-at o b c r) [] h = clash cc
+splits-at L (fork-at o b c r) (m ∷ []) h = clash cc
+splits-at L (fork-at o b c r) (m ∷ m' ∷ []) h = subst (λ (k : Kid). Splits (fork-at o b c r) (m ∷ m' ∷ []) k) (parts-are h .0) fork-3
+splits-at L (fork-at o b c r) (m ∷ m' ∷ m'' ∷ ms) h = clash (cc (drop-none {A = Kid} (length ms)))
+splits-at L (future-at o b r) [] h = clash cc
+splits-at L (future-at o b r) (m ∷ []) h = subst (λ (k : Kid). Splits (future-at o b r) (m ∷ []) k) (parts-are h .0) future-2
+splits-at L (future-at o b r) (m ∷ m' ∷ ms) h = clash (cc (drop-none {A = Kid} (length ms)))
+splits-at L (force-at o n b r) [] h = subst (λ (k : Kid). Splits (force-at o n b r) [] k) (parts-are h .0) force-1
+splits-at L (force-at o n b r) (m ∷ ms) h = clash (cc (drop-none {A = Kid} (length ms)))
 
 -- a vertex that is not over has been made
 pub below : {S : State} → Shape S → (u : ℕ) → (S .control u ≡ over → ⊥) → u < S .count
@@ -349,23 +365,58 @@ below sh u there = lt-of-not-le (λ le. there (sh .beyond u le))
 pub new-below : {S : State} → Shape S → (u : ℕ) → isNew (S .control u) ≡ true → u < S .count
 new-below sh u h = below sh u (λ o. true-false h (over-old o))
 
--- so is one that has something left to do
+-- who has something left to do is not new
+pub doer-old : (x : Control) {d : Do} → In d (tasks x) → isNew x ≡ false
+unfolding isNew tasks
+doer-old (draft c) i = in-none i
+doer-old (fresh c) i = in-none i
+doer-old (ready c) i = refl
+doer-old (busy c ms) i = refl
+doer-old (joining c d ds) i = refl
+doer-old over i = refl
+
+-- and has been made
 pub doer-below : {S : State} {d : Do} → Shape S → (t : ℕ) → In d (tasksOf S t) → t < S .count
 unfolding tasks
 doer-below {d = d} sh t i = below sh t (λ o. in-none (subst (λ x. In d (tasks x)) o i))
 
+-- who is over has no code
+pub over-uncoded : {x : Control} {c : Code} → x ≡ over → codeOf x ≡ some c → ⊥
+unfolding codeOf
+over-uncoded {c = c} o h = Option·none-ne-some c (sym (ap codeOf o) ∙ h)
+
+-- so one that has code has been made
+pub coded-below : {S : State} {c : Code} → Shape S → (u : ℕ) → codeOf (S .control u) ≡ some c → u < S .count
+coded-below sh u h = below sh u (λ o. over-uncoded o h)
+
 -- what is known of a vertex that an item under way has made
 pub draft-of :
-    {S : State} {v m : ℕ} {all : List ℕ} (ms : List ℕ) (ks : List (Code × Name)) → Drafts S v all ms ks → In m ms
-    → (k : Code) × (a : Name) × Draft S v all m k a
+    {S : State} {v m : ℕ} {all : List ℕ} (ms : List ℕ) (ks : List Kid) → Drafts S v all ms ks → In m ms
+    → (k : Kid) × Draft S v all m k
 unfolding Drafts
 draft-of [] ks h i = in-none i
 draft-of (x ∷ ms) [] h i = absurd h
 draft-of {S} {v} {all = all} (x ∷ ms) (k ∷ ks) h i =
     in-cases i
-    (λ e. (k .0, k .1, subst (λ w. Draft S v all w (k .0) (k .1)) (sym e) (h .0)))
+    (λ e. (k, subst (λ w. Draft S v all w k) (sym e) (h .0)))
     (λ j. draft-of ms ks (h .1) j)
 
 -- no vertex is released by two
 pub one-freer : {S : State} → Shape S → (m t t' : ℕ) → In (free m) (tasksOf S t) → In (free m) (tasksOf S t') → t ≡ t'
 one-freer sh m t t' i j = sym (sh .todo-fits t .frees m i .1) ∙ sh .todo-fits t' .frees m j .1
+
+-- the vertex of an open future, by its number
+pub vertex-open : (fs : List (ℕ × Code)) (n : ℕ) {b : Code} → nthOpen (bodies fs) n ≡ some b → In (vertexAt fs n, b) fs
+unfolding nthOpen bodies vertexAt
+vertex-open [] n {b} h = absurd (Option·none-ne-some b h)
+vertex-open (f ∷ fs) zero {b} h =
+    subst (λ (d : Code). In (f .0, d) (f ∷ fs)) (Option·some-injective (f .1) b h) here
+vertex-open (f ∷ fs) (suc n) h = later (vertex-open fs n h)
+
+-- the future of a force that a vertex is at is open there
+pub forced-open :
+    {S : State} {v o n : ℕ} {b r : Code} {ms : List ℕ} → Opened S → S .control v ≡ busy (force-at o n b r) ms
+    → In (forcedBy (S .opens v) (force-at o n b r), b) (S .opens v)
+unfolding Opens codeOf forcedBy
+forced-open {S} {v} {o} {n} {b} {r} op h =
+    vertex-open (S .opens v) n (op .scoped v (force-at o n b r) (ap codeOf h) .0)

@@ -1,5 +1,6 @@
 -- Edges, held or planned, lead from lower ranks to higher ones, and every move leaves it so. Ranks never change. A vertex that is made
--- has the rank of its code, which stands right inside that of its maker: behind what its siblings of lower rank do, and before the scope.
+-- has the rank of its code, which stands right inside that of its maker: behind what its siblings of lower rank do, and before the scope. A
+-- future's first vertex ranks right behind the future's item, and so before every vertex that forces it.
 use Prim.Native.Nat.{ℕ, _<_, _≤_}
 use mathlib.Core.Path.{_≡_, refl, sym, _∙_, ap, subst}
 use mathlib.Core.Bool.{Bool, true}
@@ -8,22 +9,23 @@ use mathlib.Core.List.{List, [], _∷_, _++_}
 use mathlib.Core.Option.{some, Option·some-injective}
 use native.Mathlib.Omega.{arith}
 use Rattle.graph.proofs.TestLaws.{equal?, true-false}
-use Rattle.program.specs.Encodings.{Name}
-use Rattle.program.specs.Located.{Code, job-at, startOf, last}
-use Rattle.program.proofs.LocatedLaws.{Laid, laid-le, code-laid, code-inner}
-use Rattle.machine.proofs.GhostMachine.Ghost.{Do, link, hand, free, Control, draft, fresh, busy, over, State, put, kids, goes, resolved, todo}
-use Rattle.machine.proofs.GhostMachine.Ghost.{onward, withControl, withEdges, grown, split, done, Event, Move, begins, performs, stops, makes}
-use Rattle.machine.proofs.GhostMachine.Ghost.{splits, acts, stirred}
-use Rattle.machine.proofs.GhostMachine.Invariant.{In, here, tasks, tasksOf, codeOf, isItem, Drafts, Shape, HasItem, Ranks, Coded}
-use Rattle.machine.proofs.GhostMachine.GhostLaws.{put-same, put-other, clash, draft-new, fresh-new, tasks-onward, Makes, finish-1, fork-1, fork-2}
-use Rattle.machine.proofs.GhostMachine.GhostLaws.{Splits, async-1, finish-2, fork-3, makes-at, splits-at, below, new-below, doer-below, put-keeps}
-use Rattle.machine.proofs.GhostMachine.GhostLaws.{puts-keep, put-below}
-use Rattle.machine.proofs.GhostMachine.ShapeMakes.{makes-scope, splits-scope}
-use Rattle.machine.proofs.GhostMachine.RoadLaws.{code-onward, linked-cases, handed-cases, dropped-edge, over-idle, busy-code, busy-below}
-use Rattle.machine.proofs.GhostMachine.SettledLaws.{acts-did, acts-keeps, task-stood, plan-cases}
-use Rattle.machine.proofs.GhostMachine.SplitLaws.{split-of, split-codes, todo-async, todo-finish, todo-fork, async-links, async-hands}
-use Rattle.machine.proofs.GhostMachine.SplitLaws.{finish-links, finish-hands, fork-links, fork-hands}
-use Rattle.machine.proofs.GhostMachine.CodedKept.{makes-inner, splits-inner}
+use Rattle.program.specs.Located.{Code, job-at, force-at, startOf, last}
+use Rattle.program.proofs.LocatedLaws.{Laid, code-laid}
+use Rattle.machine.proofs.GhostMachine.Ghost.{Do, link, hand, free, Control, draft, fresh, busy, over, State, Kid, put, kids, goes, resolved}
+use Rattle.machine.proofs.GhostMachine.Ghost.{forcedBy, live, withControl, withEdges, withOpens, grown, oneMore, scopeFor, todoOf}
+use Rattle.machine.proofs.GhostMachine.Ghost.{behindSplit, done, stirred, Event, Move, begins, performs, stops, makes, splits, acts}
+use Rattle.machine.proofs.GhostMachine.Invariant.{In, here, tasks, tasksOf, codeOf, isItem, Drafts, Shape, HasItem, Ranks, Coded, Opened}
+use Rattle.machine.proofs.GhostMachine.GhostLaws.{put-same, put-other, draft-new, fresh-new, Makes, finish-1, fork-1, fork-2, future-1}
+use Rattle.machine.proofs.GhostMachine.GhostLaws.{Splits, async-1, finish-2, fork-3, future-2, force-1, makes-at, splits-at, below, new-below}
+use Rattle.machine.proofs.GhostMachine.GhostLaws.{doer-below, over-uncoded, coded-below, put-keeps, puts-keep, put-below, forced-open}
+use Rattle.machine.proofs.GhostMachine.ShapeMakes.{makes-scope, splits-scope, makes-item, splits-item}
+use Rattle.machine.proofs.GhostMachine.RoadLaws.{code-onward, linkedIf-cases, handed-cases, dropped-edge, over-idle, busy-code, busy-below}
+use Rattle.machine.proofs.GhostMachine.RoadLaws.{forced-below}
+use Rattle.machine.proofs.GhostMachine.SettledLaws.{acts-did, acts-keeps, task-stood, plan-cases, source-below}
+use Rattle.machine.proofs.GhostMachine.SplitLaws.{itemSplit, split-of, split-codes, todo-async, todo-finish, todo-fork, todo-future}
+use Rattle.machine.proofs.GhostMachine.SplitLaws.{todo-force, async-links, async-hands, finish-links, finish-hands, fork-links, fork-hands}
+use Rattle.machine.proofs.GhostMachine.SplitLaws.{future-links, future-hands, force-links, force-hands}
+use Rattle.machine.proofs.GhostMachine.CodedKept.{makes-le, splits-le}
 
 -- u, which has an item now, had an item of a body that ends at the same place
 abbrev Had : State → ℕ → Code → Type 0
@@ -53,20 +55,12 @@ freed-below sh t m i = new-below sh m (fresh-new (sh .todo-fits t .frees m i .0 
 
 pub link-below : {S : State} → Shape S → (t a b : ℕ) → In (link a b) (tasksOf S t) → (a < S .count) × (b < S .count)
 link-below {S} sh t a b i = (
-  freed-below sh t a (sh .todo-fits t .link-from a b i),
+  source-below t sh i,
   ⊎-elim
       (λ j. freed-below sh t b j)
       (λ e. subst (λ (z : ℕ). z < S .count) (sym e) (sh .scope-within t (doer-below sh t i)))
       (sh .todo-fits t .link-to a b i),
 )
-
--- a vertex with code is made
-none-some : {x : Control} {c : Code} → x ≡ over → codeOf x ≡ some c → ⊥
-unfolding codeOf
-none-some e h = clash cc
-
-coded-below : {S : State} {c : Code} → Shape S → (u : ℕ) → codeOf (S .control u) ≡ some c → u < S .count
-coded-below sh u h = below sh u (λ o. none-some o h)
 
 -- what holds of old vertices holds with one more
 lt-old : (g h : ℕ → ℕ) (n x y a b : ℕ) → a < n → b < n → g a < h b → put g n x a < put h n y b
@@ -75,32 +69,32 @@ lt-old g h n x y a b p q r = rw (put-below g n x a p, put-below h n y b q) r
 le-old : (g h : ℕ → ℕ) (n x y a b : ℕ) → a < n → b < n → g a ≤ h b → put g n x a ≤ put h n y b
 le-old g h n x y a b p q r = rw (put-below g n x a p, put-below h n y b q) r
 
--- One new vertex, with the code k and a scope σ behind it: what is to do goes by rank, and an item is of k or ends where an item did.
+-- One new vertex k, with a scope σ behind it: what is to do goes by rank, and an item is of k and ends there, or ends where an item did.
 grown-ranks :
-    (S : State) (v : ℕ) (y : Control) (σ : ℕ) (k : Code) (f : ℕ → Control) → Shape S → Ranks S → startOf k ≤ last k → σ < S .count
-    → last k < S .rank σ
+    (S : State) (v : ℕ) (y : Control) (σ : ℕ) (k : Kid) (f : ℕ → Control) (fs : ℕ → List (ℕ × Code)) → Shape S → Ranks S
+    → k .low ≤ k .high → σ < S .count → k .high < S .rank σ
     → ((t a b : ℕ) → In (link a b) (tasks (f t))
-    → In (link a b) (tasksOf S t) ⊎ (put (S .fin) (S .count) (last k) a < put (S .rank) (S .count) (startOf k) b))
+    → In (link a b) (tasksOf S t) ⊎ (put (S .fin) (S .count) (k .high) a < put (S .rank) (S .count) (k .low) b))
     → ((t h : ℕ) → In (hand h) (tasks (f t))
-    → In (hand h) (tasksOf S t) ⊎ (put (S .fin) (S .count) (last k) h ≤ put (S .fin) (S .count) (last k) t))
-    → ((u : ℕ) (c : Code) → codeOf (f u) ≡ some c → isItem c ≡ true → ((u ≡ S .count) × (c ≡ k)) ⊎ Had S u c)
-    → Ranks (withControl (grown S v y σ (startOf k) (last k)) f)
-grown-ranks S v y σ k f sh rk le below behind links hands items =
+    → In (hand h) (tasksOf S t) ⊎ (put (S .fin) (S .count) (k .high) h ≤ put (S .fin) (S .count) (k .high) t))
+    → ((u : ℕ) (c : Code) → codeOf (f u) ≡ some c → isItem c ≡ true → ((u ≡ S .count) × (last c ≡ k .high)) ⊎ Had S u c)
+    → Ranks (withOpens (withControl (grown S v y σ (k .low) (k .high)) f) fs)
+grown-ranks S v y σ k f fs sh rk le below behind links hands items =
     record {
       rank-le =
           λ u h.
           ⊎-elim
-          (λ e. rw e (rw (put-same (S .rank) n (startOf k), put-same (S .fin) n (last k)) le))
-          (λ ne. let lt : u < n = omega arith in le-old (S .rank) (S .fin) n (startOf k) (last k) u u lt lt (rk .rank-le u lt))
+          (λ e. rw e (rw (put-same (S .rank) n (k .low), put-same (S .fin) n (k .high)) le))
+          (λ ne. let lt : u < n = omega arith in le-old (S .rank) (S .fin) n (k .low) (k .high) u u lt lt (rk .rank-le u lt))
           (equal? u n);
       edge-rank =
           λ a b e.
-          let (p, q) = sh .within a b e in lt-old (S .fin) (S .rank) n (last k) (startOf k) a b p q (rk .edge-rank a b e);
+          let (p, q) = sh .within a b e in lt-old (S .fin) (S .rank) n (k .high) (k .low) a b p q (rk .edge-rank a b e);
       link-rank =
           λ t a b i.
           ⊎-elim
           (λ j.
-          let (p, q) = link-below sh t a b j in lt-old (S .fin) (S .rank) n (last k) (startOf k) a b p q (rk .link-rank t a b j))
+          let (p, q) = link-below sh t a b j in lt-old (S .fin) (S .rank) n (k .high) (k .low) a b p q (rk .link-rank t a b j))
           (λ h. h)
           (links t a b i);
       hand-rank =
@@ -108,26 +102,26 @@ grown-ranks S v y σ k f sh rk le below behind links hands items =
           ⊎-elim
           (λ j.
           let p = freed-below sh t h (sh .todo-fits t .hand-to h j) in
-          le-old (S .fin) (S .fin) n (last k) (last k) h t p (doer-below sh t j) (rk .hand-rank t h j))
+          le-old (S .fin) (S .fin) n (k .high) (k .high) h t p (doer-below sh t j) (rk .hand-rank t h j))
           (λ h. h)
           (hands t h i);
       scope-rank =
           λ u c h.
           ⊎-elim
-          (λ e. rw (e .0) (rw (put-same (S .fin) n (last k), put-same (S .scope) n σ, put-below (S .rank) n (startOf k) σ below) behind))
+          (λ e. rw (e .0) (rw (put-same (S .fin) n (k .high), put-same (S .scope) n σ, put-below (S .rank) n (k .low) σ below) behind))
           (λ had.
           let (c', h', e) = had in
           let lt = coded-below sh u (h' .0) in
           rw (put-below (S .scope) n σ u lt)
-          (lt-old (S .fin) (S .rank) n (last k) (startOf k) u (S .scope u) lt (sh .scope-within u lt) (rk .scope-rank u c' h')))
+          (lt-old (S .fin) (S .rank) n (k .high) (k .low) u (S .scope u) lt (sh .scope-within u lt) (rk .scope-rank u c' h')))
           (items u c (h .0) (h .1));
       code-fin =
           λ u c h.
           ⊎-elim
-          (λ e. ap last (e .1) ∙ rw (e .0) (sym (put-same (S .fin) n (last k))))
+          (λ e. e .1 ∙ rw (e .0) (sym (put-same (S .fin) n (k .high))))
           (λ had.
           let (c', h', e) = had in
-          sym e ∙ rk .code-fin u c' h' ∙ sym (put-below (S .fin) n (last k) u (coded-below sh u (h' .0))))
+          sym e ∙ rk .code-fin u c' h' ∙ sym (put-below (S .fin) n (k .high) u (coded-below sh u (h' .0))))
           (items u c (h .0) (h .1));
     }
   where
@@ -139,10 +133,11 @@ under-way-item :
     {x : Control} {c : Code} {ms : List ℕ} → x ≡ busy c ms → isItem c ≡ true → (codeOf x ≡ some c) × (isItem c ≡ true)
 under-way-item q m = (busy-code q, m)
 
--- The scope of a vertex that is made stands behind its code: it is the scope of its maker, or the vertex for the rest of a finish.
+-- The scope of a vertex that is made stands behind its code: it is the scope of its maker, or the vertex for the rest of a finish, or a
+-- future's first vertex.
 makes-behind :
-    {S : State} {v : ℕ} {c k : Code} {ms : List ℕ} {a : Name} → Ranks S → S .control v ≡ busy c ms → Laid c → Makes c ms k a
-    → last k < S .rank (resolved (S .scope v) ms a)
+    {L v : ℕ} {S : State} {c : Code} {ms : List ℕ} {k : Kid} → Ranks S → S .control v ≡ busy c ms → Laid c → Makes L c ms k
+    → k .high < S .rank (scopeFor S v ms k)
 unfolding resolved Laid last isItem
 makes-behind {v = v} rk q l finish-1 = omega (arith, rk .scope-rank v _ (under-way-item q refl), rk .code-fin v _ (under-way-item q refl))
 makes-behind {v = v} rk q l fork-1 =
@@ -151,10 +146,12 @@ makes-behind {v = v} rk q l fork-1 =
 makes-behind {v = v} rk q l fork-2 =
     let e = rk .code-fin v _ (under-way-item q refl) in
     omega (arith, rk .scope-rank v _ (under-way-item q refl), e, l .0 .ends, l .0 .rest)
+makes-behind {v = v} rk q l future-1 =
+    let e = rk .code-fin v _ (under-way-item q refl) in omega (arith, rk .scope-rank v _ (under-way-item q refl), e, l .0 .rest)
 
 splits-behind :
-    {S : State} {v : ℕ} {c k : Code} {ms : List ℕ} {a : Name} → Shape S → Ranks S → S .control v ≡ busy c ms → Laid c → Splits c ms k a
-    → last k < S .rank (resolved (S .scope v) ms a)
+    {S : State} {v : ℕ} {c : Code} {ms : List ℕ} {k : Kid} → Shape S → Ranks S → S .control v ≡ busy c ms → Laid c → Splits c ms k
+    → k .high < S .rank (scopeFor S v ms k)
 unfolding resolved Laid last isItem Drafts kids
 splits-behind {v = v} sh rk q l async-1 =
     let e = rk .code-fin v _ (under-way-item q refl) in
@@ -162,19 +159,24 @@ splits-behind {v = v} sh rk q l async-1 =
 splits-behind {v = v} sh rk q l finish-2 = let made = sh .under-way v _ _ q .0 .0 in omega (arith, made .rank-is, l .0 .ends)
 splits-behind {v = v} sh rk q l fork-3 =
     omega (arith, rk .scope-rank v _ (under-way-item q refl), rk .code-fin v _ (under-way-item q refl))
+splits-behind {v = v} sh rk q l future-2 = let made = sh .under-way v _ _ q .0 .0 in omega (arith, made .rank-is, l .0 .ends)
+splits-behind {v = v} sh rk q l force-1 =
+    omega (arith, rk .scope-rank v _ (under-way-item q refl), rk .code-fin v _ (under-way-item q refl))
 
--- an item that makes vertices is an item
-makes-item : {c k : Code} {ms : List ℕ} {a : Name} → Makes c ms k a → isItem c ≡ true
+-- a vertex that is made ends where its code does, if it has an item
+makes-high : {L : ℕ} {c d : Code} {ms : List ℕ} {k : Kid} → Makes L c ms k → d ≡ k .code → isItem d ≡ true → last d ≡ k .high
 unfolding isItem
-makes-item finish-1 = refl
-makes-item fork-1 = refl
-makes-item fork-2 = refl
+makes-high finish-1 e i = ap last e
+makes-high fork-1 e i = ap last e
+makes-high fork-2 e i = ap last e
+makes-high future-1 e i = true-false i (ap isItem e)
 
-splits-item : {c k : Code} {ms : List ℕ} {a : Name} → Splits c ms k a → isItem c ≡ true
-unfolding isItem
-splits-item async-1 = refl
-splits-item finish-2 = refl
-splits-item fork-3 = refl
+splits-high : {c d : Code} {ms : List ℕ} {k : Kid} → Splits c ms k → d ≡ k .code → last d ≡ k .high
+splits-high async-1 e = ap last e
+splits-high finish-2 e = ap last e
+splits-high fork-3 e = ap last e
+splits-high future-2 e = ap last e
+splits-high force-1 e = ap last e
 
 -- an edge from the new vertex to an old one, and from an old one to the new one
 lt-from : (g h : ℕ → ℕ) (n x y a b s : ℕ) → a ≡ n → b ≡ s → s < n → x < h s → put g n x a < put h n y b
@@ -192,29 +194,41 @@ le-from g n x a t v p q below le = rw (p, q) (rw (put-same g n x, put-below g n 
 
 -- the code that v goes to at a split, if it has an item, ends where v's did
 goes-last :
-    (L : ℕ) {c k c' : Code} {ms : List ℕ} {a : Name} → Splits c ms k a → goes L c ≡ c' → isItem c' ≡ true → last c ≡ last c'
+    (L : ℕ) {c c' : Code} {ms : List ℕ} {k : Kid} → Splits c ms k → goes L c ≡ c' → isItem c' ≡ true → last c ≡ last c'
 unfolding goes last isItem
 goes-last L async-1 e i = ap last e
 goes-last L finish-2 e i = true-false i (ap isItem (sym e))
 goes-last L fork-3 e i = true-false i (ap isItem (sym e))
+goes-last L future-2 e i = ap last e
+goes-last L force-1 e i = true-false i (ap isItem (sym e))
+
+-- the vertex that a force names ranks before the rest behind the force
+forced-rank :
+    {o i v : ℕ} {b r : Code} {S : State} → Opened S → S .control v ≡ busy (force-at o i b r) [] → Laid (force-at o i b r)
+    → S .fin (forcedBy (S .opens v) (force-at o i b r)) < startOf r
+unfolding Laid isItem startOf
+forced-rank {o} {i} {v} {b} {r} {S} op q l =
+    let le = op .before v _ b (force-at o i b r) (forced-open op q) (under-way-item q refl) in
+    omega (arith, le, l .0 .starts)
 
 -- what an item plans goes by rank
 plans-rank :
-    {S : State} {v : ℕ} {c k : Code} {ms : List ℕ} {a : Name} → Shape S → Ranks S → S .control v ≡ busy c ms → Laid c → Splits c ms k a
-    → ((x y : ℕ) → In (link x y) (todo (S .scope v) (ms ++ (S .count ∷ [])) c)
-    → put (S .fin) (S .count) (last k) x < put (S .rank) (S .count) (startOf k) y)
-    × ((h : ℕ) → In (hand h) (todo (S .scope v) (ms ++ (S .count ∷ [])) c)
-    → put (S .fin) (S .count) (last k) h ≤ put (S .fin) (S .count) (last k) v)
+    {S : State} {v : ℕ} {c : Code} {ms : List ℕ} {k : Kid} → Shape S → Opened S → Ranks S → S .control v ≡ busy c ms → Laid c
+    → Splits c ms k
+    → ((x y : ℕ) → In (link x y) (todoOf S v (ms ++ (S .count ∷ [])) c)
+    → put (S .fin) (S .count) (k .high) x < put (S .rank) (S .count) (k .low) y)
+    × ((h : ℕ) → In (hand h) (todoOf S v (ms ++ (S .count ∷ [])) c)
+    → put (S .fin) (S .count) (k .high) h ≤ put (S .fin) (S .count) (k .high) v)
 unfolding Laid last resolved isItem Drafts kids
-plans-rank {S} {v} sh rk q l (async-1 {o = o} {b = b} {r = r}) =
-    let e = todo-async o b r (S .scope v) (S .count) in
+plans-rank {S} {v} sh op rk q l (async-1 {o = o} {b = b} {r = r}) =
+    let e = todo-async o b r (S .scope v) _ (S .count) in
     let below = splits-scope sh q async-1 in
     let lt = splits-behind sh rk q l async-1 in (
       λ x y i. let (p, q) = async-links (subst (λ ds. In (link x y) ds) e i) in lt-from (S .fin) (S .rank) _ _ _ x y _ p q below lt,
       λ h i. absurd (async-hands (subst (λ ds. In (hand h) ds) e i)),
     )
-plans-rank {S} {v} sh rk q l (finish-2 {o = o} {m = m} {b = b} {r = r}) =
-    let e = todo-finish o b r (S .scope v) m (S .count) in
+plans-rank {S} {v} sh op rk q l (finish-2 {o = o} {m = m} {b = b} {r = r}) =
+    let e = todo-finish o b r (S .scope v) _ m (S .count) in
     let below = splits-scope sh q finish-2 in
     let lt = splits-behind sh rk q l finish-2 in
     let made = sh .under-way v _ _ q .0 .0 in
@@ -225,8 +239,8 @@ plans-rank {S} {v} sh rk q l (finish-2 {o = o} {m = m} {b = b} {r = r}) =
           let p = finish-hands (subst (λ ds. In (hand h) ds) e i) in
           le-of (S .fin) _ _ h v m v p refl below (busy-below sh v q) le,
     )
-plans-rank {S} {v} sh rk q l (fork-3 {o = o} {m = m} {m' = m'} {b = b} {c = c} {r = r}) =
-    let e = todo-fork o b c r (S .scope v) m m' (S .count) in
+plans-rank {S} {v} sh op rk q l (fork-3 {o = o} {m = m} {m' = m'} {b = b} {c = c} {r = r}) =
+    let e = todo-fork o b c r (S .scope v) _ m m' (S .count) in
     let left = sh .under-way v _ _ q .0 .0 in
     let right = sh .under-way v _ _ q .0 .1 .0 in
     let lt : S .fin m < startOf r = omega (arith, left .fin-is, l .0 .between, l .0 .right, l .0 .ends) in
@@ -241,6 +255,25 @@ plans-rank {S} {v} sh rk q l (fork-3 {o = o} {m = m} {m' = m'} {b = b} {c = c} {
           p,
       λ h i.
           let p = fork-hands (subst (λ ds. In (hand h) ds) e i) in
+          le-from (S .fin) _ _ h v v p refl (busy-below sh v q) le,
+    )
+plans-rank {S} {v} sh op rk q l (future-2 {o = o} {m = m} {b = b} {r = r}) =
+    let e = todo-future o b r (S .scope v) _ m (S .count) in
+    let below = splits-scope sh q future-2 in
+    let lt = splits-behind sh rk q l future-2 in (
+      λ x y i. let (p, q) = future-links (subst (λ ds. In (link x y) ds) e i) in lt-from (S .fin) (S .rank) _ _ _ x y _ p q below lt,
+      λ h i. absurd (future-hands (subst (λ ds. In (hand h) ds) e i)),
+    )
+plans-rank {S} {v} sh op rk q l (force-1 {o = o} {n = n} {b = b} {r = r}) =
+    let t = forcedBy (S .opens v) (force-at o n b r) in
+    let e = todo-force o n b r (S .scope v) t (S .count) in
+    let at : last r ≡ S .fin v = rk .code-fin v _ (under-way-item q refl) in
+    let le : last r ≤ S .fin v = omega arith in (
+      λ x y i.
+          let (p, p') = force-links (subst (λ ds. In (link x y) ds) e i) in
+          lt-to (S .fin) (S .rank) _ _ _ x y t p p' (forced-below sh op q) (forced-rank op q l),
+      λ h i.
+          let p = force-hands (subst (λ ds. In (hand h) ds) e i) in
           le-from (S .fin) _ _ h v v p refl (busy-below sh v q) le,
     )
 
@@ -261,59 +294,57 @@ code-at-new g n v u y x {k} {d} q lt e h =
 
 -- the split of an item
 splits-ranks :
-    (L : ℕ) {S : State} {v : ℕ} {c k : Code} {ms : List ℕ} {a : Name} → Shape S → Ranks S → S .control v ≡ busy c ms → Laid c
-    → startOf k ≤ last k → Splits c ms k a
-    → Ranks (split S v ms (onward (goes L c) (todo (S .scope v) (ms ++ (S .count ∷ [])) c)) k a)
+    {S : State} {v : ℕ} {c : Code} {ms : List ℕ} {k : Kid} → Shape S → Opened S → Ranks S → S .control v ≡ busy c ms → Laid c
+    → Splits c ms k → Ranks (itemSplit S v c ms k)
 unfolding codeOf
-splits-ranks L {S} {v} {c} {k} {ms} {a} sh rk q l le m =
+splits-ranks {S} {v} {c} {ms} {k} sh op rk q l m =
     let f = stirred (S .control) ms in
     let n = S .count in
-    let ds = todo (S .scope v) (ms ++ (n ∷ [])) c in
-    let x = onward (goes L c) ds in
-    let plans = split-of L x k a ds sh q (tasks-onward (goes L c) ds) (code-onward (goes L c) ds) .plans in
+    let L = S .lastByte in
+    let ds = todoOf S v (ms ++ (n ∷ [])) c in
+    let x = behindSplit S v (ms ++ (n ∷ [])) c in
+    let plans = split-of k ds sh q refl .plans in
     let below = splits-scope sh q m in
     let behind = splits-behind sh rk q l m in
-    let (links, hands) = plans-rank sh rk q l m in
-    grown-ranks S v (fresh k) (resolved (S .scope v) ms a) k _ sh rk le below behind
+    let (links, hands) = plans-rank sh op rk q l m in
+    grown-ranks S v (fresh (k .code)) (scopeFor S v ms k) k _ _ sh rk (splits-le l m) below behind
     (λ t x y i. plan-cases plans t i (λ e j. inr (links x y j)) (λ ne j. inl j))
     (λ t h i. plan-cases plans t i (λ e j. inr (rw e (hands h j))) (λ ne j. inl j))
     (λ u d h i.
     ⊎-elim
-    (λ e. inl (e, code-at-new f n v u (fresh k) x refl (busy-below sh v q) e h))
+    (λ e. inl (e, splits-high m (code-at-new f n v u (fresh (k .code)) x refl (busy-below sh v q) e h)))
     (λ nc.
     ⊎-elim
     (λ e.
-    let same = code-at-self f n v u (fresh k) x (code-onward (goes L c) ds) e h in
+    let same = code-at-self f n v u (fresh (k .code)) x (code-onward (goes L c) ds) e h in
     inr (rw e (c, under-way-item q (splits-item m), goes-last L m same i)))
-    (λ nv. inr (d, (sym (split-codes (S .control) ms n v k x u nv nc) ∙ h, i), refl))
+    (λ nv. inr (d, (sym (split-codes (S .control) ms n v (k .code) x u nv nc) ∙ h, i), refl))
     (equal? u v))
     (equal? u n))
 
 -- a make that does not split
 makes-ranks :
-    {S : State} {v : ℕ} {c k : Code} {ms : List ℕ} {a : Name} (ms' : List ℕ) → Shape S → Ranks S
-    → S .control v ≡ busy c ms → Laid c → startOf k ≤ last k → Makes c ms k a
-    → Ranks
-    (withControl (grown S v (draft k) (resolved (S .scope v) ms a) (startOf k) (last k))
-    (put (put (S .control) (S .count) (draft k)) v (busy c ms')))
+    {L v : ℕ} {S : State} {c : Code} {ms : List ℕ} {k : Kid} (ms' : List ℕ) → Shape S → Ranks S → S .control v ≡ busy c ms → Laid c
+    → Makes L c ms k → Ranks (oneMore S v ms (busy c ms') k)
 unfolding tasks codeOf
-makes-ranks {S} {v} {c} {k} {ms} {a} ms' sh rk q l le m =
+makes-ranks {v = v} {S = S} {c = c} {ms = ms} {k = k} ms' sh rk q l m =
     let below = makes-scope sh q m in
     let behind = makes-behind rk q l m in
     let f = S .control in
     let n = S .count in
-    let task = puts-keep tasks f n v (draft k) (busy c ms') (sym (over-idle (sh .beyond n (omega arith)))) (sym (ap tasks q)) in
-    grown-ranks S v (draft k) (resolved (S .scope v) ms a) k _ sh rk le below behind
+    let y = draft (k .code) in
+    let task = puts-keep tasks f n v y (busy c ms') (sym (over-idle (sh .beyond n (omega arith)))) (sym (ap tasks q)) in
+    grown-ranks S v y (scopeFor S v ms k) k _ _ sh rk (makes-le l m) below behind
     (λ t x y i. inl (subst (λ ds. In (link x y) ds) (task t) i))
     (λ t h i. inl (subst (λ ds. In (hand h) ds) (task t) i))
     (λ u d h i.
     ⊎-elim
-    (λ e. inl (e, code-at-new f n v u (draft k) (busy c ms') refl (busy-below sh v q) e h))
+    (λ e. inl (e, makes-high m (code-at-new f n v u y (busy c ms') refl (busy-below sh v q) e h) i))
     (λ nc.
     ⊎-elim
-    (λ e. inr (rw e (c, under-way-item q (makes-item m), ap last (code-at-self f n v u (draft k) (busy c ms') refl e h))))
+    (λ e. inr (rw e (c, under-way-item q (makes-item m), ap last (code-at-self f n v u y (busy c ms') refl e h))))
     (λ nv.
-    let same = put-other (put f n (draft k)) v (busy c ms') u nv ∙ put-other f n (draft k) u nc in
+    let same = put-other (put f n y) v (busy c ms') u nv ∙ put-other f n y u nc in
     inr (d, (sym (ap codeOf same) ∙ h, i), refl))
     (equal? u v))
     (equal? u n))
@@ -324,13 +355,13 @@ code-put f v u x ne h = sym (ap codeOf (put-other f v x u ne)) ∙ h
 
 -- every move leaves the ranks; p is the program
 pub ranks-kept :
-    {L v : ℕ} {S S' : State} {e : Event} (p : Code) → Laid p → Shape S → Ranks S → Coded p S → Move L S v e S' → Ranks S'
+    {v : ℕ} {S S' : State} {e : Event} (p : Code) → Laid p → Shape S → Opened S → Ranks S → Coded p S → Move S v e S' → Ranks S'
 unfolding tasks codeOf isItem last done
-ranks-kept {v = v} {S = S} p l sh rk cd (begins {c = c} q f) =
+ranks-kept {v = v} {S = S} p l sh op rk cd (begins {c = c} q f) =
     still S _ (S .edge) rk (rk .edge-rank)
     (λ t d. subst (λ ds. In d ds) (put-keeps tasks (S .control) v (busy c []) (sym (ap tasks q)) t))
     (λ u d h i. (d, (sym (put-keeps codeOf (S .control) v (busy c []) (sym (ap codeOf q)) u) ∙ h, i), refl))
-ranks-kept {v = v} {S = S} p l sh rk cd (performs {o = o} {n = n} {r = r} q) =
+ranks-kept {v = v} {S = S} p l sh op rk cd (performs {o = o} {n = n} {r = r} q) =
     still S _ (S .edge) rk (rk .edge-rank)
     (λ t d. subst (λ ds. In d ds) (put-keeps tasks (S .control) v (busy r []) (sym (ap tasks q)) t))
     (λ u d h i.
@@ -340,31 +371,27 @@ ranks-kept {v = v} {S = S} p l sh rk cd (performs {o = o} {n = n} {r = r} q) =
     rw e (job-at o n r, (ap codeOf q, refl), ap last (Option·some-injective r d (ap codeOf same ∙ h))))
     (λ ne. (d, (code-put (S .control) v u (busy r []) ne h, i), refl))
     (equal? u v))
-ranks-kept {v = v} {S = S} p l sh rk cd (stops q) =
+ranks-kept {v = v} {S = S} p l sh op rk cd (stops q) =
     still S _ _ rk (λ a b e. rk .edge-rank a b (dropped-edge (S .edge) v a b e))
     (λ t d. subst (λ ds. In d ds) (put-keeps tasks (S .control) v over (sym (ap tasks q)) t))
     (λ u d h i.
     ⊎-elim
-    (λ e. absurd (none-some (ap (put (S .control) v over) e ∙ put-same (S .control) v over) h))
+    (λ e. absurd (over-uncoded (ap (put (S .control) v over) e ∙ put-same (S .control) v over) h))
     (λ ne. (d, (code-put (S .control) v u over ne h, i), refl))
     (equal? u v))
-ranks-kept {v = v} {S = S} p l sh rk cd (makes {c = c} {ms = ms} q w) =
-    let m = makes-at c ms w in
-    let at = cd v c (ap codeOf q) in
-    makes-ranks _ sh rk q (code-laid p _ l at) (laid-le _ (code-laid p _ l (code-inner p _ l at (makes-inner m)))) m
-ranks-kept {L = L} {v = v} {S = S} p l sh rk cd (splits {c = c} {ms = ms} q w) =
-    let m = splits-at c ms w in
-    let at = cd v c (ap codeOf q) in
-    splits-ranks L sh rk q (code-laid p _ l at) (laid-le _ (code-laid p _ l (code-inner p _ l at (splits-inner m)))) m
-ranks-kept {v = v} {S = S} p l sh rk cd (acts {c = c} {d = link a b} {ds = ds} q) =
+ranks-kept {v = v} {S = S} p l sh op rk cd (makes {c = c} {ms = ms} q w) =
+    makes-ranks _ sh rk q (code-laid p _ l (cd v c (ap codeOf q))) (makes-at (S .lastByte) c ms w)
+ranks-kept {v = v} {S = S} p l sh op rk cd (splits {c = c} {ms = ms} q w) =
+    splits-ranks sh op rk q (code-laid p _ l (cd v c (ap codeOf q))) (splits-at (S .lastByte) c ms w)
+ranks-kept {v = v} {S = S} p l sh op rk cd (acts {c = c} {d = link a b} {ds = ds} q) =
     let D = acts-did {S = S} {v = v} q in
     still S _ _ rk
     (λ x y e.
-    linked-cases (S .edge) a b x y e (rk .edge-rank x y)
-    (λ i j. rw (i, j) (rk .link-rank v a b (subst (λ ds. In (link a b) ds) (sym (ap tasks q)) here))))
+    linkedIf-cases (live (S .control a)) (S .edge) a b x y e (rk .edge-rank x y)
+    (λ t i j. rw (i, j) (rk .link-rank v a b (subst (λ ds. In (link a b) ds) (sym (ap tasks q)) here))))
     (λ t d. task-stood D t)
     (λ u d h i. (d, (sym (acts-keeps S v codeOf (λ c. refl) (code-onward c ds) q u) ∙ h, i), refl))
-ranks-kept {v = v} {S = S} p l sh rk cd (acts {c = c} {d = hand h} {ds = ds} q) =
+ranks-kept {v = v} {S = S} p l sh op rk cd (acts {c = c} {d = hand h} {ds = ds} q) =
     let D = acts-did {S = S} {v = v} q in
     let le = rk .hand-rank v h (subst (λ ds. In (hand h) ds) (sym (ap tasks q)) here) in
     still S _ _ rk
@@ -373,7 +400,7 @@ ranks-kept {v = v} {S = S} p l sh rk cd (acts {c = c} {d = hand h} {ds = ds} q) 
     (λ i e. rw i (omega (arith, le, rk .edge-rank v y e))))
     (λ t d. task-stood D t)
     (λ u d h i. (d, (sym (acts-keeps S v codeOf (λ c. refl) (code-onward c ds) q u) ∙ h, i), refl))
-ranks-kept {v = v} {S = S} p l sh rk cd (acts {c = c} {d = free m} {ds = ds} q) =
+ranks-kept {v = v} {S = S} p l sh op rk cd (acts {c = c} {d = free m} {ds = ds} q) =
     let D = acts-did {S = S} {v = v} q in
     still S _ (S .edge) rk (rk .edge-rank)
     (λ t d. task-stood D t)

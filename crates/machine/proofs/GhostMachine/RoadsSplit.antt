@@ -1,27 +1,29 @@
 -- The split of an item. Nothing settled leads to the vertex that splits it, so the ways of others stay. The vertices that are made lead
--- to the scope: by the way of the vertex that made them, whose edges they get; by an edge to the one that gets them; or by an edge to
--- the scope itself.
+-- to their scope: by the way of the vertex that made them, whose edges they get; by an edge to the one that gets them; or by an edge to
+-- the scope itself. The first vertex of a future has no item, and need not lead anywhere.
 use Prim.Native.Nat.{ℕ, _<_}
 use mathlib.Core.Path.{_≡_, refl, sym, _∙_, ap, subst}
 use mathlib.Core.Bool.{true, false}
 use mathlib.Core.Logic.{⊎-elim}
-use mathlib.Core.List.{List, [], _∷_, _++_}
+use mathlib.Core.List.{List, [], _∷_}
 use mathlib.Core.Option.{some, Option·some-injective}
 use native.Mathlib.Omega.{arith}
 use borrow.Author.Tests.{ne-eqb}
 use Rattle.graph.proofs.TestLaws.{equal?, true-false, either-false}
-use Rattle.program.specs.Encodings.{Name, own-scope, made-1}
-use Rattle.program.specs.Located.{Code, end-at, async-at, finish-at, fork-at}
-use Rattle.machine.proofs.GhostMachine.Ghost.{Do, link, hand, free, draft, fresh, busy, over, State, kids, goes, resolved, todo, onward, among}
-use Rattle.machine.proofs.GhostMachine.Ghost.{split}
-use Rattle.machine.proofs.GhostMachine.Invariant.{In, here, later, tasksOf, codeOf, isItem, waits, isNew, Settled, held, Way, one, more, Draft}
-use Rattle.machine.proofs.GhostMachine.Invariant.{Drafts, Shape, Roads}
-use Rattle.machine.proofs.GhostMachine.GhostLaws.{clash, apart, draft-new, busy-old, over-old, tasks-onward, Splits, async-1, finish-2, fork-3}
-use Rattle.machine.proofs.GhostMachine.GhostLaws.{in-empty}
-use Rattle.machine.proofs.GhostMachine.RoadLaws.{code-onward, busy-code, busy-waits, draft-waits, over-waits, busy-draft, busy-below}
+use Rattle.program.specs.Encodings.{own-scope, made-1}
+use Rattle.program.specs.Located.{Code, end-at, async-at, finish-at, fork-at, future-at, force-at}
+use Rattle.machine.proofs.GhostMachine.Ghost.{Do, link, hand, free, draft, fresh, busy, over, State, Kid, kid, awaiting, kids, goes, resolved}
+use Rattle.machine.proofs.GhostMachine.Ghost.{among, live}
+use Rattle.machine.proofs.GhostMachine.Invariant.{In, here, later, tasks, tasksOf, codeOf, isItem, waits, isNew, Settled, held, Way, one, more}
+use Rattle.machine.proofs.GhostMachine.Invariant.{Draft, Drafts, Shape, Roads, Opened}
+use Rattle.machine.proofs.GhostMachine.GhostLaws.{clash, apart, draft-new, busy-old, over-old, Splits, async-1, finish-2, fork-3, future-2}
+use Rattle.machine.proofs.GhostMachine.GhostLaws.{force-1, in-empty}
+use Rattle.machine.proofs.GhostMachine.RoadLaws.{busy-code, busy-waits, busy-source, draft-waits, over-waits, busy-draft, busy-below}
+use Rattle.machine.proofs.GhostMachine.RoadLaws.{waits-live, forced-below}
 use Rattle.machine.proofs.GhostMachine.SettledLaws.{plan-cases, split-cases, split-old, split-given, split-own, split-new, own-held}
-use Rattle.machine.proofs.GhostMachine.SplitLaws.{Split, split-of, todo-async, todo-finish, todo-fork, async-links, async-hands, finish-links}
-use Rattle.machine.proofs.GhostMachine.SplitLaws.{fork-links}
+use Rattle.machine.proofs.GhostMachine.SplitLaws.{itemSplit, Split, split-of, todo-async, todo-finish, todo-fork, todo-future, todo-force}
+use Rattle.machine.proofs.GhostMachine.SplitLaws.{async-links, async-hands, finish-links, fork-links, future-links, future-hands, force-links}
+use Rattle.machine.proofs.GhostMachine.SplitLaws.{force-frees}
 use Rattle.machine.proofs.GhostMachine.Ways.{way-map, way-past, way-last, Bound, at-item, at-link, bound-way, bound-same, nothing-to}
 use Rattle.machine.proofs.GhostMachine.Ways.{nothing-to-draft}
 
@@ -42,76 +44,86 @@ end-unbound {o = o} e n (at-item c h d) =
     true-false (h .1) (ap isItem (Option·some-injective c (end-at o) (sym (h .0) ∙ e)))
 end-unbound e n (at-link a i) = n a i
 
--- a planned edge leads from a fresh vertex
-source-fresh : {S : State} {a b : ℕ} → Shape S → (t : ℕ) → ((c : Code) → S .control a ≡ fresh c → ⊥) → In (link a b) (tasksOf S t) → ⊥
-source-fresh {a = a} {b = b} sh t n i =
-    let (c, q) = sh .todo-fits t .frees a (sh .todo-fits t .link-from a b i) .0 in n c q
+-- a vertex that is to be released is fresh
+released-fresh : {S : State} {m : ℕ} → Shape S → (t : ℕ) → ((c : Code) → S .control m ≡ fresh c → ⊥) → In (free m) (tasksOf S t) → ⊥
+released-fresh {m = m} sh t n i = let (c, q) = sh .todo-fits t .frees m i .0 in n c q
 
 -- the item of code c that v has is split
-module _ {L : ℕ} {S S' : State} {v : ℕ} {c : Code} {ms : List ℕ} {T : List Do} {σ : ℕ} where
+module _ {S S' : State} {v : ℕ} {c : Code} {ms : List ℕ} {T : List Do} {σ : ℕ} where
   -- nothing leads to v, and its settled edges are its edges
-  past-v : Roads S → Split L S S' v c ms T σ → (x : ℕ) → Settled S x v → ⊥
+  past-v : Roads S → Split S S' v c ms T σ → (x : ℕ) → Settled S x v → ⊥
   past-v rs D = nothing-to rs (busy-waits (D .self))
 
-  own-edge : Shape S → Split L S S' v c ms T σ → (y : ℕ) → Settled S v y → S .edge v y ≡ true
-  own-edge sh D y = own-held sh (λ k q. let z = sym (D .self) ∙ q in clash cc)
+  own-edge : Shape S → Split S S' v c ms T σ → isItem c ≡ true → (y : ℕ) → Settled S v y → S .edge v y ≡ true
+  own-edge sh D it y = own-held sh (busy-source (D .self) it)
 
-  edge-own : Split L S S' v c ms T σ → (y : ℕ) → S .edge v y ≡ true → Settled S v y
+  edge-own : Split S S' v c ms T σ → (y : ℕ) → S .edge v y ≡ true → Settled S v y
   edge-own D y e = held e (λ h i. in-empty (D .plans .idle) i)
 
   -- v is no new vertex
-  v-old : Shape S → Split L S S' v c ms T σ → v ≡ S .count → ⊥
+  v-old : Shape S → Split S S' v c ms T σ → v ≡ S .count → ⊥
   v-old sh D e = let z = sym (D .self) ∙ ap (S .control) e ∙ sh .beyond (S .count) (omega arith) in clash cc
 
+  -- the new vertex, and one that was made before, is not finished
+  new-live : Split S S' v c ms T σ → live (S' .control (S .count)) ≡ true
+  new-live D = waits-live (S' .control (S .count)) (D .new-waits)
+
+  made-live : {m : ℕ} {k : Code} → Split S S' v c ms T σ → S .control m ≡ draft k → live (S' .control m) ≡ true
+  made-live {m} D q = waits-live (S' .control m) (D .waiting m (draft-waits q))
+
   -- a way from another vertex stays
-  old-way : {u w : ℕ} → Roads S → Split L S S' v c ms T σ → (u ≡ v → ⊥) → Way (Settled S) u w → Way (Settled S') u w
+  old-way : {u w : ℕ} → Roads S → Split S S' v c ms T σ → (u ≡ v → ⊥) → Way (Settled S) u w → Way (Settled S') u w
   old-way rs D n = way-past v (λ x y. split-old (D .plans)) (past-v rs D) n
 
   -- v's way is that of the vertex that gets its edges
   handed-way :
-      {h w : ℕ} → Shape S → Roads S → Split L S S' v c ms T σ → In (hand h) T → Way (Settled S) v w → Way (Settled S') h w
-  handed-way sh rs D i (one r) = one (split-given (D .plans) i (own-edge sh D _ r))
-  handed-way sh rs D i (more r w) =
-      more (split-given (D .plans) i (own-edge sh D _ r))
+      {h w : ℕ} → Shape S → Roads S → Split S S' v c ms T σ → isItem c ≡ true → In (hand h) T → Way (Settled S) v w
+      → Way (Settled S') h w
+  handed-way sh rs D it i (one r) = one (split-given (D .plans) i (own-edge sh D it _ r))
+  handed-way sh rs D it i (more r w) =
+      more (split-given (D .plans) i (own-edge sh D it _ r))
       (old-way rs D (λ e. past-v rs D v (subst (λ (z : ℕ). Settled S v z) e r)) w)
 
   -- if none gets them, v has it still
-  own-way : {w : ℕ} → Shape S → Split L S S' v c ms T σ → ((h : ℕ) → In (hand h) T → ⊥) → Way (Settled S) v w → Way (Settled S') v w
-  own-way sh D n =
+  own-way :
+      {w : ℕ} → Shape S → Split S S' v c ms T σ → isItem c ≡ true → ((h : ℕ) → In (hand h) T → ⊥) → Way (Settled S) v w
+      → Way (Settled S') v w
+  own-way sh D it n =
       way-map
       (λ x y s.
       ⊎-elim
       (λ e.
-      let new = split-own (D .plans) n (own-edge sh D y (subst (λ (z : ℕ). Settled S z y) e s)) in
+      let new = split-own (D .plans) n (own-edge sh D it y (subst (λ (z : ℕ). Settled S z y) e s)) in
       subst (λ (z : ℕ). Settled S' z y) (sym e) new)
       (λ ne. split-old (D .plans) ne s)
       (equal? x v))
 
   -- v has a way to its scope
-  v-way : Roads S → Split L S S' v c ms T σ → isItem c ≡ true → Way (Settled S) v (S .scope v)
+  v-way : Roads S → Split S S' v c ms T σ → isItem c ≡ true → Way (Settled S) v (S .scope v)
   v-way rs D h = rs .way v c (busy-code (D .self), h) (busy-draft (D .self))
 
   -- a vertex that is neither v nor of its item
   other-way :
-      {u : ℕ} → Roads S → Split L S S' v c ms T σ → (u ≡ v → ⊥) → (u ≡ S .count → ⊥) → among u ms ≡ false → Bound S' u
+      {u : ℕ} → Roads S → Split S S' v c ms T σ → (u ≡ v → ⊥) → (u ≡ S .count → ⊥) → among u ms ≡ false → Bound S' u
       → Way (Settled S') u (S' .scope u)
   other-way {u} rs D nv nc na b =
       let same = D .same-scope u nc in to-scope same (old-way rs D nv (bound-way rs (bound-same (D .same u nv nc na) same b)))
 
   -- v goes to an end byte, and plans no edge to its scope
   v-unbound :
-      {o : ℕ} → Shape S → Split L S S' v c ms T σ → goes L c ≡ end-at o → ((a : ℕ) → In (link a (S .scope v)) T → ⊥) → Bound S' v → ⊥
+      {o : ℕ} → Shape S → Split S S' v c ms T σ → goes (S .lastByte) c ≡ end-at o → ((a : ℕ) → In (link a (S .scope v)) T → ⊥) → Bound S' v → ⊥
   v-unbound {o} sh D e n =
       end-unbound (D .self-code ∙ ap (λ (k : Code). some k) e)
       (λ a i.
       let j = subst (λ l. In (link a (S' .scope v)) l) (D .plans .plan) i in
       n a (subst (λ (z : ℕ). In (link a z) T) (D .same-scope v (v-old sh D)) j))
 
-  -- The sources of the planned edges are such that nothing leads to them; their targets wait, and are no sources.
+  -- The sources of the planned edges that the item releases are such that nothing leads to them; the targets wait, and are no such sources.
   split-roads :
-      Shape S → Roads S → Split L S S' v c ms T σ → ((a b x : ℕ) → In (link a b) T → Settled S x a → ⊥)
-      → ((a b x : ℕ) → In (link a b) T → In (link x a) T → ⊥) → ((a b : ℕ) → In (link a b) T → waits (S' .control b) ≡ true)
-      → ((a b t y : ℕ) → In (link a b) T → In (link b y) (tasksOf S t) → ⊥)
+      Shape S → Roads S → Split S S' v c ms T σ → ((a b x : ℕ) → In (link a b) T → In (free a) T → Settled S x a → ⊥)
+      → ((a b x : ℕ) → In (link a b) T → In (free a) T → In (link x a) T → ⊥)
+      → ((a b : ℕ) → In (link a b) T → waits (S' .control b) ≡ true)
+      → ((a b t y : ℕ) → In (link a b) T → In (link b y) (tasksOf S t) → In (free b) (tasksOf S t) → ⊥)
       → ((u : ℕ) → Bound S' u → Way (Settled S') u (S' .scope u)) → Roads S'
   split-roads sh rs D source apart target clear ways =
       record {
@@ -122,13 +134,15 @@ module _ {L : ℕ} {S S' : State} {v : ℕ} {c : Code} {ms : List ℕ} {T : List
         way = λ u k h d. ways u (at-item k h d);
         plan = λ u a i. ways u (at-link a i);
         bare =
-            λ t a b x i s.
+            λ t a b x i f s.
             plan-cases (D .plans) t i
             (λ e j.
-            split-cases (D .plans) s (source a b x j) (λ k e. source a b v j (edge-own D a e)) (λ k. apart a b x j k))
+            let m = subst (λ l. In (free a) l) (ap (tasksOf S') e ∙ D .plans .plan) f in
+            split-cases (D .plans) s (source a b x j m) (λ k e. source a b v j m (edge-own D a e)) (λ k. apart a b x j m k))
             (λ n j.
-            split-cases (D .plans) s (rs .bare t a b x j) (λ k e. rs .bare t a b v j (edge-own D a e))
-            (λ k. clear x a t b k j));
+            let m = subst (λ l. In (free a) l) (D .plans .others t n) f in
+            split-cases (D .plans) s (rs .bare t a b x j m) (λ k e. rs .bare t a b v j m (edge-own D a e))
+            (λ k. clear x a t b k j m));
       }
 
 -- a number that is none of a list's
@@ -142,22 +156,22 @@ among-two u m m' n n' = either-false (ne-eqb u m n) (either-false (ne-eqb u m' n
 
 -- an async: the new vertex leads to the scope
 async-roads :
-    {L o v : ℕ} {b r : Code} {S S' : State} → Shape S → Roads S
-    → Split L S S' v (async-at o b r) [] (link (S .count) (S .scope v) ∷ free (S .count) ∷ []) (S .scope v) → Roads S'
+    {o v : ℕ} {b r : Code} {S S' : State} → Shape S → Roads S
+    → Split S S' v (async-at o b r) [] (link (S .count) (S .scope v) ∷ free (S .count) ∷ []) (S .scope v) → Roads S'
 unfolding isItem among
 async-roads {v = v} {S = S} {S' = S'} sh rs D =
     let (x, s, from) = way-last way in
     split-roads sh rs D
-    (λ a b y i t. nothing-to rs (over-waits new) y (subst (λ (z : ℕ). Settled S y z) (async-links i .0) t))
-    (λ a b y i j. let at : S .count ≡ S .scope v = sym (async-links i .0) ∙ async-links j .1 in absurd (omega (arith, scope-below)))
+    (λ a b y i f t. nothing-to rs (over-waits new) y (subst (λ (z : ℕ). Settled S y z) (async-links i .0) t))
+    (λ a b y i f j. let at : S .count ≡ S .scope v = sym (async-links i .0) ∙ async-links j .1 in absurd (omega (arith, scope-below)))
     (λ a b i. D .waiting b (ap (λ (z : ℕ). waits (S .control z)) (async-links i .1) ∙ rs .into x (S .scope v) s))
-    (λ a b t y i j. rs .bare t b y x j (subst (λ (z : ℕ). Settled S x z) (sym (async-links i .1)) s))
+    (λ a b t y i j f. rs .bare t b y x j f (subst (λ (z : ℕ). Settled S x z) (sym (async-links i .1)) s))
     (λ u bound.
     ⊎-elim
-    (λ e. way-of e (to-scope (D .same-scope v (v-old sh D)) (own-way sh D (λ h. async-hands) way)))
+    (λ e. way-of e (to-scope (D .same-scope v (v-old sh D)) (own-way sh D refl (λ h. async-hands) way)))
     (λ nv.
     ⊎-elim
-    (λ e. way-of e (to-scope (D .new-scope) (one (split-new (D .plans) here))))
+    (λ e. way-of e (to-scope (D .new-scope) (one (split-new (D .plans) here (new-live D)))))
     (λ nc. other-way rs D nv nc refl bound)
     (equal? u (S .count)))
     (equal? u v))
@@ -173,24 +187,24 @@ async-roads {v = v} {S = S} {S' = S'} sh rs D =
 
 -- a finish: the vertex for the rest gets v's way, and the new one, for the body, leads to it
 finish-roads :
-    {L o v m : ℕ} {b r : Code} {S S' : State} → Shape S → Roads S
-    → Split L S S' v (finish-at o b r) (m ∷ []) (link (S .count) m ∷ hand m ∷ free m ∷ free (S .count) ∷ []) m → Roads S'
+    {o v m : ℕ} {b r : Code} {S S' : State} → Shape S → Roads S
+    → Split S S' v (finish-at o b r) (m ∷ []) (link (S .count) m ∷ hand m ∷ free m ∷ free (S .count) ∷ []) m → Roads S'
 unfolding isItem goes Drafts kids resolved
 finish-roads {v = v} {m = m} {r = r} {S = S} {S' = S'} sh rs D =
     split-roads sh rs D
-    (λ a b y i t. nothing-to rs (over-waits new) y (subst (λ (z : ℕ). Settled S y z) (finish-links i .0) t))
-    (λ a b y i j. old (sym (finish-links j .1) ∙ finish-links i .0))
+    (λ a b y i f t. nothing-to rs (over-waits new) y (subst (λ (z : ℕ). Settled S y z) (finish-links i .0) t))
+    (λ a b y i f j. old (sym (finish-links j .1) ∙ finish-links i .0))
     (λ a b i. D .waiting b (ap (λ (z : ℕ). waits (S .control z)) (finish-links i .1) ∙ draft-waits drafted))
-    (λ a b t y i j. source-fresh sh t (λ k f. let z = sym drafted ∙ ap (S .control) (sym (finish-links i .1)) ∙ f in clash cc) j)
+    (λ a b t y i j. released-fresh sh t (λ k f. let z = sym drafted ∙ ap (S .control) (sym (finish-links i .1)) ∙ f in clash cc))
     (λ u bound.
     ⊎-elim
     (λ e. absurd (v-unbound sh D refl (λ a i. scope-apart (finish-links i .1)) (subst (λ (z : ℕ). Bound S' z) e bound)))
     (λ nv.
     ⊎-elim
-    (λ e. way-of e (to-scope (D .new-scope) (one (split-new (D .plans) here))))
+    (λ e. way-of e (to-scope (D .new-scope) (one (split-new (D .plans) here (new-live D)))))
     (λ nc.
     ⊎-elim
-    (λ e. way-of e (to-scope (D .same-scope m old ∙ made .scope-is) (handed-way sh rs D (later here) (v-way rs D refl))))
+    (λ e. way-of e (to-scope (D .same-scope m old ∙ made .scope-is) (handed-way sh rs D refl (later here) (v-way rs D refl))))
     (λ ne. other-way rs D nv nc (among-one u m ne) bound)
     (equal? u m))
     (equal? u (S .count)))
@@ -199,7 +213,7 @@ finish-roads {v = v} {m = m} {r = r} {S = S} {S' = S'} sh rs D =
     new : S .control (S .count) ≡ over
     new = sh .beyond (S .count) (omega arith)
 
-    made : Draft S v (m ∷ []) m r own-scope
+    made : Draft S v (m ∷ []) m (kid r own-scope)
     made = sh .under-way v _ _ (D .self) .0 .0
 
     drafted : S .control m ≡ draft r
@@ -214,22 +228,22 @@ finish-roads {v = v} {m = m} {r = r} {S = S} {S' = S'} sh rs D =
 
 -- a fork: the new vertex, for the rest, gets v's way, and those for the branches lead to it
 fork-roads :
-    {L o v m m' : ℕ} {b c r : Code} {S S' : State} → Shape S → Roads S
-    → Split L S S' v (fork-at o b c r) (m ∷ m' ∷ [])
+    {o v m m' : ℕ} {b c r : Code} {S S' : State} → Shape S → Roads S
+    → Split S S' v (fork-at o b c r) (m ∷ m' ∷ [])
     (link m (S .count) ∷ link m' (S .count) ∷ hand (S .count) ∷ free (S .count) ∷ free m ∷ free m' ∷ []) (S .scope v)
     → Roads S'
 unfolding isItem goes Drafts kids resolved
 fork-roads {v = v} {m = m} {m' = m'} {b = b} {c = c} {S = S} {S' = S'} sh rs D =
     split-roads sh rs D
-    (λ a b y i t.
+    (λ a b y i f t.
     ⊎-elim
     (λ e. nothing-to-draft sh (left .is-draft) y (subst (λ (z : ℕ). Settled S y z) e t))
     (λ e. nothing-to-draft sh (right .is-draft) y (subst (λ (z : ℕ). Settled S y z) e t))
     (fork-links i .0))
-    (λ a b y i j.
+    (λ a b y i f j.
     ⊎-elim (λ e. old (left .is-draft) (sym e ∙ fork-links j .1)) (λ e. old (right .is-draft) (sym e ∙ fork-links j .1)) (fork-links i .0))
     (λ a b i. ap (λ (z : ℕ). waits (S' .control z)) (fork-links i .1) ∙ D .new-waits)
-    (λ a b t y i j. source-fresh sh t (λ k f. let z = sym new ∙ ap (S .control) (sym (fork-links i .1)) ∙ f in clash cc) j)
+    (λ a b t y i j. released-fresh sh t (λ k f. let z = sym new ∙ ap (S .control) (sym (fork-links i .1)) ∙ f in clash cc))
     (λ u bound.
     ⊎-elim
     (λ e. absurd (v-unbound sh D refl (λ a i. scope-old (fork-links i .1)) (subst (λ (z : ℕ). Bound S' z) e bound)))
@@ -239,12 +253,15 @@ fork-roads {v = v} {m = m} {m' = m'} {b = b} {c = c} {S = S} {S' = S'} sh rs D =
     (λ nc.
     ⊎-elim
     (λ e.
-    way-of e (to-scope (D .same-scope m (old (left .is-draft)) ∙ left .scope-is) (more (split-new (D .plans) here) new-way)))
+    way-of e
+    (to-scope (D .same-scope m (old (left .is-draft)) ∙ left .scope-is)
+    (more (split-new (D .plans) here (made-live D (left .is-draft))) new-way)))
     (λ ne.
     ⊎-elim
     (λ e.
     way-of e
-    (to-scope (D .same-scope m' (old (right .is-draft)) ∙ right .scope-is) (more (split-new (D .plans) (later here)) new-way)))
+    (to-scope (D .same-scope m' (old (right .is-draft)) ∙ right .scope-is)
+    (more (split-new (D .plans) (later here) (made-live D (right .is-draft))) new-way)))
     (λ ne'. other-way rs D nv nc (among-two u m m' ne ne') bound)
     (equal? u m'))
     (equal? u m))
@@ -254,10 +271,10 @@ fork-roads {v = v} {m = m} {m' = m'} {b = b} {c = c} {S = S} {S' = S'} sh rs D =
     new : S .control (S .count) ≡ over
     new = sh .beyond (S .count) (omega arith)
 
-    left : Draft S v (m ∷ m' ∷ []) m b own-scope
+    left : Draft S v (m ∷ m' ∷ []) m (kid b own-scope)
     left = sh .under-way v _ _ (D .self) .0 .0
 
-    right : Draft S v (m ∷ m' ∷ []) m' c own-scope
+    right : Draft S v (m ∷ m' ∷ []) m' (kid c own-scope)
     right = sh .under-way v _ _ (D .self) .0 .1 .0
 
     old : {k : Code} {x : ℕ} → S .control x ≡ draft k → x ≡ S .count → ⊥
@@ -267,19 +284,97 @@ fork-roads {v = v} {m = m} {m' = m'} {b = b} {c = c} {S = S} {S' = S'} sh rs D =
     scope-old e = absurd (omega (arith, sh .scope-within v (busy-below sh v (D .self))))
 
     new-way : Way (Settled S') (S .count) (S .scope v)
-    new-way = handed-way sh rs D (later (later here)) (v-way rs D refl)
+    new-way = handed-way sh rs D refl (later (later here)) (v-way rs D refl)
+
+-- a future: v keeps its way, and the new vertex, for the body, leads to its scope, which has no item
+future-roads :
+    {o v m : ℕ} {b r : Code} {S S' : State} → Shape S → Roads S
+    → Split S S' v (future-at o b r) (m ∷ []) (link (S .count) m ∷ free m ∷ free (S .count) ∷ []) m → Roads S'
+unfolding isItem goes Drafts kids resolved codeOf tasks
+future-roads {v = v} {m = m} {r = r} {S = S} {S' = S'} sh rs D =
+    split-roads sh rs D
+    (λ a b y i f t. nothing-to rs (over-waits new) y (subst (λ (z : ℕ). Settled S y z) (future-links i .0) t))
+    (λ a b y i f j. old (sym (future-links j .1) ∙ future-links i .0))
+    (λ a b i. D .waiting b (ap (λ (z : ℕ). waits (S .control z)) (future-links i .1) ∙ draft-waits drafted))
+    (λ a b t y i j. released-fresh sh t (λ k f. let z = sym drafted ∙ ap (S .control) (sym (future-links i .1)) ∙ f in clash cc))
+    (λ u bound.
+    ⊎-elim
+    (λ e. way-of e (to-scope (D .same-scope v (v-old sh D)) (own-way sh D refl (λ h. future-hands) (v-way rs D refl))))
+    (λ nv.
+    ⊎-elim
+    (λ e. way-of e (to-scope (D .new-scope) (one (split-new (D .plans) here (new-live D)))))
+    (λ nc.
+    ⊎-elim
+    (λ e. absurd (waiting nv e (subst (λ (z : ℕ). Bound S' z) e bound)))
+    (λ ne. other-way rs D nv nc (among-one u m ne) bound)
+    (equal? u m))
+    (equal? u (S .count)))
+    (equal? u v))
+  where
+    new : S .control (S .count) ≡ over
+    new = sh .beyond (S .count) (omega arith)
+
+    made : Draft S v (m ∷ []) m (awaiting (S .lastByte) r)
+    made = sh .under-way v _ _ (D .self) .0 .0
+
+    drafted : S .control m ≡ draft (end-at (S .lastByte))
+    drafted = made .is-draft
+
+    old : m ≡ S .count → ⊥
+    old = apart isNew (S .control) (draft-new drafted) (over-old new)
+
+    -- the first vertex is at the last byte
+    waiting : {u : ℕ} → (u ≡ v → ⊥) → u ≡ m → Bound S' m → ⊥
+    waiting nv e =
+        let nm : m ≡ v → ⊥ = λ q. nv (e ∙ q) in
+        end-unbound (D .same-code m nm old ∙ ap codeOf drafted)
+        (λ a i. in-empty (D .plans .others m nm ∙ ap tasks drafted) i)
+
+-- a force: the new vertex, for the rest, gets v's way, and the forced one, which the item does not release, leads to it
+force-roads :
+    {o i v t : ℕ} {b r : Code} {S S' : State} → Shape S → Roads S → t < S .count
+    → Split S S' v (force-at o i b r) [] (link t (S .count) ∷ hand (S .count) ∷ free (S .count) ∷ []) (S .scope v) → Roads S'
+unfolding isItem goes among
+force-roads {v = v} {t = t} {S = S} {S' = S'} sh rs lt D =
+    split-roads sh rs D
+    (λ a b y i f x. absurd (outside i f))
+    (λ a b y i f j. outside i f)
+    (λ a b i. ap (λ (z : ℕ). waits (S' .control z)) (force-links i .1) ∙ D .new-waits)
+    (λ a b w y i j. released-fresh sh w (λ k f. let z = sym new ∙ ap (S .control) (sym (force-links i .1)) ∙ f in clash cc))
+    (λ u bound.
+    ⊎-elim
+    (λ e. absurd (v-unbound sh D refl (λ a i. scope-old (force-links i .1)) (subst (λ (z : ℕ). Bound S' z) e bound)))
+    (λ nv.
+    ⊎-elim
+    (λ e. way-of e (to-scope (D .new-scope) (handed-way sh rs D refl (later here) (v-way rs D refl))))
+    (λ nc. other-way rs D nv nc refl bound)
+    (equal? u (S .count)))
+    (equal? u v))
+  where
+    new : S .control (S .count) ≡ over
+    new = sh .beyond (S .count) (omega arith)
+
+    outside :
+        {a b : ℕ} → In (link a b) (link t (S .count) ∷ hand (S .count) ∷ free (S .count) ∷ [])
+        → In (free a) (link t (S .count) ∷ hand (S .count) ∷ free (S .count) ∷ []) → ⊥
+    outside i f = let at : t ≡ S .count = sym (force-links i .0) ∙ force-frees f in absurd (omega (arith, lt))
+
+    scope-old : S .scope v ≡ S .count → ⊥
+    scope-old e = absurd (omega (arith, sh .scope-within v (busy-below sh v (D .self))))
 
 -- the split of an item leaves the roads
 pub splits-kept :
-    (L : ℕ) {S : State} {v : ℕ} {c k : Code} {ms : List ℕ} {a : Name} → Shape S → Roads S → S .control v ≡ busy c ms → Splits c ms k a
-    → Roads (split S v ms (onward (goes L c) (todo (S .scope v) (ms ++ (S .count ∷ [])) c)) k a)
+    {S : State} {v : ℕ} {c : Code} {ms : List ℕ} {k : Kid} → Shape S → Opened S → Roads S → S .control v ≡ busy c ms → Splits c ms k
+    → Roads (itemSplit S v c ms k)
 unfolding resolved
-splits-kept L {S} {v} sh rs q (async-1 {o = o} {b = b} {r = r}) =
-    async-roads sh rs
-    (split-of L _ b own-scope _ sh q (tasks-onward _ _ ∙ todo-async o b r (S .scope v) (S .count)) (code-onward _ _))
-splits-kept L {S} {v} sh rs q (finish-2 {o = o} {m = m} {b = b} {r = r}) =
-    finish-roads sh rs
-    (split-of L _ b made-1 _ sh q (tasks-onward _ _ ∙ todo-finish o b r (S .scope v) m (S .count)) (code-onward _ _))
-splits-kept L {S} {v} sh rs q (fork-3 {o = o} {m = m} {m' = m'} {b = b} {c = c} {r = r}) =
-    fork-roads sh rs
-    (split-of L _ r own-scope _ sh q (tasks-onward _ _ ∙ todo-fork o b c r (S .scope v) m m' (S .count)) (code-onward _ _))
+splits-kept {S} {v} sh op rs q (async-1 {o = o} {b = b} {r = r}) =
+    async-roads sh rs (split-of (kid b own-scope) _ sh q (todo-async o b r (S .scope v) _ (S .count)))
+splits-kept {S} {v} sh op rs q (finish-2 {o = o} {m = m} {b = b} {r = r}) =
+    finish-roads sh rs (split-of (kid b made-1) _ sh q (todo-finish o b r (S .scope v) _ m (S .count)))
+splits-kept {S} {v} sh op rs q (fork-3 {o = o} {m = m} {m' = m'} {b = b} {c = c} {r = r}) =
+    fork-roads sh rs (split-of (kid r own-scope) _ sh q (todo-fork o b c r (S .scope v) _ m m' (S .count)))
+splits-kept {S} {v} sh op rs q (future-2 {o = o} {m = m} {b = b} {r = r}) =
+    future-roads sh rs (split-of (kid b made-1) _ sh q (todo-future o b r (S .scope v) _ m (S .count)))
+splits-kept {S} {v} sh op rs q (force-1 {o = o} {n = n} {b = b} {r = r}) =
+    force-roads sh rs (forced-below sh op q)
+    (split-of (kid r own-scope) _ sh q (todo-force o n b r (S .scope v) _ (S .count)))

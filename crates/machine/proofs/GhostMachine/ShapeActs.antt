@@ -1,23 +1,24 @@
 -- Moves that make no vertex keep the shape: those that change v alone (a start, a job, a stop), and those that do what is left to do of an
--- item. A link and a transfer first take the command from v's list, and then change the edges; a release also changes the
--- vertex that is released.
+-- item. A link and a transfer first take the command from v's list, and then change the edges, where a link from a finished vertex adds
+-- none; a release also changes the vertex that is released.
 use Prim.Native.Nat.{ℕ, _<_}
 use mathlib.Core.Path.{_≡_, refl, sym, _∙_, ap, subst}
-use mathlib.Core.Bool.{true, false}
+use mathlib.Core.Bool.{Bool, true, false}
 use mathlib.Core.Logic.{inl, inr, ⊎-elim}
 use mathlib.Core.List.{List, [], _∷_}
 use native.Mathlib.Omega.{arith}
 use borrow.Author.Tests.{eqb-true}
 use Rattle.graph.proofs.TestLaws.{equal?, true-false, either-cases, both-left, both-right}
-use Rattle.program.specs.Located.{Code}
-use Rattle.machine.proofs.GhostMachine.Ghost.{Do, link, hand, free, Control, draft, fresh, ready, busy, joining, over, State, put, onward, freed}
-use Rattle.machine.proofs.GhostMachine.Ghost.{withControl, withEdges, linked, handed, dropped, done}
+use Rattle.program.specs.Located.{Code, job-at}
+use Rattle.machine.proofs.GhostMachine.Ghost.{Do, link, hand, free, Control, draft, fresh, ready, busy, joining, over, State, put, onward}
+use Rattle.machine.proofs.GhostMachine.Ghost.{freed, withControl, withEdges, handed, dropped, live, done}
 use Rattle.machine.proofs.GhostMachine.Invariant.{In, here, later, Precedes, first, behind, Once, tasks, tasksOf, isNew, isDraft, FreesOnly}
-use Rattle.machine.proofs.GhostMachine.Invariant.{Ordered, Fits, Shape}
+use Rattle.machine.proofs.GhostMachine.Invariant.{sits, isItem, Ordered, Forces, Fits, Shape}
 use Rattle.machine.proofs.GhostMachine.GhostLaws.{put-same, put-other, put-cases, clash, apart, draft-new, fresh-new, ready-old, joining-old}
 use Rattle.machine.proofs.GhostMachine.GhostLaws.{in-cases, in-none, no-link, no-hand, tasks-onward, below, new-below, one-freer}
 use Rattle.machine.proofs.GhostMachine.ShapeStep.{madeOf, made-busy, none-made, onward-old, onward-made, Turn, itself, stays, rises, Same}
-use Rattle.machine.proofs.GhostMachine.ShapeStep.{fits-kept, shape-step, Fine, shape-edges}
+use Rattle.machine.proofs.GhostMachine.ShapeStep.{fits-kept, shape-step, one-linker, Fine, shape-edges}
+use Rattle.machine.proofs.GhostMachine.RoadLaws.{joining-sits, linkedIf, linkedIf-cases}
 
 -- a new vertex was the same before, where v does not come to be new
 new-was :
@@ -32,12 +33,14 @@ no-drafts {S} {v} {m} {k} sh none h by =
     let (c, ms, b, i) = sh .drafts m k h in
     in-none (subst (λ ns. In m ns) (sym (made-busy b) ∙ ap (λ w. madeOf (S .control w)) by ∙ none) i)
 
--- v alone moves, to y; no item of its own is under way before or afterwards, and all that it had to release is still to be released
+-- v alone moves, to y, and sits as before; no item of its own is under way before or afterwards, all that it had to release is still to be
+-- released, and it hands its edges on as before
 shape-turn :
     {S : State} {v : ℕ} (y : Control) → Shape S → v < S .count → isNew (S .control v) ≡ false → isNew y ≡ false
-    → madeOf (S .control v) ≡ [] → madeOf y ≡ [] → ((m : ℕ) → In (free m) (tasksOf S v) → In (free m) (tasks y)) → Fits S v (tasks y)
-    → Shape (withControl S (put (S .control) v y))
-shape-turn {S} {v} y sh lt old old' none none' frees fits =
+    → (sits (S .control v) ≡ true → sits y ≡ true) → madeOf (S .control v) ≡ [] → madeOf y ≡ []
+    → ((m : ℕ) → In (free m) (tasksOf S v) → In (free m) (tasks y)) → ((h : ℕ) → In (hand h) (tasks y) → In (hand h) (tasksOf S v))
+    → Fits S v (tasks y) → Shape (withControl S (put (S .control) v y))
+shape-turn {S} {v} y sh lt old old' sat none none' frees hands fits =
     shape-step {v = v} sh
     (record {
       there = lt;
@@ -50,6 +53,10 @@ shape-turn {S} {v} y sh lt old old' none none' frees fits =
       maker-same = λ u l. refl;
       rank-same = λ u l. refl;
       fin-same = λ u l. refl;
+      opens-same = λ u l n. refl;
+      last-same = refl;
+      own-sits = λ h. ap sits is-y ∙ sat h;
+      own-hands = λ h i. inl (hands h (subst (λ x. In (hand h) (tasks x)) is-y i));
       own-item = λ c ms h. none-made S' v c (sym (made-busy (sym is-y ∙ h)) ∙ none');
       own-drafts = λ m k h by. no-drafts sh none (new-was (S .control) v y m old' (draft-new refl) h) by;
       own-freshes =
@@ -75,6 +82,19 @@ shape-turn {S} {v} y sh lt old old' none none' frees fits =
           own-scope = λ i. refl;
           link-edge = λ a b i h. h;
           hand-edge = λ h x i k. k;
+          forces =
+              λ a b f.
+              record {
+                there = f .there;
+                sitting =
+                    put-cases (λ x. sits x ≡ true) (S .control) v y a
+                    (λ e. sat (ap (λ w. sits (S .control w)) (sym e) ∙ f .sitting))
+                    (λ n. f .sitting);
+                frees-it = f .frees-it;
+                unhanded =
+                    λ t.
+                    put-cases (λ x. In (hand a) (tasks x) → ⊥) (S .control) v y t (λ e i. f .unhanded v (hands a i)) (λ n. f .unhanded t);
+              };
         }
 
 -- of two that stand one before the other, the first stands at the head, or both stand behind it
@@ -123,7 +143,7 @@ fits-rest {S} {t} {d} {ds} no-free f =
           (λ h. inl h)
           (λ b. before-cases b (λ e k. absurd (no-free _ e)) (λ k. inr k))
           (f .free-scope m (later i));
-      link-from = λ a b i. rest (f .link-from a b (later i));
+      link-from = λ a b i. ⊎-elim (λ k. inl (rest k)) (λ k. inr (rest-forces k)) (f .link-from a b (later i));
       link-to = λ a b i. ⊎-elim (λ k. inl (rest k)) (λ e. inr e) (f .link-to a b (later i));
       link-new = λ a b i. f .link-new a b (later i);
       hand-to = λ h i. rest (f .hand-to h (later i));
@@ -135,16 +155,22 @@ fits-rest {S} {t} {d} {ds} no-free f =
     rest : {m : ℕ} → In (free m) (d ∷ ds) → In (free m) ds
     rest {m} i = in-cases i (λ e. absurd (no-free m e)) (λ k. k)
 
+    rest-forces : {a b : ℕ} → Forces S a b (d ∷ ds) → Forces S a b ds
+    rest-forces k =
+        record { there = k .there; sitting = k .sitting; frees-it = rest (k .frees-it); unhanded = k .unhanded }
+
 -- a link or a transfer is taken from v's list
 shape-rest :
     {S : State} {v : ℕ} {c : Code} {d : Do} {ds : List Do} → ((m : ℕ) → free m ≡ d → ⊥) → Shape S → S .control v ≡ joining c d ds
     → Shape (withControl S (put (S .control) v (onward c ds)))
 shape-rest {S} {v} {c} {d} {ds} no-free sh h =
-    shape-turn (onward c ds) sh (joining-below sh h) (joining-old h) (onward-old c ds) (joining-made h) (onward-made c ds)
+    shape-turn (onward c ds) sh (joining-below sh h) (joining-old h) (onward-old c ds) (λ z. true-false z (joining-sits h))
+    (joining-made h) (onward-made c ds)
     (λ m i.
     in-cases (subst (λ es. In (free m) es) (joining-tasks h) i)
     (λ e. absurd (no-free m e))
     (λ k. subst (λ es. In (free m) es) (sym (tasks-onward c ds)) k))
+    (λ m i. subst (λ es. In (hand m) es) (sym (joining-tasks h)) (later (subst (λ es. In (hand m) es) (tasks-onward c ds) i)))
     (subst (λ es. Fits S v es) (sym (tasks-onward c ds)) (fits-rest no-free (joining-fits sh h)))
 
 -- what each vertex has left to do then
@@ -185,32 +211,40 @@ target-no-draft {S} sh a b h = go (S .control b) refl
     go (joining c d ds) e = refl
     go over e = refl
 
--- v may lead an edge from a vertex that it has yet to release
+-- nor is one that sits
+sits-no-draft : (x : Control) → sits x ≡ true → isDraft x ≡ false
+unfolding sits isDraft
+sits-no-draft (draft c) h = clash (sym h)
+sits-no-draft (fresh c) h = refl
+sits-no-draft (ready c) h = refl
+sits-no-draft (busy c ms) h = refl
+sits-no-draft (joining c d ds) h = refl
+sits-no-draft over h = refl
+
+-- v may add an edge that it does not add again, and no other vertex adds, where none hands its edges on to the source
 fine-rest :
-    {S : State} {v : ℕ} {c : Code} {d : Do} {ds : List Do} (a b : ℕ) → Shape S → S .control v ≡ joining c d ds
-    → In (free a) (d ∷ ds) → b < S .count → isDraft (S .control b) ≡ false → (In (link a b) ds → ⊥) → (In (hand a) ds → ⊥)
+    (S : State) (v : ℕ) (c : Code) (ds : List Do) (a b : ℕ) → (a < S .count) × (isDraft (S .control a) ≡ false)
+    → (b < S .count) × (isDraft (S .control b) ≡ false) → (In (link a b) ds → ⊥) → (In (hand a) ds → ⊥)
+    → ((t : ℕ) → In (link a b) (tasksOf S t) → t ≡ v) → ((t : ℕ) → In (hand a) (tasksOf S t) → t ≡ v)
     → Fine (withControl S (put (S .control) v (onward c ds))) a b
-fine-rest {S} {v} {c} {d} {ds} a b sh h i lt kept unlinks unhands =
+fine-rest S v c ds a b from to unlinks unhands links hands =
     record {
-      from-there = new-below sh a (fresh-new is-fresh);
-      to-there = lt;
-      from-kept = still a (fresh-no-draft is-fresh);
-      to-kept = still b kept;
-      unlinked =
-          λ t j.
-          tasks-rest (S .control) v c ds t j (λ e k. unlinks k) (λ ne k. ne (same t (sh .todo-fits t .link-from a b k)));
-      unhanded =
-          λ t j. tasks-rest (S .control) v c ds t j (λ e k. unhands k) (λ ne k. ne (same t (sh .todo-fits t .hand-to a k)));
+      from-there = from .0;
+      to-there = to .0;
+      from-kept = still a (from .1);
+      to-kept = still b (to .1);
+      unlinked = λ t j. tasks-rest (S .control) v c ds t j (λ e k. unlinks k) (λ ne k. ne (links t k));
+      unhanded = λ t j. tasks-rest (S .control) v c ds t j (λ e k. unhands k) (λ ne k. ne (hands t k));
     }
   where
-    is-fresh : S .control a ≡ fresh (joining-fits sh h .frees a i .0 .0)
-    is-fresh = joining-fits sh h .frees a i .0 .1
-
     still : (u : ℕ) → isDraft (S .control u) ≡ false → isDraft (put (S .control) v (onward c ds) u) ≡ false
     still u k = put-cases (λ x. isDraft x ≡ false) (S .control) v (onward c ds) u (λ e. old-no-draft _ (onward-old c ds)) (λ n. k)
 
-    same : (t : ℕ) → In (free a) (tasksOf S t) → t ≡ v
-    same t k = one-freer sh a t v k (subst (λ es. In (free a) es) (sym (joining-tasks h)) i)
+-- a vertex that v has yet to release is there, and is no draft
+freed-there :
+    {S : State} {v a : ℕ} {ds : List Do} → Shape S → Fits S v ds → In (free a) ds
+    → (a < S .count) × (isDraft (S .control a) ≡ false)
+freed-there {a = a} sh f i = let z = f .frees a i .0 .1 in (new-below sh a (fresh-new z), fresh-no-draft z)
 
 -- what a vertex is still to be linked to is there, and is no draft
 link-target :
@@ -218,7 +252,7 @@ link-target :
     → (b < S .count) × (isDraft (S .control b) ≡ false)
 link-target {S} {v} {b = b} sh h =
     ⊎-elim
-    (λ i. let f = joining-fits sh h .frees b i .0 .1 in (new-below sh b (fresh-new f), fresh-no-draft f))
+    (λ i. freed-there sh (joining-fits sh h) i)
     (λ e.
     let lt = joining-below sh h in (
       subst (λ w. w < S .count) (sym e) (sh .scope-within v lt),
@@ -226,21 +260,30 @@ link-target {S} {v} {b = b} sh h =
     ))
     (joining-fits sh h .link-to _ b here)
 
--- a link
-shape-link :
-    {S : State} {v : ℕ} {c : Code} (a b : ℕ) {ds : List Do} → Shape S → S .control v ≡ joining c (link a b) ds
-    → Shape (withEdges (withControl S (put (S .control) v (onward c ds))) (linked (S .edge) a b))
-unfolding Once
-shape-link {S} {v} {c} a b {ds} sh h =
-    shape-edges (linked (S .edge) a b) (shape-rest (λ m e. clash cc) sh h)
-    (λ x y p.
+-- nor is its source; and who hands edges on to the source is v itself
+link-source :
+    {S : State} {v : ℕ} {c : Code} {a b : ℕ} {ds : List Do} → Shape S → S .control v ≡ joining c (link a b) ds
+    → ((a < S .count) × (isDraft (S .control a) ≡ false)) × ((t : ℕ) → In (hand a) (tasksOf S t) → t ≡ v)
+link-source {S} {v} {a = a} {b} {ds} sh h =
     ⊎-elim
+    (λ i. (
+      freed-there sh (joining-fits sh h) i,
+      λ t k. one-freer sh a t v (sh .todo-fits t .hand-to a k) (subst (λ es. In (free a) es) (sym (joining-tasks h)) i),
+    ))
+    (λ f. ((f .there, sits-no-draft _ (f .sitting)), λ t k. absurd (f .unhanded t k)))
+    (joining-fits sh h .link-from a b here)
+
+-- a link, which adds an edge or none
+shape-link :
+    {S : State} {v : ℕ} {c : Code} (a b : ℕ) {ds : List Do} (live : Bool) → Shape S → S .control v ≡ joining c (link a b) ds
+    → Shape (withEdges (withControl S (put (S .control) v (onward c ds))) (linkedIf live (S .edge) a b))
+unfolding Once
+shape-link {S} {v} {c} a b {ds} live sh h =
+    shape-edges (linkedIf live (S .edge) a b) (shape-rest (λ m e. clash cc) sh h)
+    (λ x y p.
+    linkedIf-cases live (S .edge) a b x y p
     (λ q. inl q)
-    (λ q.
-    let at-a : a ≡ x = sym (eqb-true x a (both-left _ _ q)) in
-    let at-b : b ≡ y = sym (eqb-true y b (both-right _ _ q)) in
-    inr (subst (λ w. Fine S' w y) at-a (subst (λ w. Fine S' a w) at-b fine)))
-    (either-cases _ _ p))
+    (λ is at-a at-b. inr (subst (λ w. Fine S' w y) (sym at-a) (subst (λ w. Fine S' a w) (sym at-b) fine))))
   where
     S' : State
     S' = withControl S (put (S .control) v (onward c ds))
@@ -250,9 +293,11 @@ shape-link {S} {v} {c} a b {ds} sh h =
 
     fine : Fine S' a b
     fine =
-        fine-rest a b sh h (fits .link-from a b here) (link-target sh h .0) (link-target sh h .1)
+        fine-rest S v c ds a b (link-source sh h .0) (link-target sh h)
         (λ i. fits .once .0 i)
         (λ i. fits .hand-apart a b (later i) here)
+        (λ t k. one-linker sh a b t v k (subst (λ es. In (link a b) es) (sym (joining-tasks h)) here))
+        (link-source sh h .1)
 
 -- a transfer
 shape-hand :
@@ -273,11 +318,19 @@ shape-hand {S} {v} {c} h {ds} sh k =
     fits : Fits S v (hand h ∷ ds)
     fits = joining-fits sh k
 
+    at-v : {d : Do} → In d (hand h ∷ ds) → In d (tasksOf S v)
+    at-v {d} i = subst (λ es. In d es) (sym (joining-tasks k)) i
+
+    releases : (t : ℕ) → In (free h) (tasksOf S t) → t ≡ v
+    releases t i = one-freer sh h t v i (at-v (fits .hand-to h here))
+
     fine : (y : ℕ) → S .edge v y ≡ true → Fine S' h y
     fine y e =
-        fine-rest h y sh k (fits .hand-to h here) (sh .within v y e .1) (target-no-draft sh v y e)
+        fine-rest S v c ds h y (freed-there sh fits (fits .hand-to h here)) (sh .within v y e .1, target-no-draft sh v y e)
         (λ i. fits .hand-apart h y here (later i))
         (λ i. fits .once .0 i)
+        (λ t i. ⊎-elim (releases t) (λ f. absurd (f .unhanded v (at-v here))) (sh .todo-fits t .link-from h y i))
+        (λ t i. releases t (sh .todo-fits t .hand-to h i))
 
 -- the scope of a vertex that is released now is not new
 release-scope :
@@ -363,6 +416,12 @@ shape-release {S} {v} {c} m k {ds} sh h is-fresh =
       maker-same = λ u l. refl;
       rank-same = λ u l. refl;
       fin-same = λ u l. refl;
+      opens-same = λ u l n. refl;
+      last-same = refl;
+      own-sits = λ z. true-false z (joining-sits h);
+      own-hands =
+          λ u i.
+          inl (subst (λ es. In (hand u) es) (sym (joining-tasks h)) (later (subst (λ es. In (hand u) es) rest-is i)));
       own-item = λ c' ms b. none-made S' v c' (sym (made-busy (sym is-y ∙ b)) ∙ onward-made c ds);
       own-drafts = λ u k' d by. no-drafts sh (joining-made h) (was u (draft-new refl) d) by;
       own-freshes =
@@ -428,39 +487,43 @@ pub shape-acts :
     {S : State} {v : ℕ} {c : Code} (d : Do) {ds : List Do} → Shape S → S .control v ≡ joining c d ds
     → Shape (withControl (done S v d) (put (done S v d .control) v (onward c ds)))
 unfolding done
-shape-acts (link a b) sh h = shape-link a b sh h
+shape-acts {S} (link a b) sh h = shape-link a b (live (S .control a)) sh h
 shape-acts (hand h) sh k = shape-hand h sh k
 shape-acts (free m) sh h = shape-free m sh h
 
 -- a vertex that has nothing left to do of an item, and goes on
 shape-plain :
     {S : State} {v : ℕ} (y : Control) → Shape S → v < S .count → isNew (S .control v) ≡ false → isNew y ≡ false
-    → madeOf (S .control v) ≡ [] → madeOf y ≡ [] → tasksOf S v ≡ [] → tasks y ≡ []
+    → (sits (S .control v) ≡ true → sits y ≡ true) → madeOf (S .control v) ≡ [] → madeOf y ≡ [] → tasksOf S v ≡ [] → tasks y ≡ []
     → Shape (withControl S (put (S .control) v y))
-shape-plain {S} {v} y sh lt old old' none none' idle idle' =
-    shape-turn y sh lt old old' none none'
+shape-plain {S} {v} y sh lt old old' sat none none' idle idle' =
+    shape-turn y sh lt old old' sat none none'
     (λ m i. subst (λ es. In (free m) es) (idle ∙ sym idle') i)
+    (λ m i. subst (λ es. In (hand m) es) (idle' ∙ sym idle) i)
     (subst (λ es. Fits S v es) (idle ∙ sym idle') (sh .todo-fits v))
 
 -- a start
 pub shape-begins :
     {S : State} {v : ℕ} {c : Code} → Shape S → S .control v ≡ ready c
     → Shape (withControl S (put (S .control) v (busy c [])))
-unfolding madeOf tasks isNew
-shape-begins {v = v} {c} sh h = shape-plain (busy c []) sh (below sh v (λ o. clash cc)) (cc) refl (cc) refl (cc) refl
+unfolding madeOf tasks isNew sits
+shape-begins {v = v} {c} sh h =
+    shape-plain (busy c []) sh (below sh v (λ o. clash cc)) (cc) refl (λ z. cc z) (cc) refl (cc) refl
 
 -- a job
 pub shape-performs :
-    {S : State} {v : ℕ} {c : Code} (r : Code) → Shape S → S .control v ≡ busy c []
+    {S : State} {v o n : ℕ} (r : Code) → Shape S → S .control v ≡ busy (job-at o n r) []
     → Shape (withControl S (put (S .control) v (busy r [])))
-unfolding madeOf tasks isNew
-shape-performs {v = v} r sh h = shape-plain (busy r []) sh (below sh v (λ o. clash cc)) (cc) refl (cc) refl (cc) refl
+unfolding madeOf tasks isNew sits isItem
+shape-performs {v = v} r sh h =
+    shape-plain (busy r []) sh (below sh v (λ o. clash cc)) (cc) refl (λ z. clash (cc z)) (cc) refl (cc) refl
 
 -- a stop
 pub shape-stops :
     {S : State} {v : ℕ} {c : Code} → Shape S → S .control v ≡ busy c []
     → Shape (withEdges (withControl S (put (S .control) v over)) (dropped (S .edge) v))
-unfolding madeOf tasks isNew
+unfolding madeOf tasks isNew sits
 shape-stops {S} {v} sh h =
-    shape-edges (dropped (S .edge) v) (shape-plain over sh (below sh v (λ o. clash cc)) (cc) refl (cc) refl (cc) refl)
+    shape-edges (dropped (S .edge) v)
+    (shape-plain over sh (below sh v (λ o. clash cc)) (cc) refl (λ z. refl) (cc) refl (cc) refl)
     (λ a b p. inl (both-left _ _ p))

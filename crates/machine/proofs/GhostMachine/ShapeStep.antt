@@ -1,7 +1,8 @@
 -- What a move of v must show for the shape to be kept. `Turn` says what can become of a vertex in a move: v itself moves, others stay as
 -- they are, but for new ones that v made, which can be split off or released, and one that v makes now. So what other vertices have under
--- way and left to do is as it was (`Step`), and what the move has to show is about v alone. Edges stay as they are here: a
--- move that changes them too does so behind its step (`shape-edges`).
+-- way and left to do is as it was (`Step`), and what the move has to show is about v alone. An edge that is still to be made may come from the
+-- first vertex of an open future: it sits, and goes on sitting, and no edges are handed on to it. Edges stay as they are here: a move that
+-- changes them too does so behind its step (`shape-edges`).
 use Prim.Native.Nat.{ℕ, _<_, _≤_}
 use mathlib.Core.Path.{_≡_, refl, sym, _∙_, ap, subst}
 use mathlib.Core.Bool.{Bool, true, false}
@@ -9,13 +10,13 @@ use mathlib.Core.Logic.{_⊎_, inl, inr, ⊎-elim}
 use mathlib.Core.List.{List, [], _∷_}
 use native.Mathlib.Omega.{arith}
 use Rattle.graph.proofs.TestLaws.{equal?, true-false, not-so}
-use Rattle.program.specs.Encodings.{Name}
 use Rattle.program.specs.Located.{Code}
-use Rattle.machine.proofs.GhostMachine.Ghost.{Do, link, hand, free, Control, draft, fresh, ready, busy, joining, over, State, kids, resolved}
-use Rattle.machine.proofs.GhostMachine.Ghost.{onward, withEdges}
-use Rattle.machine.proofs.GhostMachine.Invariant.{In, Precedes, Once, tasks, tasksOf, isNew, isDraft, Draft, Drafts, Fits, Tasks, Shape}
+use Rattle.machine.proofs.GhostMachine.Ghost.{Do, link, hand, free, Control, draft, fresh, ready, busy, joining, over, State, Kid, kids}
+use Rattle.machine.proofs.GhostMachine.Ghost.{resolved, onward, withEdges}
+use Rattle.machine.proofs.GhostMachine.Invariant.{In, Precedes, Once, tasks, tasksOf, isNew, isDraft, sits, Draft, Drafts}
+use Rattle.machine.proofs.GhostMachine.Invariant.{Forces, Fits, Tasks, Shape}
 use Rattle.machine.proofs.GhostMachine.GhostLaws.{clash, draft-new, fresh-new, ready-old, busy-old, onward-cases, below, new-below, doer-below}
-use Rattle.machine.proofs.GhostMachine.GhostLaws.{apart}
+use Rattle.machine.proofs.GhostMachine.GhostLaws.{apart, doer-old, one-freer}
 
 -- the vertices that an item under way has made so far
 unfoldable pub madeOf : Control → List ℕ
@@ -32,9 +33,10 @@ unfolding madeOf
 made-busy h = cc
 
 -- an item under way with no vertices has none to keep
-pub none-made : (S : State) (v : ℕ) (c : Code) {ms : List ℕ} → ms ≡ [] → Drafts S v ms ms (kids c) × Once ms
+pub none-made :
+    (S : State) (v : ℕ) (c : Code) {ms : List ℕ} → ms ≡ [] → Drafts S v ms ms (kids (S .lastByte) c) × Once ms
 unfolding Drafts Once
-none-made S v c e = subst (λ ms. Drafts S v ms ms (kids c) × Once ms) (sym e) (tt, tt)
+none-made S v c e = subst (λ ms. Drafts S v ms ms (kids (S .lastByte) c) × Once ms) (sym e) (tt, tt)
 
 -- behind a command, a vertex is executing
 pub onward-old : (c : Code) (ds : List Do) → isNew (onward c ds) ≡ false
@@ -72,8 +74,14 @@ pub record Step (S S' : State) (v : ℕ) : Type 0 where
   pub maker-same : (u : ℕ) → u < S .count → S' .maker u ≡ S .maker u
   pub rank-same : (u : ℕ) → u < S .count → S' .rank u ≡ S .rank u
   pub fin-same : (u : ℕ) → u < S .count → S' .fin u ≡ S .fin u
+  pub opens-same : (u : ℕ) → u < S .count → (u ≡ v → ⊥) → S' .opens u ≡ S .opens u
+  pub last-same : S' .lastByte ≡ S .lastByte
+  -- v sits as before, and hands edges on to vertices that do not
+  pub own-sits : sits (S .control v) ≡ true → sits (S' .control v) ≡ true
+  pub own-hands :
+      (h : ℕ) → In (hand h) (tasksOf S' v) → In (hand h) (tasksOf S v) ⊎ (h < S .count → sits (S .control h) ≡ true → ⊥)
   -- the shape of v's own item
-  pub own-item : (c : Code) (ms : List ℕ) → S' .control v ≡ busy c ms → Drafts S' v ms ms (kids c) × Once ms
+  pub own-item : (c : Code) (ms : List ℕ) → S' .control v ≡ busy c ms → Drafts S' v ms ms (kids (S' .lastByte) c) × Once ms
   pub own-drafts :
       (m : ℕ) (k : Code) → S' .control m ≡ draft k → S' .maker m ≡ v
       → (c : Code) × (ms : List ℕ) × (S' .control v ≡ busy c ms) × In m ms
@@ -114,6 +122,34 @@ tasks-kept {S} {S'} {v} sh st t ne = go (st .turn t)
     go (wakes k by d f) = cc
     go (rises k by f r o) = cc
     go (born e c n by s) = new-idle (S' .control t) n ∙ sym (ap tasks (sh .beyond t (omega arith)))
+
+-- what sits goes on sitting
+sits-kept :
+    {S S' : State} {v : ℕ} → Step S S' v → (u : ℕ) → u < S .count → sits (S .control u) ≡ true → sits (S' .control u) ≡ true
+unfolding sits
+sits-kept {S} {S'} {v} st u lt h = go (st .turn u)
+  where
+    go : Turn S S' v u → sits (S' .control u) ≡ true
+    go (itself e) =
+        ap (λ w. sits (S' .control w)) e ∙ st .own-sits (ap (λ w. sits (S .control w)) (sym e) ∙ h)
+    go (stays n b e) = ap sits e ∙ h
+    go (wakes k by d f) = clash (cc h)
+    go (rises k by f r o) = cc h
+    go (born e c n by s) = absurd (omega arith)
+
+-- and to what sits, no edges are handed on that were not to be
+hands-kept :
+    {S S' : State} {v : ℕ} → Shape S → Step S S' v → (u : ℕ) → u < S .count → sits (S .control u) ≡ true
+    → ((t : ℕ) → In (hand u) (tasksOf S t) → ⊥) → (t : ℕ) → In (hand u) (tasksOf S' t) → ⊥
+hands-kept {S} {S'} {v} sh st u lt h none t i =
+    ⊎-elim
+    (λ e.
+    ⊎-elim
+    (λ j. none v j)
+    (λ new. new lt h)
+    (st .own-hands u (subst (λ w. In (hand u) (tasksOf S' w)) e i)))
+    (λ ne. none t (subst (λ ds. In (hand u) ds) (tasks-kept sh st t ne) i))
+    (equal? t v)
 
 -- and the same item under way
 busy-kept :
@@ -176,6 +212,7 @@ pub record Same (S S' : State) (t : ℕ) (ds : List Do) : Type 0 where
   pub own-scope : {d : Do} → In d ds → S' .scope t ≡ S .scope t
   pub link-edge : (a b : ℕ) → In (link a b) ds → S .edge a b ≡ false → S' .edge a b ≡ false
   pub hand-edge : (h x : ℕ) → In (hand h) ds → S .edge h x ≡ false → S' .edge h x ≡ false
+  pub forces : (a b : ℕ) → Forces S a b ds → Forces S' a b ds
 
 -- then it fits
 pub fits-kept : {S S' : State} {t : ℕ} {ds : List Do} → Fits S t ds → Same S S' t ds → Fits S' t ds
@@ -188,13 +225,23 @@ fits-kept {S} {S'} {t} {ds} f s =
           λ m i.
           subst (λ (σ : ℕ). (isNew (S' .control σ) ≡ false) ⊎ Precedes (free σ) (free m) ds) (sym (s .scope m i))
           (⊎-elim (λ h. inl (s .old m i h)) (λ b. inr b) (f .free-scope m i));
-      link-from = f .link-from;
+      link-from = λ a b i. ⊎-elim (λ h. inl h) (λ h. inr (s .forces a b h)) (f .link-from a b i);
       link-to = λ a b i. ⊎-elim (λ h. inl h) (λ e. inr (e ∙ sym (s .own-scope i))) (f .link-to a b i);
       link-new = λ a b i. s .link-edge a b i (f .link-new a b i);
       hand-to = f .hand-to;
       hand-new = λ h x i. s .hand-edge h x i (f .hand-new h x i);
       hand-apart = f .hand-apart;
       hand-one = f .hand-one;
+    }
+
+-- an open future's first vertex is still one
+forces-kept : {S S' : State} {v a b : ℕ} {ds : List Do} → Shape S → Step S S' v → Forces S a b ds → Forces S' a b ds
+forces-kept {a = a} sh st f =
+    record {
+      there = omega (arith, f .there, st .counts);
+      sitting = sits-kept st a (f .there) (f .sitting);
+      frees-it = f .frees-it;
+      unhanded = hands-kept sh st a (f .there) (f .sitting) (f .unhanded);
     }
 
 -- so what others have left to do is fit to be done behind a move of v
@@ -217,28 +264,33 @@ fits-other {S} {S'} {v} sh st t ne = subst (λ ds. Fits S' t ds) (sym (tasks-kep
           own-scope = λ i. st .scope-same t (doer-below sh t i);
           link-edge = λ a b i h. st .edge-same a b ∙ h;
           hand-edge = λ h x i k. st .edge-same h x ∙ k;
+          forces = λ a b h. forces-kept sh st h;
         }
 
 -- drafts that stay drafts, one by one
 pub drafts-kept :
-    {S S' : State} {v : ℕ} {all : List ℕ} (ms : List ℕ) (ks : List (Code × Name))
-    → ((m : ℕ) (k : Code) (a : Name) → Draft S v all m k a → Draft S' v all m k a) → Drafts S v all ms ks → Drafts S' v all ms ks
+    {S S' : State} {v : ℕ} {all : List ℕ} (ms : List ℕ) (ks : List Kid)
+    → ((m : ℕ) (k : Kid) → Draft S v all m k → Draft S' v all m k) → Drafts S v all ms ks → Drafts S' v all ms ks
 unfolding Drafts
 drafts-kept [] ks f h = h
 drafts-kept (m ∷ ms) [] f h = h
-drafts-kept (m ∷ ms) (k ∷ ks) f h = (f m (k .0) (k .1) (h .0), drafts-kept ms ks f (h .1))
+drafts-kept (m ∷ ms) (k ∷ ks) f h = (f m k (h .0), drafts-kept ms ks f (h .1))
 
 -- those of another vertex do
 draft-other :
-    {S S' : State} {v t : ℕ} {all : List ℕ} → Shape S → Step S S' v → (t ≡ v → ⊥) → t < S .count → (m : ℕ) (k : Code) (a : Name)
-    → Draft S t all m k a → Draft S' t all m k a
-draft-other {S} {S'} {v} {t} {all} sh st ne lt m k a d =
+    {S S' : State} {v t : ℕ} {all : List ℕ} → Shape S → Step S S' v → (t ≡ v → ⊥) → t < S .count → (m : ℕ) (k : Kid)
+    → Draft S t all m k → Draft S' t all m k
+draft-other {S} {S'} {v} {t} {all} sh st ne lt m k d =
     record {
       is-draft = draft-kept sh st m (λ e. ne (sym (d .made-by) ∙ e)) (d .is-draft);
-      scope-is = st .scope-same m lm ∙ d .scope-is ∙ ap (λ σ. resolved σ all a) (sym (st .scope-same t lt));
+      scope-is = st .scope-same m lm ∙ d .scope-is ∙ ap (λ σ. resolved σ 0 all (k .name)) (sym (st .scope-same t lt));
       rank-is = st .rank-same m lm ∙ d .rank-is;
       fin-is = st .fin-same m lm ∙ d .fin-is;
       made-by = st .maker-same m lm ∙ d .made-by;
+      opens-are =
+          st .opens-same m lm (apart isNew (S .control) (draft-new (d .is-draft)) (st .starts))
+          ∙ d .opens-are
+          ∙ sym (st .opens-same t lt ne);
     }
   where
     lm : m < S .count
@@ -301,17 +353,20 @@ step-scope-within {S} {S'} {v} sh st u lt = go (st .turn u)
 -- items under way have their drafts
 step-under-way :
     {S S' : State} {v : ℕ} → Shape S → Step S S' v → (t : ℕ) (c : Code) (ms : List ℕ) → S' .control t ≡ busy c ms
-    → Drafts S' t ms ms (kids c) × Once ms
+    → Drafts S' t ms ms (kids (S' .lastByte) c) × Once ms
 step-under-way {S} {S'} {v} sh st t c ms h = ⊎-elim own other (equal? t v)
   where
-    own : t ≡ v → Drafts S' t ms ms (kids c) × Once ms
-    own e = subst (λ w. Drafts S' w ms ms (kids c) × Once ms) (sym e) (st .own-item c ms (ap (S' .control) (sym e) ∙ h))
+    own : t ≡ v → Drafts S' t ms ms (kids (S' .lastByte) c) × Once ms
+    own e =
+        subst (λ w. Drafts S' w ms ms (kids (S' .lastByte) c) × Once ms) (sym e)
+        (st .own-item c ms (ap (S' .control) (sym e) ∙ h))
 
-    other : (t ≡ v → ⊥) → Drafts S' t ms ms (kids c) × Once ms
+    other : (t ≡ v → ⊥) → Drafts S' t ms ms (kids (S' .lastByte) c) × Once ms
     other ne =
         let b : S .control t ≡ busy c ms = busy-was st t ne h in
         let (d, o) = sh .under-way t c ms b in
-        (drafts-kept ms (kids c) (draft-other sh st ne (below sh t (λ o. clash cc))) d, o)
+        subst (λ L. Drafts S' t ms ms (kids L c) × Once ms) (sym (st .last-same))
+        (drafts-kept ms (kids (S .lastByte) c) (draft-other sh st ne (below sh t (λ o. clash cc))) d, o)
 
 -- drafts have their items
 step-drafts :
@@ -402,6 +457,29 @@ shape-step {S} {S'} {v} sh st =
       scope-old = step-scope-old sh st;
     }
 
+-- no edge is still to be made by two
+pub one-linker :
+    {S : State} → Shape S → (a b t t' : ℕ) → In (link a b) (tasksOf S t) → In (link a b) (tasksOf S t') → t ≡ t'
+one-linker {S} sh a b t t' i j =
+    ⊎-elim
+    (λ f. ⊎-elim (λ g. one-freer sh b t t' f g) (λ e. absurd (not-scope t t' f j e)) (sh .todo-fits t' .link-to a b j))
+    (λ e.
+    ⊎-elim
+    (λ f.
+    ⊎-elim
+    (λ g. one-freer sh a t t' f g)
+    (λ g. absurd (not-scope t' t (g .frees-it) i e))
+    (sh .todo-fits t' .link-from a b j))
+    (λ f. absurd (not-scope t t (f .frees-it) i e))
+    (sh .todo-fits t .link-from a b i))
+    (sh .todo-fits t .link-to a b i)
+  where
+    -- a vertex that is still to be released is not the scope of one that has something left to do
+    not-scope : (x y : ℕ) {d : Do} → In (free b) (tasksOf S x) → In d (tasksOf S y) → b ≡ S .scope y → ⊥
+    not-scope x y f k e =
+        true-false (fresh-new (sh .todo-fits x .frees b f .0 .1))
+        (ap (λ w. isNew (S .control w)) e ∙ sh .scope-old y (doer-below sh y k) (doer-old (S .control y) k))
+
 -- An edge that can be added: neither end is a draft, and no item under way adds it or hands its own edges to its source.
 pub record Fine (S : State) (a b : ℕ) : Type 0 where
   pub from-there : a < S .count
@@ -425,7 +503,7 @@ shape-edges {S} e sh f =
       beyond = sh .beyond;
       within = λ a b h. ⊎-elim (λ k. sh .within a b k) (λ n. (n .from-there, n .to-there)) (f a b h);
       scope-within = sh .scope-within;
-      under-way = λ t c ms h. let (d, o) = sh .under-way t c ms h in (drafts-kept ms (kids c) same-draft d, o);
+      under-way = λ t c ms h. let (d, o) = sh .under-way t c ms h in (drafts-kept ms (kids (S .lastByte) c) same-draft d, o);
       drafts = sh .drafts;
       draft-bare =
           λ m x k h.
@@ -439,15 +517,15 @@ shape-edges {S} e sh f =
     gone : (a b : ℕ) → S .edge a b ≡ false → (Fine S a b → ⊥) → e a b ≡ false
     gone a b h k = not-so (e a b) (λ p. ⊎-elim (λ q. true-false q h) k (f a b p))
 
-    same-draft :
-        {v : ℕ} {all : List ℕ} (m : ℕ) (k : Code) (a : Name) → Draft S v all m k a → Draft (withEdges S e) v all m k a
-    same-draft m k a d =
+    same-draft : {v : ℕ} {all : List ℕ} (m : ℕ) (k : Kid) → Draft S v all m k → Draft (withEdges S e) v all m k
+    same-draft m k d =
         record {
           is-draft = d .is-draft;
           scope-is = d .scope-is;
           rank-is = d .rank-is;
           fin-is = d .fin-is;
           made-by = d .made-by;
+          opens-are = d .opens-are;
         }
 
     same : (t : ℕ) → Same S (withEdges S e) t (tasksOf S t)
@@ -460,4 +538,7 @@ shape-edges {S} e sh f =
           own-scope = λ i. refl;
           link-edge = λ a b i h. gone a b h (λ n. n .unlinked t i);
           hand-edge = λ h x i k. gone h x k (λ n. n .unhanded t i);
+          forces =
+              λ a b h.
+              record { there = h .there; sitting = h .sitting; frees-it = h .frees-it; unhanded = h .unhanded };
         }

@@ -1,47 +1,71 @@
 -- What a split does: its item's vertices are drafts no more, a new one comes, and the vertex that splits has all that the item does behind
--- the split to do.
-use Prim.Native.Nat.{ℕ}
+-- the split to do. A future is open behind it.
+use Prim.Native.Nat.{ℕ, suc}
 use mathlib.Core.Path.{_≡_, refl, sym, _∙_, ap}
 use mathlib.Core.Bool.{Bool, true, false, cond}
 use mathlib.Core.Logic.{_⊎_, inl, inr, ⊎-elim}
-use mathlib.Core.List.{List, [], _∷_}
+use mathlib.Core.List.{List, [], _∷_, _++_}
 use mathlib.Core.Option.{some}
 use native.Mathlib.Omega.{arith}
 use Rattle.graph.proofs.TestLaws.{equal?, true-false}
-use Rattle.program.specs.Encodings.{Name, firstEdition}
-use Rattle.program.specs.Located.{Code, async-at, finish-at, fork-at}
+use Rattle.program.specs.Encodings.{firstEdition}
+use Rattle.program.specs.Located.{Code, async-at, finish-at, fork-at, future-at, force-at}
 use Rattle.machine.proofs.GhostMachine.Ghost.{Do, link, hand, free, Control, draft, fresh, busy, over, State, put, goes, kindOf, commandsOf}
-use Rattle.machine.proofs.GhostMachine.Ghost.{resolved, joins, todo, woken, among, split, stirred}
+use Rattle.machine.proofs.GhostMachine.Ghost.{Kid, resolved, joins, todo, woken, among, live, split, stirred, opensBehind, scopeFor, todoOf}
+use Rattle.machine.proofs.GhostMachine.Ghost.{behindSplit}
 use Rattle.machine.proofs.GhostMachine.Invariant.{In, tasks, codeOf, waits, Shape}
 use Rattle.machine.proofs.GhostMachine.GhostLaws.{put-same, put-other, clash, EachLink, EachHand, each-link, each-hand, put-keeps, woken-keeps}
-use Rattle.machine.proofs.GhostMachine.SettledLaws.{Plans}
+use Rattle.machine.proofs.GhostMachine.GhostLaws.{EachFree, each-free, tasks-onward}
+use Rattle.machine.proofs.GhostMachine.RoadLaws.{code-onward, live-onward}
+use Rattle.machine.proofs.GhostMachine.SettledLaws.{Plans, source-below}
+
+-- the item of code c that v has under way is split: k is the new vertex, and ms are those that were made before
+abbrev pub itemSplit : State → ℕ → Code → List ℕ → Kid → State
+itemSplit S v c ms k =
+    split S v ms (behindSplit S v (ms ++ (S .count ∷ [])) c) (opensBehind (S .opens v) (ms ++ (S .count ∷ [])) c) k
 
 -- v has an item of code c, and its split with the vertices ms that were made before and a new one, whose scope is σ, leaves v with T to do
-pub record Split (L : ℕ) (S S' : State) (v : ℕ) (c : Code) (ms : List ℕ) (T : List Do) (σ : ℕ) : Type 0 where
+pub record Split (S S' : State) (v : ℕ) (c : Code) (ms : List ℕ) (T : List Do) (σ : ℕ) : Type 0 where
   pub self : S .control v ≡ busy c ms
   pub plans : Plans S S' v T
-  pub self-code : codeOf (S' .control v) ≡ some (goes L c)
+  pub counts : S' .count ≡ suc (S .count)
+  pub self-code : codeOf (S' .control v) ≡ some (goes (S .lastByte) c)
   pub waiting : (u : ℕ) → waits (S .control u) ≡ true → waits (S' .control u) ≡ true
   pub new-waits : waits (S' .control (S .count)) ≡ true
+  pub living : (u : ℕ) → (u ≡ S .count → ⊥) → live (S' .control u) ≡ live (S .control u)
   pub same : (u : ℕ) → (u ≡ v → ⊥) → (u ≡ S .count → ⊥) → among u ms ≡ false → S' .control u ≡ S .control u
+  pub same-code : (u : ℕ) → (u ≡ v → ⊥) → (u ≡ S .count → ⊥) → codeOf (S' .control u) ≡ codeOf (S .control u)
   pub same-scope : (u : ℕ) → (u ≡ S .count → ⊥) → S' .scope u ≡ S .scope u
   pub new-scope : S' .scope (S .count) ≡ σ
+  pub same-opens : (u : ℕ) → (u ≡ v → ⊥) → (u ≡ S .count → ⊥) → S' .opens u ≡ S .opens u
+  pub new-opens : S' .opens (S .count) ≡ S .opens v
+  pub self-opens : S' .opens v ≡ opensBehind (S .opens v) (ms ++ (S .count ∷ [])) c
 
 -- what the item of each kind does behind its split
-pub todo-async : (o : ℕ) (b r : Code) (σ n : ℕ) → todo σ (n ∷ []) (async-at o b r) ≡ link n σ ∷ free n ∷ []
+pub todo-async : (o : ℕ) (b r : Code) (σ f n : ℕ) → todo σ f (n ∷ []) (async-at o b r) ≡ link n σ ∷ free n ∷ []
 unfolding todo joins commandsOf kindOf resolved firstEdition
-todo-async o b r σ n = refl
+todo-async o b r σ f n = refl
 
 pub todo-finish :
-    (o : ℕ) (b r : Code) (σ m n : ℕ) → todo σ (m ∷ n ∷ []) (finish-at o b r) ≡ link n m ∷ hand m ∷ free m ∷ free n ∷ []
+    (o : ℕ) (b r : Code) (σ f m n : ℕ) → todo σ f (m ∷ n ∷ []) (finish-at o b r) ≡ link n m ∷ hand m ∷ free m ∷ free n ∷ []
 unfolding todo joins commandsOf kindOf resolved firstEdition
-todo-finish o b r σ m n = refl
+todo-finish o b r σ f m n = refl
 
 pub todo-fork :
-    (o : ℕ) (b c r : Code) (σ m m' n : ℕ)
-    → todo σ (m ∷ m' ∷ n ∷ []) (fork-at o b c r) ≡ link m n ∷ link m' n ∷ hand n ∷ free n ∷ free m ∷ free m' ∷ []
+    (o : ℕ) (b c r : Code) (σ f m m' n : ℕ)
+    → todo σ f (m ∷ m' ∷ n ∷ []) (fork-at o b c r) ≡ link m n ∷ link m' n ∷ hand n ∷ free n ∷ free m ∷ free m' ∷ []
 unfolding todo joins commandsOf kindOf resolved firstEdition
-todo-fork o b c r σ m m' n = refl
+todo-fork o b c r σ f m m' n = refl
+
+pub todo-future :
+    (o : ℕ) (b r : Code) (σ f m n : ℕ) → todo σ f (m ∷ n ∷ []) (future-at o b r) ≡ link n m ∷ free m ∷ free n ∷ []
+unfolding todo joins commandsOf kindOf resolved firstEdition
+todo-future o b r σ f m n = refl
+
+-- a force: f is the vertex that its future made first
+pub todo-force : (o i : ℕ) (b r : Code) (σ f n : ℕ) → todo σ f (n ∷ []) (force-at o i b r) ≡ link f n ∷ hand n ∷ free n ∷ []
+unfolding todo joins commandsOf kindOf resolved firstEdition
+todo-force o i b r σ f n = refl
 
 -- the edges that it plans, and the vertex that it hands over to
 pub async-links : {n σ a b : ℕ} → In (link a b) (link n σ ∷ free n ∷ []) → (a ≡ n) × (b ≡ σ)
@@ -69,6 +93,26 @@ fork-links {n} {m} {m'} i = each-link (λ a b. ((a ≡ m) ⊎ (a ≡ m')) × (b 
 pub fork-hands : {n m m' h : ℕ} → In (hand h) (link m n ∷ link m' n ∷ hand n ∷ free n ∷ free m ∷ free m' ∷ []) → h ≡ n
 unfolding EachHand
 fork-hands {n} i = each-hand (λ h. h ≡ n) _ (refl, tt) i
+
+pub future-links : {n m a b : ℕ} → In (link a b) (link n m ∷ free m ∷ free n ∷ []) → (a ≡ n) × (b ≡ m)
+unfolding EachLink
+future-links {n} {m} i = each-link (λ a b. (a ≡ n) × (b ≡ m)) _ ((refl, refl), tt) i
+
+pub future-hands : {n m h : ℕ} → In (hand h) (link n m ∷ free m ∷ free n ∷ []) → ⊥
+unfolding EachHand
+future-hands i = each-hand (λ h. ⊥) _ tt i
+
+pub force-links : {n f a b : ℕ} → In (link a b) (link f n ∷ hand n ∷ free n ∷ []) → (a ≡ f) × (b ≡ n)
+unfolding EachLink
+force-links {n} {f} i = each-link (λ a b. (a ≡ f) × (b ≡ n)) _ ((refl, refl), tt) i
+
+pub force-hands : {n f h : ℕ} → In (hand h) (link f n ∷ hand n ∷ free n ∷ []) → h ≡ n
+unfolding EachHand
+force-hands {n} i = each-hand (λ h. h ≡ n) _ (refl, tt) i
+
+pub force-frees : {n f m : ℕ} → In (free m) (link f n ∷ hand n ∷ free n ∷ []) → m ≡ n
+unfolding EachFree
+force-frees {n} i = each-free (λ m. m ≡ n) _ (refl, tt) i
 
 -- where drafts become fresh, a control is seen as before, if these two are seen alike
 pub stirred-keeps :
@@ -104,6 +148,17 @@ split-tasks f ms n v k x e u ne =
     ∙ put-keeps tasks (stirred f ms) n (fresh k) (sym (kept n ∙ e)) u
     ∙ kept u
 
+-- no vertex that was there finishes
+split-lives :
+    (f : ℕ → Control) (ms : List ℕ) (n v : ℕ) (k : Code) (x : Control) → live x ≡ live (f v) → (v ≡ n → ⊥) → (u : ℕ) → (u ≡ n → ⊥)
+    → live (put (put (stirred f ms) n (fresh k)) v x u) ≡ live (f u)
+unfolding live
+split-lives f ms n v k x e nv u nn =
+    let kept = stirred-keeps live (λ c. refl) f ms in
+    let at : live x ≡ live (put (stirred f ms) n (fresh k) v) =
+    e ∙ sym (kept v) ∙ ap live (sym (put-other (stirred f ms) n (fresh k) v nv)) in
+    put-keeps live (put (stirred f ms) n (fresh k)) v x at u ∙ ap live (put-other (stirred f ms) n (fresh k) u nn) ∙ kept u
+
 -- the code is as before, but for v and the new one
 pub split-codes :
     (f : ℕ → Control) (ms : List ℕ) (n v : ℕ) (k : Code) (x : Control) (u : ℕ) → (u ≡ v → ⊥) → (u ≡ n → ⊥)
@@ -132,28 +187,39 @@ split-new-waits f ms n v k x ne =
 
 -- the move splits the item
 pub split-of :
-    (L : ℕ) {S : State} {v : ℕ} {c : Code} {ms : List ℕ} (x : Control) (k : Code) (a : Name) (T : List Do) → Shape S
-    → S .control v ≡ busy c ms → tasks x ≡ T → codeOf x ≡ some (goes L c)
-    → Split L S (split S v ms x k a) v c ms T (resolved (S .scope v) ms a)
-unfolding tasks waits
-split-of L {S} {v} {c} {ms} x k a T sh q e d =
+    {S : State} {v : ℕ} {c : Code} {ms : List ℕ} (k : Kid) (T : List Do) → Shape S → S .control v ≡ busy c ms
+    → todoOf S v (ms ++ (S .count ∷ [])) c ≡ T → Split S (itemSplit S v c ms k) v c ms T (scopeFor S v ms k)
+unfolding tasks waits live
+split-of {S} {v} {c} {ms} k T sh q e =
     let f = S .control in
     let n = S .count in
+    let ds = todoOf S v (ms ++ (n ∷ [])) c in
+    let x = behindSplit S v (ms ++ (n ∷ [])) c in
+    let fs = opensBehind (S .opens v) (ms ++ (n ∷ [])) c in
     let new : f n ≡ over = sh .beyond n (omega arith) in
-    let at-v = put-same (put (stirred f ms) n (fresh k)) v x in
+    let nv : v ≡ n → ⊥ = λ e. let z = sym q ∙ ap f e ∙ new in clash cc in
+    let at-v = put-same (put (stirred f ms) n (fresh (k .code))) v x in
+    let lives = split-lives f ms n v (k .code) x (live-onward (goes (S .lastByte) c) ds ∙ sym (ap live q)) nv in
     record {
       self = q;
       plans =
           record {
             idle = ap tasks q;
-            plan = ap tasks at-v ∙ e;
-            others = split-tasks f ms n v k x (ap tasks new);
+            plan = ap tasks at-v ∙ tasks-onward (goes (S .lastByte) c) ds ∙ e;
+            others = split-tasks f ms n v (k .code) x (ap tasks new);
             edges = λ a b. refl;
+            lives = λ t a b i. let lt = source-below t sh i in lives a (λ e. absurd (omega (arith, lt)));
           };
-      self-code = ap codeOf at-v ∙ d;
-      waiting = split-waits f ms n v k x (ap waits q);
-      new-waits = split-new-waits f ms n v k x (λ e. let z = sym q ∙ sym (ap f e) ∙ new in clash cc);
-      same = split-same f ms n v k x;
-      same-scope = λ u nc. put-other (S .scope) n (resolved (S .scope v) ms a) u nc;
-      new-scope = put-same (S .scope) n (resolved (S .scope v) ms a);
+      counts = refl;
+      self-code = ap codeOf at-v ∙ code-onward (goes (S .lastByte) c) ds;
+      waiting = split-waits f ms n v (k .code) x (ap waits q);
+      new-waits = split-new-waits f ms n v (k .code) x (λ e. nv (sym e));
+      living = lives;
+      same = split-same f ms n v (k .code) x;
+      same-code = split-codes f ms n v (k .code) x;
+      same-scope = λ u nc. put-other (S .scope) n (scopeFor S v ms k) u nc;
+      new-scope = put-same (S .scope) n (scopeFor S v ms k);
+      same-opens = λ u nu nc. put-other (put (S .opens) n (S .opens v)) v fs u nu ∙ put-other (S .opens) n (S .opens v) u nc;
+      new-opens = put-other (put (S .opens) n (S .opens v)) v fs n (λ e. nv (sym e)) ∙ put-same (S .opens) n (S .opens v);
+      self-opens = put-same (put (S .opens) n (S .opens v)) v fs;
     }

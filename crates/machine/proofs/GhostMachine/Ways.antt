@@ -6,10 +6,11 @@ use mathlib.Core.Bool.{false}
 use mathlib.Core.Logic.{_⊎_, inl, inr, ⊎-elim}
 use Rattle.graph.proofs.TestLaws.{true-false}
 use Rattle.program.specs.Located.{Code}
-use Rattle.machine.proofs.GhostMachine.Ghost.{Do, link, Control, draft, fresh, ready, busy, joining, over, State}
+use Rattle.machine.proofs.GhostMachine.Ghost.{link, free, draft, ready, State}
 use Rattle.machine.proofs.GhostMachine.Invariant.{In, tasks, tasksOf, codeOf, waits, isNew, isDraft, Settled, held, given, planned, Way, one}
 use Rattle.machine.proofs.GhostMachine.Invariant.{more, Shape, HasItem, Roads}
-use Rattle.machine.proofs.GhostMachine.GhostLaws.{clash, draft-new, fresh-new, doer-below, in-empty}
+use Rattle.machine.proofs.GhostMachine.GhostLaws.{clash, draft-new, doer-old, doer-below, in-empty}
+use Rattle.machine.proofs.GhostMachine.SettledLaws.{source-idle}
 
 -- a way by edges that are still there
 pub way-map : {R R' : ℕ → ℕ → Type 0} {a b : ℕ} → ((x y : ℕ) → R x y → R' x y) → Way R a b → Way R' a b
@@ -30,39 +31,29 @@ way-last {R} {a = a} (more r w) =
     let (x, s, from) = way-last w in
     (x, s, inr (⊎-elim (λ e. (a, subst (λ (z : ℕ). R a z) (sym e) r)) (λ y. y) from))
 
--- a vertex that has something to do is not new
-pub doing-old : (x : Control) {d : Do} → In d (tasks x) → isNew x ≡ false
-unfolding tasks isNew
-doing-old (draft c) i = in-empty refl i
-doing-old (fresh c) i = in-empty refl i
-doing-old (ready c) i = in-empty refl i
-doing-old (busy c ms) i = refl
-doing-old (joining c d ds) i = refl
-doing-old over i = refl
-
--- No settled edge leads to a released vertex that no held edge leads to. One that is still to be made leads to a new vertex, or it leads
--- to the scope of its maker: then the maker's own way leads there, and ends with a held edge.
+-- No settled edge leads to a released vertex that no held edge leads to. One that is still to be made leads to a new vertex, as the one from
+-- an open future does, or it leads to the scope of its maker: then the maker's own way leads there, and ends with a held edge.
 pub blocked :
     {S : State} → Shape S → Roads S → (v : ℕ) (c : Code) → S .control v ≡ ready c → ((u : ℕ) → S .edge u v ≡ false)
     → (a : ℕ) → Settled S a v → ⊥
 blocked {S} sh rs v c q f a (held e n) = true-false e (f a)
 blocked {S} sh rs v c q f a (given t i e) = true-false e (f t)
-blocked {S} sh rs v c q f a (planned t i) =
+blocked {S} sh rs v c q f a (planned t i l) =
     ⊎-elim
-    (λ j. let (d, p) = sh .todo-fits t .frees v j .0 in clash cc)
+    (λ j. released t j)
     (λ e. own (subst (λ (z : ℕ). Way (Settled S) t z) (sym e) (rs .plan t a (subst (λ (z : ℕ). In (link a z) (tasksOf S t)) e i))))
     (sh .todo-fits t .link-to a v i)
   where
+    released : (u : ℕ) → In (free v) (tasksOf S u) → ⊥
+    released u j = let (d, p) = sh .todo-fits u .frees v j .0 in clash cc
+
     last : {x : ℕ} → Settled S x v → ((x ≡ t) ⊎ ((y : ℕ) × Settled S y x)) → ⊥
     last {x} (held e n) from = true-false e (f x)
     last (given u j e) from = true-false e (f u)
-    last {x} (planned u j) from =
+    last {x} (planned u j k) from =
         ⊎-elim
-        (λ e.
-        let fits = sh .todo-fits u in
-        let is-new = fresh-new (fits .frees x (fits .link-from x v j) .0 .1) in
-        true-false is-new (ap (λ (z : ℕ). isNew (S .control z)) e ∙ doing-old (S .control t) i))
-        (λ y. rs .bare u x v (y .0) j (y .1))
+        (λ e. in-empty (ap (tasksOf S) (sym e) ∙ source-idle u sh j) i)
+        (λ y. ⊎-elim (λ m. rs .bare u x v (y .0) j m (y .1)) (λ m. released u (m .frees-it)) (sh .todo-fits u .link-from x v j))
         from
 
     own : Way (Settled S) t v → ⊥
@@ -100,11 +91,11 @@ nothing-to {v = v} rs w x s = true-false (rs .into x v s) w
 pub nothing-to-draft : {S : State} {m : ℕ} {k : Code} → Shape S → S .control m ≡ draft k → (x : ℕ) → Settled S x m → ⊥
 nothing-to-draft {m = m} {k = k} sh q x (held e n) = true-false e (sh .draft-bare m x k q .0)
 nothing-to-draft {m = m} {k = k} sh q x (given t i e) = true-false e (sh .draft-bare m t k q .0)
-nothing-to-draft {S} {m} {k} sh q x (planned t i) =
+nothing-to-draft {S} {m} {k} sh q x (planned t i l) =
     ⊎-elim
     (λ j. let (c, p) = sh .todo-fits t .frees m j .0 in clash cc)
     (λ e.
     let t-below = doer-below sh t i in
-    let old = sh .scope-old t t-below (doing-old (S .control t) i) in
+    let old = sh .scope-old t t-below (doer-old (S .control t) i) in
     true-false (draft-new q) (ap (λ (z : ℕ). isNew (S .control z)) e ∙ old))
     (sh .todo-fits t .link-to x m i)

@@ -1,7 +1,7 @@
 -- The order of jobs: it holds after loading, and every move keeps it. With `in-order` of WaitLaws this is the order of the answers.
 --
 --     orders-beginning   Orders p (beginning p L)
---     orders-kept        Orders p S → Move L S v e S' → Orders p S', where p is laid and S has its invariants
+--     orders-kept        Orders p S → Move S v e S' → Orders p S', where p is laid and S has its invariants
 use Prim.Native.Nat.{ℕ}
 use mathlib.Core.Path.{_≡_, refl, sym, _∙_, subst}
 use mathlib.Core.Logic.{inr, ⊎-elim}
@@ -11,8 +11,8 @@ use native.Mathlib.Omega.{arith}
 use Rattle.program.specs.Located.{Code}
 use Rattle.program.proofs.LocatedLaws.{Laid}
 use Rattle.machine.proofs.GhostMachine.Ghost.{link, hand, free, State, done, Event, Move, begins, performs, stops, makes, splits, acts}
-use Rattle.machine.proofs.GhostMachine.Invariant.{Shape, Roads, Coded}
-use Rattle.machine.proofs.GhostMachine.GhostLaws.{splits-at}
+use Rattle.machine.proofs.GhostMachine.Invariant.{Shape, Ranks, Roads, Opened, Coded}
+use Rattle.machine.proofs.GhostMachine.GhostLaws.{in-none, splits-at}
 use Rattle.machine.proofs.GhostMachine.SettledLaws.{acts-did, link-back, link-on, hand-back, hand-on, free-back, free-on}
 use Rattle.machine.proofs.GhostMachine.RoadsKept.{roads-kept}
 use Rattle.machine.proofs.GhostMachine.Beginning.{beginning, beginning-code}
@@ -29,8 +29,9 @@ holder p L u q h j =
     (λ e e'. (e, e'))
     (λ e e'. absurd (end-job L q (subst (λ (z : Code). Job z q) (sym e') j)))
 
--- and nothing leads to it
+-- and nothing leads to it; no future is open
 pub orders-beginning : (p : Code) (L : ℕ) → Orders p (beginning p L)
+unfolding beginning
 orders-beginning p L =
     record {
       alone = λ u v q h k. first h ∙ sym (first k);
@@ -44,6 +45,8 @@ orders-beginning p L =
           absurd (omega (arith, e, beginning-settled p L s .1)))
           (λ f. subst (λ (z : Code). Pre z x q) (sym e') f)
           a;
+      awaits = λ v t b l i u q k a. in-none i;
+      awaited = λ v t b l i u q k w. in-none i;
     }
   where
     first : {u q : ℕ} → Held (beginning p L) u q → u ≡ 0
@@ -51,20 +54,24 @@ orders-beginning p L =
 
 -- every move keeps the order
 pub orders-kept :
-    {p : Code} {L v : ℕ} {S S' : State} {e : Event} → Laid p → Shape S → Roads S → Coded p S → Orders p S → Move L S v e S' → Orders p S'
+    {p : Code} {v : ℕ} {S S' : State} {e : Event} → Laid p → Shape S → Opened S → Ranks S → Roads S → Coded p S → Orders p S → Move S v e S'
+    → Orders p S'
 unfolding done
-orders-kept lp sh rs cd os (begins q f) = begins-orders os q
-orders-kept lp sh rs cd os (performs q) = performs-orders lp cd os q
-orders-kept lp sh rs cd os (stops q) = stops-orders rs os q
-orders-kept {S = S} lp sh rs cd os (makes {ms = ms} {k = k} q w) = makes-orders k (ms ++ (S .count ∷ [])) _ _ _ sh os q
-orders-kept {p} {L} lp sh rs cd os (splits {c = c} {ms = ms} q w) =
-    splits-orders p L lp cd sh rs (roads-kept sh rs (splits q w)) os q (splits-at c ms w)
-orders-kept lp sh rs cd os (acts {d = link a b} q) =
+orders-kept lp sh op rk rs cd os (begins q f) = begins-orders os q
+orders-kept lp sh op rk rs cd os (performs q) = performs-orders lp cd os q
+orders-kept lp sh op rk rs cd os (stops q) = stops-orders rs os q
+orders-kept {S = S} lp sh op rk rs cd os (makes {ms = ms} {k = k} q w) = makes-orders k (ms ++ (S .count ∷ [])) sh os q
+orders-kept {p} {S = S} lp sh op rk rs cd os (splits {c = c} {ms = ms} q w) =
+    splits-orders p lp cd sh op rk rs (roads-kept sh op rs (splits q w)) os q (splits-at (S .lastByte) c ms w)
+orders-kept lp sh op rk rs cd os (acts {d = link a b} q) =
     let D = acts-did q in
     acts-orders os q (λ u. refl) (λ u. refl) (λ x y. link-back sh D (λ x y. refl)) (λ x y. link-on sh D (λ x y. refl))
-orders-kept lp sh rs cd os (acts {d = hand h} q) =
+    (λ t b w l i. (w, l, i))
+orders-kept lp sh op rk rs cd os (acts {d = hand h} q) =
     let D = acts-did q in
     acts-orders os q (λ u. refl) (λ u. refl) (λ x y. hand-back sh D (λ x y. refl)) (λ x y. hand-on sh D (λ x y. refl))
-orders-kept lp sh rs cd os (acts {d = free m} q) =
+    (λ t b w l i. (w, l, i))
+orders-kept lp sh op rk rs cd os (acts {d = free m} q) =
     let D = acts-did q in
     acts-orders os q (λ u. refl) (λ u. refl) (λ x y. free-back D (λ x y. refl)) (λ x y. free-on D (λ x y. refl))
+    (λ t b w l i. (w, l, i))

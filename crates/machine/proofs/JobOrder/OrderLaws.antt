@@ -1,55 +1,94 @@
--- The laws of `Job`, `InS` and `Pre`, by induction on code, so that proofs above need not look into it:
+-- The laws of `Job`, `InA`, `InS` and `Pre`, by induction on code, so that proofs above need not look into it:
 --
---     ins-job          InS c p → Job c p
---     pre-job          Pre c p q → Job c p × Job c q
+--     ins-ina          InS c p → InA c p
+--     pre-job          Pre c p q → Job c q; the job at p may stand elsewhere, in a future's body that is read at a force
+--     job-item, ina-item, ins-item    code with a job, and code that waits for one, starts with an item
 -- and in laid code
 --     job-range        Job c p → startOf c ≤ p, p < last c
---     job-before       a job stands before the jobs behind it; async-before, finish-before, left-before, right-before: so do the jobs of a
---                      body before those behind its item; fork-before: and the jobs of a fork's left body before those of its right one
---     pre-less         Pre c p q → p < q
+--     job-before       a job stands before the jobs behind it; async-before, finish-before, future-before, left-before, right-before: so do
+--                      the jobs of a body before those behind its item; fork-before: and the jobs of a fork's left body before those of its
+--                      right one
 --     pre-not-first    Pre c p (startOf c) → ⊥
 -- and in any code
 --     code-job         Job c p → Job m p, where codeAt m o ≡ some c
---     written-job      Written t p n → Job (locate 0 t) p
-use Prim.Native.Nat.{ℕ, suc, _<_, _≤_}
-use mathlib.Core.Path.{_≡_, refl}
-use mathlib.Core.Logic.{inl, inr}
-use mathlib.Core.Option.{some}
+--     written-job      Written t p n → Job (located t) p
+-- and where each force has the body of its future, `Opens env c`, and so have the forces in these bodies, `Nested env`
+--     open-nth         the body of a force is one of env, and its own forces have bodies of those behind it
+--     ina-job          InA c p → Job c p, or the job at p is in one of the bodies of env
+use Prim.Native.Nat.{ℕ, zero, suc, _<_, _≤_}
+use mathlib.Core.Path.{_≡_, refl, sym, subst}
+use mathlib.Core.Bool.{true}
+use mathlib.Core.Logic.{_⊎_, inl, inr, ⊎-elim}
+use mathlib.Core.List.{List, [], _∷_}
+use mathlib.Core.Option.{some, Option·some-injective, Option·none-ne-some}
 use native.Mathlib.Omega.{arith}
 use Rattle.program.specs.Trees.{Body}
-use Rattle.program.specs.Located.{Code, job-at, async-at, finish-at, fork-at, locate, startOf, last, codeAt}
+use Rattle.program.specs.Located.{Code, end-at, job-at, async-at, finish-at, fork-at, future-at, force-at, located, startOf, last, codeAt}
 use Rattle.program.proofs.LocatedLaws.{Inner, job-rest, async-body, async-rest, finish-body, finish-rest, fork-left, fork-right, fork-rest}
-use Rattle.program.proofs.LocatedLaws.{Part, itself, inside, Laid, code-laid, code-part, part-code}
+use Rattle.program.proofs.LocatedLaws.{future-body, future-rest, force-rest, Part, itself, inside, Laid, code-part}
+use Rattle.program.proofs.OpenLaws.{nthOpen, Opens}
 use Rattle.machine.specs.Demand3.{Written, written}
-use Rattle.machine.proofs.JobOrder.Order.{Job, InS, Pre}
+use Rattle.machine.proofs.GhostMachine.Invariant.{isItem}
+use Rattle.machine.proofs.JobOrder.Order.{Job, InA, InS, Pre}
 
--- what is waited for is a job of the code
-pub ins-job : (c : Code) (p : ℕ) → InS c p → Job c p
-unfolding Job InS
-ins-job (job-at o n r) p (inl e) = inl e
-ins-job (job-at o n r) p (inr i) = inr (ins-job r p i)
-ins-job (async-at o b r) p i = inr (ins-job r p i)
-ins-job (finish-at o b r) p (inl j) = inl j
-ins-job (finish-at o b r) p (inr i) = inr (ins-job r p i)
-ins-job (fork-at o b c r) p (inl i) = inl (ins-job b p i)
-ins-job (fork-at o b c r) p (inr (inl i)) = inr (inl (ins-job c p i))
-ins-job (fork-at o b c r) p (inr (inr i)) = inr (inr (ins-job r p i))
+-- whoever waits for some of the code is in a finish that waits for it
+pub ins-ina : (c : Code) (p : ℕ) → InS c p → InA c p
+unfolding InA InS
+ins-ina (job-at o n r) p (inl e) = inl e
+ins-ina (job-at o n r) p (inr i) = inr (ins-ina r p i)
+ins-ina (async-at o b r) p i = inr (ins-ina r p i)
+ins-ina (finish-at o b r) p (inl j) = inl j
+ins-ina (finish-at o b r) p (inr i) = inr (ins-ina r p i)
+ins-ina (fork-at o b c r) p (inl i) = inl (ins-ina b p i)
+ins-ina (fork-at o b c r) p (inr (inl i)) = inr (inl (ins-ina c p i))
+ins-ina (fork-at o b c r) p (inr (inr i)) = inr (inr (ins-ina r p i))
+ins-ina (future-at o b r) p i = ins-ina r p i
+ins-ina (force-at o n b r) p (inl j) = inl j
+ins-ina (force-at o n b r) p (inr i) = inr (ins-ina r p i)
 
--- and so are the two that are ordered
-pub pre-job : (c : Code) (p q : ℕ) → Pre c p q → Job c p × Job c q
+-- the later one of two that are ordered is a job of the code
+pub pre-job : (c : Code) (p q : ℕ) → Pre c p q → Job c q
 unfolding Job Pre
-pre-job (job-at o n r) p q (inl (e, j)) = (inl e, inr j)
-pre-job (job-at o n r) p q (inr h) = let (i, j) = pre-job r p q h in (inr i, inr j)
-pre-job (async-at o b r) p q (inl h) = let (i, j) = pre-job b p q h in (inl i, inl j)
-pre-job (async-at o b r) p q (inr h) = let (i, j) = pre-job r p q h in (inr i, inr j)
-pre-job (finish-at o b r) p q (inl (i, j)) = (inl i, inr j)
-pre-job (finish-at o b r) p q (inr (inl h)) = let (i, j) = pre-job b p q h in (inl i, inl j)
-pre-job (finish-at o b r) p q (inr (inr h)) = let (i, j) = pre-job r p q h in (inr i, inr j)
-pre-job (fork-at o b c r) p q (inl (inl i, j)) = (inl (ins-job b p i), inr (inr j))
-pre-job (fork-at o b c r) p q (inl (inr i, j)) = (inr (inl (ins-job c p i)), inr (inr j))
-pre-job (fork-at o b c r) p q (inr (inl h)) = let (i, j) = pre-job b p q h in (inl i, inl j)
-pre-job (fork-at o b c r) p q (inr (inr (inl h))) = let (i, j) = pre-job c p q h in (inr (inl i), inr (inl j))
-pre-job (fork-at o b c r) p q (inr (inr (inr h))) = let (i, j) = pre-job r p q h in (inr (inr i), inr (inr j))
+pre-job (job-at o n r) p q (inl (e, j)) = inr j
+pre-job (job-at o n r) p q (inr h) = inr (pre-job r p q h)
+pre-job (async-at o b r) p q (inl h) = inl (pre-job b p q h)
+pre-job (async-at o b r) p q (inr h) = inr (pre-job r p q h)
+pre-job (finish-at o b r) p q (inl (i, j)) = inr j
+pre-job (finish-at o b r) p q (inr (inl h)) = inl (pre-job b p q h)
+pre-job (finish-at o b r) p q (inr (inr h)) = inr (pre-job r p q h)
+pre-job (fork-at o b c r) p q (inl (i, j)) = inr (inr j)
+pre-job (fork-at o b c r) p q (inr (inl h)) = inl (pre-job b p q h)
+pre-job (fork-at o b c r) p q (inr (inr (inl h))) = inr (inl (pre-job c p q h))
+pre-job (fork-at o b c r) p q (inr (inr (inr h))) = inr (inr (pre-job r p q h))
+pre-job (future-at o b r) p q (inl h) = inl (pre-job b p q h)
+pre-job (future-at o b r) p q (inr h) = inr (pre-job r p q h)
+pre-job (force-at o n b r) p q (inl (i, j)) = j
+pre-job (force-at o n b r) p q (inr h) = pre-job r p q h
+
+-- code with a job starts with an item
+pub job-item : (c : Code) (p : ℕ) → Job c p → isItem c ≡ true
+unfolding Job isItem
+job-item (end-at o) p h = absurd h
+job-item (job-at o n r) p h = refl
+job-item (async-at o b r) p h = refl
+job-item (finish-at o b r) p h = refl
+job-item (fork-at o b c r) p h = refl
+job-item (future-at o b r) p h = refl
+job-item (force-at o n b r) p h = refl
+
+-- and so does code that waits for one
+pub ina-item : (c : Code) (p : ℕ) → InA c p → isItem c ≡ true
+unfolding InA isItem
+ina-item (end-at o) p h = absurd h
+ina-item (job-at o n r) p h = refl
+ina-item (async-at o b r) p h = refl
+ina-item (finish-at o b r) p h = refl
+ina-item (fork-at o b c r) p h = refl
+ina-item (future-at o b r) p h = refl
+ina-item (force-at o n b r) p h = refl
+
+pub ins-item : (c : Code) (p : ℕ) → InS c p → isItem c ≡ true
+ins-item c p i = ina-item c p (ins-ina c p i)
 
 -- the jobs of laid code stand from its start on and before its end
 pub job-range : (c : Code) (p : ℕ) → Laid c → Job c p → (startOf c ≤ p) × (p < last c)
@@ -77,6 +116,13 @@ job-range (fork-at o b c r) p (l, kb, kc, kr) (inr (inl j)) =
 job-range (fork-at o b c r) p (l, kb, kc, kr) (inr (inr j)) =
     let (s, e) = job-range r p kr j in
     (omega (arith, l .starts, l .left, l .between, l .right, l .ends, s), e)
+job-range (future-at o b r) p (l, kb, kr) (inl j) =
+    let (s, e) = job-range b p kb j in
+    (omega (arith, l .starts, s), omega (arith, l .ends, l .rest, e))
+job-range (future-at o b r) p (l, kb, kr) (inr j) =
+    let (s, e) = job-range r p kr j in
+    (omega (arith, l .starts, l .body, l .ends, s), e)
+job-range (force-at o n b r) p (l, k) j = let (s, e) = job-range r p k j in (omega (arith, l .starts, s), e)
 
 -- of two codes that stand one behind the other so do the jobs
 codes-apart : (b r : Code) (p q : ℕ) → Laid b → Laid r → suc (last b) ≤ startOf r → Job b p → Job r q → p < q
@@ -97,6 +143,11 @@ pub finish-before : (o : ℕ) (b r : Code) (p q : ℕ) → Laid (finish-at o b r
 unfolding Laid
 finish-before o b r p q (l, kb, kr) i j = codes-apart b r p q kb kr (omega (arith, l .ends)) i j
 
+-- and those of a future's body
+pub future-before : (o : ℕ) (b r : Code) (p q : ℕ) → Laid (future-at o b r) → Job b p → Job r q → p < q
+unfolding Laid
+future-before o b r p q (l, kb, kr) i j = codes-apart b r p q kb kr (omega (arith, l .ends)) i j
+
 -- the jobs of a fork's left body stand before those of its right one
 pub fork-before : (o : ℕ) (b c r : Code) (p q : ℕ) → Laid (fork-at o b c r) → Job b p → Job c q → p < q
 unfolding Laid
@@ -112,30 +163,31 @@ pub right-before : (o : ℕ) (b c r : Code) (p q : ℕ) → Laid (fork-at o b c 
 unfolding Laid
 right-before o b c r p q (l, kb, kc, kr) i j = codes-apart c r p q kc kr (omega (arith, l .ends)) i j
 
--- what is right inside laid code is laid
-laid-inner : {m d : Code} → Inner m d → Laid m → Laid d
-laid-inner {m} {d} i l = code-laid m (startOf d) l (part-code (inside i itself) l)
+-- a job that others are ahead of stands behind the start
+pre-later : (c : Code) (p q : ℕ) → Laid c → Pre c p q → startOf c < q
+unfolding Pre Laid startOf
+pre-later (job-at o n r) p q l (inl (e, j)) = job-before o n r q l j
+pre-later (job-at o n r) p q (l, k) (inr h) = omega (arith, l .starts, pre-later r p q k h)
+pre-later (async-at o b r) p q (l, kb, kr) (inl h) = omega (arith, l .starts, pre-later b p q kb h)
+pre-later (async-at o b r) p q (l, kb, kr) (inr h) = omega (arith, l .starts, l .body, l .ends, pre-later r p q kr h)
+pre-later (finish-at o b r) p q (l, kb, kr) (inl (i, j)) = omega (arith, l .starts, l .body, l .ends, job-range r q kr j .0)
+pre-later (finish-at o b r) p q (l, kb, kr) (inr (inl h)) = omega (arith, l .starts, pre-later b p q kb h)
+pre-later (finish-at o b r) p q (l, kb, kr) (inr (inr h)) = omega (arith, l .starts, l .body, l .ends, pre-later r p q kr h)
+pre-later (fork-at o b c r) p q (l, kb, kc, kr) (inl (i, j)) =
+    omega (arith, l .starts, l .left, l .between, l .right, l .ends, job-range r q kr j .0)
+pre-later (fork-at o b c r) p q (l, kb, kc, kr) (inr (inl h)) = omega (arith, l .starts, pre-later b p q kb h)
+pre-later (fork-at o b c r) p q (l, kb, kc, kr) (inr (inr (inl h))) =
+    omega (arith, l .starts, l .left, l .between, pre-later c p q kc h)
+pre-later (fork-at o b c r) p q (l, kb, kc, kr) (inr (inr (inr h))) =
+    omega (arith, l .starts, l .left, l .between, l .right, l .ends, pre-later r p q kr h)
+pre-later (future-at o b r) p q (l, kb, kr) (inl h) = omega (arith, l .starts, pre-later b p q kb h)
+pre-later (future-at o b r) p q (l, kb, kr) (inr h) = omega (arith, l .starts, l .body, l .ends, pre-later r p q kr h)
+pre-later (force-at o n b r) p q (l, k) (inl (i, j)) = omega (arith, l .starts, job-range r q k j .0)
+pre-later (force-at o n b r) p q (l, k) (inr h) = omega (arith, l .starts, pre-later r p q k h)
 
--- what is ahead stands before
-pub pre-less : (c : Code) (p q : ℕ) → Laid c → Pre c p q → p < q
-unfolding Pre
-pre-less (job-at o n r) p q l (inl (e, j)) = omega (arith, e, job-before o n r q l j)
-pre-less (job-at o n r) p q l (inr h) = pre-less r p q (laid-inner job-rest l) h
-pre-less (async-at o b r) p q l (inl h) = pre-less b p q (laid-inner async-body l) h
-pre-less (async-at o b r) p q l (inr h) = pre-less r p q (laid-inner async-rest l) h
-pre-less (finish-at o b r) p q l (inl (i, j)) = finish-before o b r p q l i j
-pre-less (finish-at o b r) p q l (inr (inl h)) = pre-less b p q (laid-inner finish-body l) h
-pre-less (finish-at o b r) p q l (inr (inr h)) = pre-less r p q (laid-inner finish-rest l) h
-pre-less (fork-at o b c r) p q l (inl (inl i, j)) = left-before o b c r p q l (ins-job b p i) j
-pre-less (fork-at o b c r) p q l (inl (inr i, j)) = right-before o b c r p q l (ins-job c p i) j
-pre-less (fork-at o b c r) p q l (inr (inl h)) = pre-less b p q (laid-inner fork-left l) h
-pre-less (fork-at o b c r) p q l (inr (inr (inl h))) = pre-less c p q (laid-inner fork-right l) h
-pre-less (fork-at o b c r) p q l (inr (inr (inr h))) = pre-less r p q (laid-inner fork-rest l) h
-
--- nothing is ahead of a job that stands first
+-- so nothing is ahead of a job that stands first
 pub pre-not-first : (c : Code) (p : ℕ) → Laid c → Pre c p (startOf c) → ⊥
-pre-not-first c p l h =
-    absurd (omega (arith, pre-less c p (startOf c) l h, job-range c p l (pre-job c p (startOf c) h .0) .0))
+pre-not-first c p l h = absurd (omega (arith, pre-later c p (startOf c) l h))
 
 -- the jobs of what is right inside are jobs of the whole
 inner-job : {m d : Code} (p : ℕ) → Inner m d → Job d p → Job m p
@@ -148,6 +200,9 @@ inner-job p finish-rest j = inr j
 inner-job p fork-left j = inl j
 inner-job p fork-right j = inr (inl j)
 inner-job p fork-rest j = inr (inr j)
+inner-job p future-body j = inl j
+inner-job p future-rest j = inr j
+inner-job p force-rest j = j
 
 -- so are those of any part
 part-job : {m c : Code} (p : ℕ) → Part m c → Job c p → Job m p
@@ -159,6 +214,46 @@ pub code-job : (m : Code) (o : ℕ) {c : Code} (p : ℕ) → codeAt m o ≡ some
 code-job m o p h j = part-job p (code-part m o h) j
 
 -- so a written job is one of the program's
-pub written-job : (t : Body) (p n : ℕ) → Written t p n → Job (locate 0 t) p
+pub written-job : (t : Body) (p n : ℕ) → Written t p n → Job (located t) p
 unfolding Job
-written-job t p n (written r h) = code-job (locate 0 t) p p h (inl refl)
+written-job t p n (written r h) = code-job (located t) p p h (inl refl)
+
+-- the job at p is in one of these bodies
+unfoldable pub JobIn : List Code → ℕ → Type 0
+JobIn [] p = ⊥
+JobIn (b ∷ env) p = Job b p ⊎ JobIn env p
+
+-- each force in these bodies has the body of its future: where a body stands, those behind it are open
+unfoldable pub Nested : List Code → Type 0
+Nested [] = Unit {0}
+Nested (b ∷ env) = Opens env b × Nested env
+
+-- the body that a force has is one of those that are open, where fewer are
+pub open-nth :
+    {P : Type 0} (env : List Code) (n p : ℕ) {b : Code} → Nested env → nthOpen env n ≡ some b
+    → ((env' : List Code) → Opens env' b → Nested env' → (Job b p ⊎ JobIn env' p → JobIn env p) → P) → P
+unfolding nthOpen Nested JobIn
+open-nth [] n p {b} h e f = absurd (Option·none-ne-some b e)
+open-nth (d ∷ env) zero p {b} h e f =
+    let same : d ≡ b = Option·some-injective d b e in
+    f env (subst (λ (x : Code). Opens env x) same (h .0)) (h .1)
+    (⊎-elim (λ j. inl (subst (λ (x : Code). Job x p) (sym same) j)) inr)
+open-nth (d ∷ env) (suc n) p h e f = open-nth env n p (h .1) e (λ env' o k g. f env' o k (λ j. inr (g j)))
+
+-- what is waited for is a job of the code, or one of an open future's body
+pub ina-job : (env : List Code) (c : Code) (p : ℕ) → Opens env c → Nested env → InA c p → Job c p ⊎ JobIn env p
+unfolding Opens Job InA Nested JobIn
+ina-job env (job-at o n r) p h k (inl e) = inl (inl e)
+ina-job env (job-at o n r) p h k (inr i) = ⊎-elim (λ j. inl (inr j)) inr (ina-job env r p h k i)
+ina-job env (async-at o b r) p h k (inl i) = ⊎-elim (λ j. inl (inl j)) inr (ina-job env b p (h .0) k i)
+ina-job env (async-at o b r) p h k (inr i) = ⊎-elim (λ j. inl (inr j)) inr (ina-job env r p (h .1) k i)
+ina-job env (finish-at o b r) p h k (inl i) = ⊎-elim (λ j. inl (inl j)) inr (ina-job env b p (h .0) k i)
+ina-job env (finish-at o b r) p h k (inr i) = ⊎-elim (λ j. inl (inr j)) inr (ina-job env r p (h .1) k i)
+ina-job env (fork-at o b c r) p h k (inl i) = ⊎-elim (λ j. inl (inl j)) inr (ina-job env b p (h .0) k i)
+ina-job env (fork-at o b c r) p h k (inr (inl i)) = ⊎-elim (λ j. inl (inr (inl j))) inr (ina-job env c p (h .1 .0) k i)
+ina-job env (fork-at o b c r) p h k (inr (inr i)) = ⊎-elim (λ j. inl (inr (inr j))) inr (ina-job env r p (h .1 .1) k i)
+ina-job env (future-at o b r) p h k i =
+    ⊎-elim (λ j. inl (inr j)) (⊎-elim (λ j. inl (inl j)) inr) (ina-job (b ∷ env) r p (h .1) (h .0, k) i)
+ina-job env (force-at o n b r) p h k (inl i) =
+    open-nth env n p k (h .0) (λ env' o k' f. inr (f (ina-job env' b p o k' i)))
+ina-job env (force-at o n b r) p h k (inr i) = ina-job env r p (h .1) k i

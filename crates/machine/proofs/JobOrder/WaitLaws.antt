@@ -1,4 +1,4 @@
--- What a vertex holds, and what it waits for. A vertex that holds a job has a way to its scope, so an edge leads to whoever waits for a
+-- What a vertex holds, and what it waits for. A vertex that holds an item has a way to its scope, so an edge leads to whoever waits for a
 -- job, and a vertex that executes waits for none. Hence `in-order`: a job that is answered has nothing ahead of it that is still to be
 -- answered.
 use Prim.Native.Nat.{ℕ}
@@ -8,7 +8,7 @@ use mathlib.Core.Logic.{inl, ⊎-elim}
 use mathlib.Core.List.{List, []}
 use mathlib.Core.Option.{some, Option·some-injective, Option·none-ne-some}
 use native.Mathlib.Omega.{arith}
-use Rattle.program.specs.Located.{Code, end-at, job-at, async-at, finish-at, fork-at, startOf}
+use Rattle.program.specs.Located.{Code, end-at, job-at, startOf}
 use Rattle.program.proofs.LocatedLaws.{Laid, code-laid}
 use Rattle.machine.proofs.GhostMachine.Ghost.{Do, Control, draft, fresh, ready, busy, joining, over, State, onward}
 use Rattle.machine.proofs.GhostMachine.Invariant.{codeOf, isItem, waits, isDraft, Settled, Way, Roads, Coded}
@@ -16,21 +16,12 @@ use Rattle.machine.proofs.GhostMachine.GhostLaws.{onward-cases}
 use Rattle.machine.proofs.GhostMachine.RoadLaws.{busy-waits}
 use Rattle.machine.proofs.GhostMachine.Ways.{way-last, nothing-to}
 use Rattle.machine.proofs.JobOrder.Order.{Job, Pre, holds, Held, Waits, for-way, for-scope, for-scopes-way, Orders}
-use Rattle.machine.proofs.JobOrder.OrderLaws.{job-before, pre-not-first}
+use Rattle.machine.proofs.JobOrder.OrderLaws.{ina-item, job-before, pre-not-first}
 
 -- an end byte is no job
 pub end-job : (o p : ℕ) → Job (end-at o) p → ⊥
 unfolding Job
 end-job o p h = h
-
--- code with a job starts with an item
-pub job-has-item : (c : Code) (p : ℕ) → Job c p → isItem c ≡ true
-unfolding Job isItem
-job-has-item (end-at o) p h = absurd h
-job-has-item (job-at o n r) p h = refl
-job-has-item (async-at o b r) p h = refl
-job-has-item (finish-at o b r) p h = refl
-job-has-item (fork-at o b c r) p h = refl
 
 -- what a vertex holds is its code, and it is no draft
 pub holds-code : (x : Control) {c : Code} → holds x ≡ some c → (codeOf x ≡ some c) × (isDraft x ≡ false)
@@ -51,21 +42,21 @@ pub holds-onward : (c : Code) (ds : List Do) → holds (onward c ds) ≡ some c
 unfolding holds
 holds-onward c = onward-cases (λ x. holds x ≡ some c) c refl (λ d ds. refl)
 
--- a vertex that holds a job has a way to its scope
+-- a vertex that holds an item has a way to its scope
 pub held-way :
-    {S : State} {u : ℕ} {c : Code} (p : ℕ) → Roads S → holds (S .control u) ≡ some c → Job c p → Way (Settled S) u (S .scope u)
-held-way {S} {u} {c} p rs h j = let (k, d) = holds-code (S .control u) h in rs .way u c (k, job-has-item c p j) d
+    {S : State} {u : ℕ} {c : Code} → Roads S → holds (S .control u) ≡ some c → isItem c ≡ true → Way (Settled S) u (S .scope u)
+held-way {S} {u} {c} rs h i = let (k, d) = holds-code (S .control u) h in rs .way u c (k, i) d
 
 -- so an edge leads to its scope
 pub scope-led :
-    {S : State} (u : ℕ) {c : Code} (p : ℕ) → Roads S → holds (S .control u) ≡ some c → Job c p
-    → (x : ℕ) × Settled S x (S .scope u)
-scope-led u p rs h j = let (x, s, from) = way-last (held-way p rs h j) in (x, s)
+    {S : State} (u : ℕ) {c : Code} → Roads S → holds (S .control u) ≡ some c → isItem c ≡ true → (x : ℕ) × Settled S x (S .scope u)
+scope-led u rs h i = let (x, s, from) = way-last (held-way rs h i) in (x, s)
 
 -- and one leads to whoever waits for a job
 pub waits-led : {S : State} {v p : ℕ} → Roads S → Waits S v p → (x : ℕ) × Settled S x v
 waits-led rs (for-way u c h w i) = let (x, s, from) = way-last w in (x, s)
-waits-led {S} {p = p} rs (for-scope u c h e j) = subst (λ (z : ℕ). (x : ℕ) × Settled S x z) e (scope-led u p rs h j)
+waits-led {S} {p = p} rs (for-scope u c h e j) =
+    subst (λ (z : ℕ). (x : ℕ) × Settled S x z) e (scope-led u rs h (ina-item c p j))
 waits-led rs (for-scopes-way u c h w j) = let (x, s, from) = way-last w in (x, s)
 
 -- a vertex that executes waits for nothing

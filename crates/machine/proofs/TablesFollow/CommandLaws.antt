@@ -1,5 +1,5 @@
 -- The single commands that steps do: when each is taken, by what holds of the state that the tables follow, and what a step by a command
--- that is taken says and leaves. No path closes because edges lead to higher ranks.
+-- that is taken says and leaves. No path closes because edges lead to higher ranks. The edge of a force whose future is finished adds nothing.
 use Prim.Native.Nat.{ℕ, _<_, _≤_}
 use mathlib.Core.Path.{_≡_, refl, sym, _∙_, ap, subst}
 use mathlib.Core.Bool.{true, false}
@@ -10,6 +10,7 @@ use lib.Dec.{ltb}
 use borrow.Author.Tests.{ltb-true, ltb-false, eqb-true}
 use Rattle.graph.specs.Tables.{Lent, NEW, RELEASED, EXECUTING, FINISHED, edgeRows, status, source}
 use Rattle.graph.specs.Sound.{sound}
+use Rattle.graph.specs.Demand2.{AddsNothing}
 use Rattle.graph.specs.Paths.{holds, leadsInto, reaches}
 use Rattle.graph.specs.declared.Command.{Command}
 use Rattle.graph.specs.declared.Command.the-variants.{NewEdge, Release, Transfer, Start}
@@ -23,8 +24,8 @@ use Rattle.graph.proofs.Demand2.{stays-sound}
 use Rattle.program.specs.Located.{Code}
 use Rattle.machine.specs.Answers.{StepSaid, oneStep, saidAs}
 use Rattle.machine.specs.Stepping.{Own, command-due, withOwn, doDue}
-use Rattle.machine.proofs.GhostMachine.Ghost.{Do, link, hand, free, Control, draft, fresh, ready, busy, joining, over, State}
-use Rattle.machine.proofs.GhostMachine.Invariant.{In, here, tasks, tasksOf, waits, planned, Shape, Ranks, Roads}
+use Rattle.machine.proofs.GhostMachine.Ghost.{Do, link, hand, free, Control, draft, fresh, ready, busy, joining, over, State, live}
+use Rattle.machine.proofs.GhostMachine.Invariant.{In, here, tasks, tasksOf, waits, Forces, planned, Shape, Ranks, Roads}
 use Rattle.machine.proofs.GhostMachine.Acyclic.{path-rises}
 use Rattle.machine.proofs.TablesFollow.Follows.{Follows}
 use Rattle.machine.proofs.TablesFollow.FollowLaws.{statusOf, follows-status}
@@ -51,9 +52,9 @@ into-from e n v h =
     (source e i, subst (λ (z : ℕ). holds e n (source e i) z ≡ true) (eqb-true _ _ q) (holds-at e n i lt))
 
 -- a vertex with an unfinished status is made
-pub live : (S : State) → Shape S → (v n : ℕ) → statusOf (S .control v) ≡ n → n < FINISHED → v < S .count
+made-of : (S : State) → Shape S → (v n : ℕ) → statusOf (S .control v) ≡ n → n < FINISHED → v < S .count
 unfolding statusOf
-live S shape v n q lt =
+made-of S shape v n q lt =
     ⊎-elim (λ h. ltb-true v (S .count) h)
     (λ h. let z : statusOf (S .control v) ≡ FINISHED = ap statusOf (shape .beyond v (ltb-false v (S .count) h)) in absurd (omega arith))
     (decide (ltb v (S .count)))
@@ -68,10 +69,33 @@ waits-status (busy c ms) h = true-false h refl
 waits-status (joining c d ds) h = true-false h refl
 waits-status over h = true-false h refl
 
--- a fresh vertex is new
+-- a fresh vertex is new, and not finished
 fresh-status : {x : Control} {c : Code} → x ≡ fresh c → statusOf x ≡ NEW
 unfolding statusOf
 fresh-status q = ap statusOf q
+
+fresh-live : {x : Control} {c : Code} → x ≡ fresh c → live x ≡ true
+unfolding live
+fresh-live q = ap live q
+
+-- the status tells who is finished
+live-status : (x : Control) → live x ≡ true → statusOf x < FINISHED
+unfolding live statusOf
+live-status (draft c) h = omega arith
+live-status (fresh c) h = omega arith
+live-status (ready c) h = omega arith
+live-status (busy c ms) h = omega arith
+live-status (joining c d ds) h = omega arith
+live-status over h = true-false h refl
+
+over-status : (x : Control) → live x ≡ false → statusOf x ≡ FINISHED
+unfolding live statusOf
+over-status (draft c) h = true-false refl h
+over-status (fresh c) h = true-false refl h
+over-status (ready c) h = true-false refl h
+over-status (busy c ms) h = true-false refl h
+over-status (joining c d ds) h = true-false refl h
+over-status over h = refl
 
 -- the command at the head of what is left to do
 pub first-task : (S : State) (v : ℕ) {c : Code} {d : Do} {ds : List Do} → S .control v ≡ joining c d ds → In d (tasksOf S v)
@@ -82,7 +106,7 @@ module _ {p : Code} {L : ℕ} {s : Lent} {S : State} (shape : Shape S) (F : Foll
   -- a vertex's row, by what the vertex is at
   pub stands : (v n : ℕ) → statusOf (S .control v) ≡ n → n < FINISHED → (v < s .made) × (status (s .vertices) v ≡ n)
   stands v n q lt =
-      let made = live S shape v n q lt in
+      let made = made-of S shape v n q lt in
       (subst (λ (k : ℕ). v < k) (sym (F .made-is)) made, follows-status s S v F made ∙ q)
 
   -- one that executes may give commands
@@ -112,36 +136,78 @@ module _ {p : Code} {L : ℕ} {s : Lent} {S : State} (shape : Shape S) (F : Foll
       not-so (reaches (s .edges) (s .held) a b)
       (λ h. absurd (omega (arith, le, path-rises shape ranks (F .edges-are) (reaches-path (s .edges) (s .held) a b h) .0)))
 
-  -- newEdge, which appends its edge: no step names one that is held, or one out of a finished vertex
+  -- the source of an edge that is still to be made
+  source-made : (v a b : ℕ) → In (link a b) (tasksOf S v) → a < S .count
+  source-made v a b i =
+      ⊎-elim
+      (λ f. made-of S shape a NEW (new-of v a f) (omega arith))
+      (λ f. f .there)
+      (shape .todo-fits v .link-from a b i)
+
+  abbrev WaitsIn : ℕ → Type 0
+  WaitsIn b = (b < s .made) × ((status (s .vertices) b ≡ NEW) ⊎ (status (s .vertices) b ≡ RELEASED))
+
+  -- newEdge from a vertex that is not finished appends its edge: no step names one that is held
   pub takes-edge :
-      Ranks S → Roads S → (v a b : ℕ) → statusOf (S .control v) ≡ EXECUTING → In (link a b) (tasksOf S v)
+      Ranks S → Roads S → (v a b : ℕ) → statusOf (S .control v) ≡ EXECUTING → In (link a b) (tasksOf S v) → live (S .control a) ≡ true
       → s .held < edgeRows (s .edges) → Taken (NewEdge v a b) s × Adds s a b
-  takes-edge ranks roads v a b q i room =
-      let tasks = shape .todo-fits v in
-      let new-a = new-of v a (tasks .link-from a b i) in
-      let (made-a, status-a) = stands a NEW new-a (omega arith) in
-      let le-a = ranks .rank-le a (live S shape a NEW new-a (omega arith)) in
+  takes-edge ranks roads v a b q i unfinished room =
+      let made-a = source-made v a b i in
+      let status-a = follows-status s S a F made-a in
+      let le-a = ranks .rank-le a made-a in
       let up = ranks .link-rank v a b i in
-      let waiting = waits-status (S .control b) (roads .into a b (planned v i)) in
+      let waiting = waits-status (S .control b) (roads .into a b (planned v i unfinished)) in
       let (made-b, status-b) = target-of waiting in
       let adds : Adds s a b =
       record {
-        not-finished = λ z. omega (arith, z, status-a);
-        not-held = F .edges-are a b ∙ tasks .link-new a b i;
+        not-finished = λ z. omega (arith, z, status-a, live-status (S .control a) unfinished);
+        not-held = F .edges-are a b ∙ shape .todo-fits v .link-new a b i;
         not-same = λ z. apart z up le-a;
         no-path = no-way ranks b a (omega (arith, up, le-a, ranks .rank-le b (subst (λ (k : ℕ). b < k) (F .made-is) made-b)));
         row-free = room;
-      } in
-      ((runs v q, record { source-made = made-a; target-made = made-b; waits = status-b; adds = inr adds }), adds)
+      } in (
+        (
+          runs v q,
+          record {
+            source-made = subst (λ (k : ℕ). a < k) (sym (F .made-is)) made-a;
+            target-made = made-b;
+            waits = status-b;
+            adds = inr adds;
+          },
+        ),
+        adds,
+      )
     where
-      target-of :
-          {b : ℕ} → (statusOf (S .control b) ≡ NEW) ⊎ (statusOf (S .control b) ≡ RELEASED)
-          → (b < s .made) × ((status (s .vertices) b ≡ NEW) ⊎ (status (s .vertices) b ≡ RELEASED))
+      target-of : {b : ℕ} → (statusOf (S .control b) ≡ NEW) ⊎ (statusOf (S .control b) ≡ RELEASED) → WaitsIn b
       target-of {b} (inl z) = let (made, new) = stands b NEW z (omega arith) in (made, inl new)
       target-of {b} (inr z) = let (made, released) = stands b RELEASED z (omega arith) in (made, inr released)
 
       apart : {a b : ℕ} → a ≡ b → S .fin a < S .rank b → S .rank a ≤ S .fin a → ⊥
       apart {a} z up le = let up' : S .fin a < S .rank a = subst (λ (k : ℕ). S .fin a < S .rank k) (sym z) up in omega arith
+
+  -- one from a finished vertex, the first of a future, is accepted and adds nothing
+  pub takes-nothing :
+      (v a b : ℕ) → statusOf (S .control v) ≡ EXECUTING → In (link a b) (tasksOf S v) → live (S .control a) ≡ false
+      → Taken (NewEdge v a b) s × AddsNothing s a b
+  takes-nothing v a b q i finished =
+      let made-a = source-made v a b i in
+      let nothing : AddsNothing s a b = inl (follows-status s S a F made-a ∙ over-status (S .control a) finished) in
+      let (made-b, new-b) = stands b NEW (target-new (shape .todo-fits v .link-from a b i)) (omega arith) in (
+        (
+          runs v q,
+          record {
+            source-made = subst (λ (k : ℕ). a < k) (sym (F .made-is)) made-a;
+            target-made = made-b;
+            waits = inl new-b;
+            adds = inl nothing;
+          },
+        ),
+        nothing,
+      )
+    where
+      target-new : In (free a) (tasksOf S v) ⊎ Forces S a b (tasksOf S v) → statusOf (S .control b) ≡ NEW
+      target-new (inl f) = true-false (fresh-live (shape .todo-fits v .frees a f .0 .1)) finished
+      target-new (inr f) = new-of v b (f .frees-it)
 
   -- transfer
   pub takes-transfer : Ranks S → (v h : ℕ) → statusOf (S .control v) ≡ EXECUTING → In (hand h) (tasksOf S v) → Taken (Transfer v h) s
@@ -149,7 +215,7 @@ module _ {p : Code} {L : ℕ} {s : Lent} {S : State} (shape : Shape S) (F : Foll
       let tasks = shape .todo-fits v in
       let new-h = new-of v h (tasks .hand-to h i) in
       let (made-h, status-h) = stands h NEW new-h (omega arith) in
-      let le-h = ranks .rank-le h (live S shape h NEW new-h (omega arith)) in (
+      let le-h = ranks .rank-le h (made-of S shape h NEW new-h (omega arith)) in (
         runs v q,
         record {
           is-made = made-h;

@@ -2,34 +2,37 @@
 -- vertices, before anything is done to the row of the vertex that steps.
 use Prim.Native.Nat.{ℕ, _+_, _<_, _≤_}
 use mathlib.Core.Path.{_≡_, refl, sym, _∙_, ap, subst}
-use mathlib.Core.Bool.{Bool, true, not}
+use mathlib.Core.Bool.{Bool, true, false, not}
 use mathlib.Core.Logic.{inl, inr, ⊎-elim}
-use mathlib.Core.List.{[]}
+use mathlib.Core.List.{List, []}
 use native.Mathlib.Omega.{arith}
 use lib.Dec.{eqb}
 use borrow.Author.Tests.{eq-eqb, ne-eqb, eqb-true, eqb-false, not-true}
 use Rattle.graph.specs.Tests.{both, either}
 use Rattle.graph.specs.Tables.{Lent, NEW, RELEASED, EXECUTING, FINISHED, vertexRows, edgeRows, status}
 use Rattle.graph.specs.Sound.{sound}
+use Rattle.graph.specs.Demand2.{AddsNothing}
 use Rattle.graph.specs.Paths.{holds}
 use Rattle.graph.specs.Commands.{withStatus, withEdge, withMoved, stopped}
 use Rattle.graph.specs.declared.Command.{Command}
 use Rattle.graph.specs.declared.Command.the-variants.{NewTd, NewEdge, Release, Transfer, Start, Stop}
-use Rattle.graph.proofs.TestLaws.{both-true, both-left, both-right, either-cases, either-left, either-right, not-of-false}
+use Rattle.graph.proofs.TestLaws.{decide, both-true, both-left, both-right, either-cases, either-left, either-right, not-of-false}
 use Rattle.graph.proofs.EdgeLaws.{Is, OneMore, NotFrom, Moved, is-same, without-is}
 use Rattle.graph.proofs.SoundLaws.{sound-fits}
 use Rattle.graph.proofs.TakenLaws.{leaves, Adds, Taken}
-use Rattle.graph.proofs.EffectLaws.{leaves-edge, withEdge-is, withMoved-is}
-use Rattle.program.specs.Located.{Code, startOf, last}
-use Rattle.machine.proofs.GhostMachine.Ghost.{Do, link, hand, free, Control, fresh, ready, busy, over, State, put, freed, withControl, withEdges}
-use Rattle.machine.proofs.GhostMachine.Ghost.{grown, linked, handed, dropped, done, eventOf}
+use Rattle.graph.proofs.EffectLaws.{leaves-all, leaves-edge, withEdge-is, withMoved-is}
+use Rattle.program.specs.Located.{Code, end-at, startOf}
+use Rattle.machine.specs.Stepping.{latest}
+use Rattle.machine.proofs.GhostMachine.Ghost.{Do, link, hand, free, Control, fresh, ready, busy, over, State, put, freed, withControl}
+use Rattle.machine.proofs.GhostMachine.Ghost.{withEdges, grown, linked, handed, dropped, live, done, eventOf}
 use Rattle.machine.proofs.GhostMachine.Invariant.{In, tasksOf, Shape, Ranks, Roads}
+use Rattle.machine.proofs.GhostMachine.RoadLaws.{linkedIf}
 use Rattle.machine.proofs.Counting.Weights.{links}
-use Rattle.machine.proofs.TablesFollow.Follows.{Words, row, wordsOf, Shows, shows-fresh, shows-ready, shows-busy, shows-over, Follows, Answers}
-use Rattle.machine.proofs.TablesFollow.Follows.{says-edge, says-release, says-transfer}
+use Rattle.machine.proofs.TablesFollow.Follows.{Words, row, wordsOf, firstOf, Shows, shows-fresh, shows-ready, shows-busy, shows-over, Follows}
+use Rattle.machine.proofs.TablesFollow.Follows.{Answers, says-edge, says-release, says-transfer}
 use Rattle.machine.proofs.TablesFollow.RowLaws.{setAt, rowed-status}
 use Rattle.machine.proofs.TablesFollow.FollowLaws.{statusOf, row-follows, edges-follow, vertex-follows}
-use Rattle.machine.proofs.TablesFollow.CommandLaws.{says, leaves-sound, takes-release, takes-edge, takes-transfer}
+use Rattle.machine.proofs.TablesFollow.CommandLaws.{says, leaves-sound, takes-release, takes-edge, takes-nothing, takes-transfer}
 
 -- the sets of edges of the moves, told by their members
 linked-is : (e : ℕ → ℕ → Bool) (a b : ℕ) → Is (linked e a b) (OneMore e a b)
@@ -51,31 +54,46 @@ handed-is e v h x y = (
 )
 
 -- the row of a vertex that waits or is busy
-ready-row : {p : Code} {L σ : ℕ} {w : Words} {c : Code} → Shows p L w σ (ready c) → w ≡ row RELEASED (startOf c) σ 0 0 0 0
+ready-row :
+    {p : Code} {L σ : ℕ} {fs : List (ℕ × Code)} {w : Words} {c : Code} → Shows p L w σ fs (ready c)
+    → w ≡ row RELEASED (startOf c) σ 0 0 0 0 (firstOf fs)
 ready-row (shows-ready h) = h
 
-fresh-row : {p : Code} {L σ : ℕ} {w : Words} {c : Code} → Shows p L w σ (fresh c) → w ≡ row NEW (startOf c) σ 0 0 0 0
+fresh-row :
+    {p : Code} {L σ : ℕ} {fs : List (ℕ × Code)} {w : Words} {c : Code} → Shows p L w σ fs (fresh c)
+    → w ≡ row NEW (startOf c) σ 0 0 0 0 (firstOf fs)
 fresh-row (shows-fresh h) = h
 
+ending-row :
+    {p : Code} {L σ : ℕ} {fs : List (ℕ × Code)} {w : Words} {c : Code} → Shows p L w σ fs (busy c [])
+    → w ≡ row EXECUTING (startOf c) σ 0 0 0 0 (firstOf fs)
+ending-row (shows-busy h) = h
+
 -- a started, a released and a finished row
-shows-started : {p : Code} {L σ : ℕ} {w : Words} {c : Code} → Shows p L w σ (ready c) → Shows p L (setAt 0 EXECUTING w) σ (busy c [])
+shows-started :
+    {p : Code} {L σ : ℕ} {fs : List (ℕ × Code)} {w : Words} {c : Code} → Shows p L w σ fs (ready c)
+    → Shows p L (setAt 0 EXECUTING w) σ fs (busy c [])
 shows-started h = shows-busy (ap (setAt 0 EXECUTING) (ready-row h))
 
-shows-freed : {p : Code} {L σ : ℕ} {w : Words} {c : Code} → Shows p L w σ (fresh c) → Shows p L (setAt 0 RELEASED w) σ (freed (fresh c))
+shows-freed :
+    {p : Code} {L σ : ℕ} {fs : List (ℕ × Code)} {w : Words} {c : Code} → Shows p L w σ fs (fresh c)
+    → Shows p L (setAt 0 RELEASED w) σ fs (freed (fresh c))
 unfolding freed
 shows-freed h = shows-ready (ap (setAt 0 RELEASED) (fresh-row h))
 
-shows-finished : {p : Code} {L σ : ℕ} (w : Words) → Shows p L (setAt 0 FINISHED w) σ over
-shows-finished (row st pl sc ph a b c) = shows-over pl sc ph a b c refl
+shows-finished :
+    {p : Code} {L σ : ℕ} {fs : List (ℕ × Code)} {w : Words} {c : Code} → Shows p L w σ fs (busy c [])
+    → Shows p L (setAt 0 FINISHED w) σ fs over
+shows-finished {σ} {c} h = shows-over (startOf c) σ 0 0 0 0 (ap (setAt 0 FINISHED) (ending-row h))
 
 module _ {p : Code} {L : ℕ} {s : Lent} {S : State} (F : Follows p L s S) where
   in-table : (v : ℕ) → v < s .made → v < vertexRows (s .vertices)
   in-table v lt = omega (arith, sound-fits s (F .sound-is) .vertices-fit)
 
   -- what v shows
-  pub shown-as : (v : ℕ) (x : Control) → v < s .made → S .control v ≡ x → Shows p L (wordsOf s v) (S .scope v) x
+  pub shown-as : (v : ℕ) (x : Control) → v < s .made → S .control v ≡ x → Shows p L (wordsOf s v) (S .scope v) (S .opens v) x
   shown-as v x lt q =
-      subst (λ (y : Control). Shows p L (wordsOf s v) (S .scope v) y) q (F .rows-are v (subst (λ (k : ℕ). v < k) (F .made-is) lt))
+      subst (λ (y : Control). Shows p L (wordsOf s v) (S .scope v) (S .opens v) y) q (F .rows-are v (subst (λ (k : ℕ). v < k) (F .made-is) lt))
 
   -- start
   pub start-done :
@@ -86,23 +104,24 @@ module _ {p : Code} {L : ℕ} {s : Lent} {S : State} (F : Follows p L s S) where
 
   -- stop
   pub stop-done :
-      (v : ℕ) → Taken (Stop v) s
+      (v o : ℕ) → S .control v ≡ busy (end-at o) [] → Taken (Stop v) s
       → Follows p L (leaves (Stop v) s) (withEdges (withControl S (put (S .control) v over)) (dropped (S .edge) v))
   unfolding stopped
-  stop-done v h =
+  stop-done v o q h =
       edges-follow (withControl S (put (S .control) v over)) (dropped (S .edge) v)
-      (row-follows S over F (rowed-status s v FINISHED (in-table v (h .is-made))) (shows-finished (wordsOf s v)))
+      (row-follows S over F (rowed-status s v FINISHED (in-table v (h .is-made))) (shows-finished (shown-as v (busy (end-at o) []) (h .is-made) q)))
       refl refl
       (λ a b.
       is-same (without-is v (s .edges) (s .held)) (dropped-is (holds (s .edges) (s .held)) v) a b
       ∙ ap (λ (z : Bool). both z (not (eqb a v))) (F .edges-are a b))
       (leaves-sound (Stop v) s (F .sound-is) h)
 
-  -- newTd, of a vertex with the code k and the scope σ
+  -- newTd, of a vertex with this place, scope, rank and fin
   pub new-done :
-      (v : ℕ) (x : Control) (k : Code) (σ : ℕ) → Shows p L (row NEW (startOf k) σ 0 0 0 0) σ x → Taken (NewTd v (startOf k) σ) s
-      → Follows p L (leaves (NewTd v (startOf k) σ) s) (grown S v x σ (startOf k) (last k))
-  new-done v x k σ shown h = vertex-follows s S v x k σ F (h .1) (leaves-sound (NewTd v (startOf k) σ) s (F .sound-is) h) shown
+      (v : ℕ) (x : Control) (place σ low high : ℕ) → Shows p L (row NEW place σ 0 0 0 0 (latest s v)) σ (S .opens v) x
+      → Taken (NewTd v place σ) s → Follows p L (leaves (NewTd v place σ) s) (grown S v x σ low high)
+  new-done v x place σ low high shown h =
+      vertex-follows s S v x place σ low high F (h .1) (leaves-sound (NewTd v place σ) s (F .sound-is) h) shown
 
   -- newEdge, which appends its edge
   edge-follows :
@@ -116,11 +135,21 @@ module _ {p : Code} {L : ℕ} {s : Lent} {S : State} (F : Follows p L s S) where
       ∙ ap (λ (z : Bool). either z (both (eqb x a) (eqb y b))) (F .edges-are x y))
       known
 
-  pub edge-done :
-      (v a b : ℕ) → Taken (NewEdge v a b) s → Adds s a b → Follows p L (leaves (NewEdge v a b) s) (withEdges S (linked (S .edge) a b))
-  edge-done v a b h adds =
-      rw (leaves-edge s v a b adds)
-      (edge-follows a b (adds .row-free) (rw (leaves-edge s v a b adds) at (leaves-sound (NewEdge v a b) s (F .sound-is) h)))
+  edge-done :
+      (v a b : ℕ) → live (S .control a) ≡ true → Taken (NewEdge v a b) s → Adds s a b
+      → Follows p L (leaves (NewEdge v a b) s) (withEdges S (linkedIf (live (S .control a)) (S .edge) a b))
+  edge-done v a b unfinished h adds =
+      subst (λ (t : Bool). Follows p L (leaves (NewEdge v a b) s) (withEdges S (linkedIf t (S .edge) a b))) (sym unfinished)
+      (rw (leaves-edge s v a b adds)
+      (edge-follows a b (adds .row-free) (rw (leaves-edge s v a b adds) at (leaves-sound (NewEdge v a b) s (F .sound-is) h))))
+
+  -- and one that adds nothing
+  nothing-done :
+      (v a b : ℕ) → live (S .control a) ≡ false → AddsNothing s a b
+      → Follows p L (leaves (NewEdge v a b) s) (withEdges S (linkedIf (live (S .control a)) (S .edge) a b))
+  nothing-done v a b finished nothing =
+      subst (λ (t : Bool). Follows p L (leaves (NewEdge v a b) s) (withEdges S (linkedIf t (S .edge) a b))) (sym finished)
+      (rw (leaves-all s v a b nothing) (edges-follow S (S .edge) F refl refl (F .edges-are) (F .sound-is)))
 
   -- transfer
   pub hand-done :
@@ -140,7 +169,7 @@ module _ {p : Code} {L : ℕ} {s : Lent} {S : State} (F : Follows p L s S) where
       → Follows p L (leaves (Release v m) s) (withControl S (put (S .control) m (freed (S .control m))))
   free-done v m c q h =
       row-follows S (freed (S .control m)) F (rowed-status s m RELEASED (in-table m (h .1)))
-      (subst (λ (x : Control). Shows p L (setAt 0 RELEASED (wordsOf s m)) (S .scope m) (freed x)) (sym q)
+      (subst (λ (x : Control). Shows p L (setAt 0 RELEASED (wordsOf s m)) (S .scope m) (S .opens m) (freed x)) (sym q)
       (shows-freed (shown-as m (fresh c) (h .1) q)))
 
 -- the single command of a vertex that joins vertices
@@ -161,6 +190,7 @@ pub record Joined (p : Code) (L : ℕ) (s : Lent) (S : State) (v : ℕ) (d : Do)
   pub follows : Follows p L (leaves (asked v d) s) (done S v d)
   pub row-same : wordsOf (leaves (asked v d) s) v ≡ wordsOf s v
   pub scope-same : done S v d .scope v ≡ S .scope v
+  pub opens-same : done S v d .opens v ≡ S .opens v
   pub held-le : leaves (asked v d) s .held ≤ s .held + links (eventOf d)
   pub answers : Answers S v (eventOf d) (says (asked v d) s)
 
@@ -177,6 +207,12 @@ edge-held : (s : Lent) (v a b : ℕ) → Adds s a b → leaves (NewEdge v a b) s
 unfolding withEdge
 edge-held s v a b adds = rw (leaves-edge s v a b adds) (omega arith)
 
+nothing-row : (s : Lent) (v a b u : ℕ) → AddsNothing s a b → wordsOf (leaves (NewEdge v a b) s) u ≡ wordsOf s u
+nothing-row s v a b u nothing = rw (leaves-all s v a b nothing) refl
+
+nothing-held : (s : Lent) (v a b : ℕ) → AddsNothing s a b → leaves (NewEdge v a b) s .held ≤ s .held + 1
+nothing-held s v a b nothing = rw (leaves-all s v a b nothing) (omega arith)
+
 moved-row : (s : Lent) (v h u : ℕ) → wordsOf (leaves (Transfer v h) s) u ≡ wordsOf s u
 unfolding wordsOf withMoved
 moved-row s v h u = refl
@@ -190,16 +226,34 @@ pub joined :
     {p : Code} {L : ℕ} {s : Lent} {S : State} → Shape S → Ranks S → Roads S → Follows p L s S → (v : ℕ) (d : Do)
     → statusOf (S .control v) ≡ EXECUTING → In d (tasksOf S v) → Room s d → Joined p L s S v d
 unfolding asked Room done eventOf links
-joined {s = s} shape ranks roads F v (link a b) q i room =
-    let (t, adds) = takes-edge shape F ranks roads v a b q i room in
-    record {
-      is-taken = t;
-      follows = edge-done F v a b t adds;
-      row-same = edge-row s v a b v adds;
-      scope-same = refl;
-      held-le = edge-held s v a b adds;
-      answers = says-edge a b (shape .todo-fits v .link-new a b i);
-    }
+joined {p} {L} {s} {S} shape ranks roads F v (link a b) q i room =
+    ⊎-elim unfinished-source finished-source (decide (live (S .control a)))
+  where
+    unfinished-source : live (S .control a) ≡ true → Joined p L s S v (link a b)
+    unfinished-source h =
+        let (t, adds) = takes-edge shape F ranks roads v a b q i h room in
+        record {
+          is-taken = t;
+          follows = edge-done F v a b h t adds;
+          row-same = edge-row s v a b v adds;
+          scope-same = refl;
+          opens-same = refl;
+          held-le = edge-held s v a b adds;
+          answers = says-edge a b (shape .todo-fits v .link-new a b i);
+        }
+
+    finished-source : live (S .control a) ≡ false → Joined p L s S v (link a b)
+    finished-source h =
+        let (t, nothing) = takes-nothing shape F v a b q i h in
+        record {
+          is-taken = t;
+          follows = nothing-done F v a b h nothing;
+          row-same = nothing-row s v a b v nothing;
+          scope-same = refl;
+          opens-same = refl;
+          held-le = nothing-held s v a b nothing;
+          answers = says-edge a b (shape .todo-fits v .link-new a b i);
+        }
 joined {s = s} shape ranks roads F v (hand h) q i room =
     let t = takes-transfer shape F ranks v h q i in
     record {
@@ -207,6 +261,7 @@ joined {s = s} shape ranks roads F v (hand h) q i room =
       follows = hand-done F v h t;
       row-same = moved-row s v h v;
       scope-same = refl;
+      opens-same = refl;
       held-le = moved-held s v h;
       answers = says-transfer h;
     }
@@ -218,6 +273,7 @@ joined {s = s} {S = S} shape ranks roads F v (free m) q i room =
       follows = free-done F v m c fresh-is t;
       row-same = row-beside s v m RELEASED (in-table F m (t .1)) (λ z. apart z (t .0 .executing) (t .2));
       scope-same = refl;
+      opens-same = refl;
       held-le = omega arith;
       answers = says-release m;
     }

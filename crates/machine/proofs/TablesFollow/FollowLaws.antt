@@ -1,5 +1,6 @@
 -- Tables that follow a state: what the rows tell of it, and how they follow it further. There are five effects, and each move is made of
--- them: a row and its control change, the edges change, a vertex is made, drafts are drafts no more, a step is counted.
+-- them: a row and its control change, and what is open there; the edges change, a vertex is made, drafts are drafts no more, a step is
+-- counted.
 use Prim.Native.Nat.{ℕ, suc, _+_, _<_}
 use mathlib.Core.Path.{_≡_, refl, sym, _∙_, ap, subst}
 use mathlib.Core.Bool.{Bool, true, false, cond}
@@ -12,10 +13,11 @@ use Rattle.graph.specs.Paths.{holds}
 use Rattle.graph.specs.Commands.{withVertex}
 use Rattle.graph.proofs.TestLaws.{equal?}
 use Rattle.graph.proofs.SoundLaws.{Known, Fits, sound-fits, fits-sound}
-use Rattle.program.specs.Located.{Code, startOf, last}
+use Rattle.program.specs.Located.{Code}
 use Rattle.machine.specs.Answers.{oneStep}
-use Rattle.machine.proofs.GhostMachine.Ghost.{Control, draft, fresh, ready, busy, joining, over, State, put, woken, among, withControl, withEdges}
-use Rattle.machine.proofs.GhostMachine.Ghost.{grown, stirred}
+use Rattle.machine.specs.Stepping.{latest}
+use Rattle.machine.proofs.GhostMachine.Ghost.{Control, draft, fresh, ready, busy, joining, over, State, put, woken, among, withControl}
+use Rattle.machine.proofs.GhostMachine.Ghost.{withEdges, withOpens, grown, stirred}
 use Rattle.machine.proofs.GhostMachine.GhostLaws.{put-same, put-other}
 use Rattle.machine.proofs.TablesFollow.Follows.{Words, row, wordsOf, Shows, shows-draft, shows-fresh, shows-ready, shows-busy, shows-joining}
 use Rattle.machine.proofs.TablesFollow.Follows.{shows-over, Follows, statusIn}
@@ -41,16 +43,19 @@ status-known (joining c d ds) = (omega arith, omega arith)
 status-known over = (omega arith, omega arith)
 
 -- a row has the status of what it shows
-status-shown : {p : Code} {L σ : ℕ} {w : Words} {x : Control} → Shows p L w σ x → statusIn w ≡ statusOf x
+status-shown :
+    {p : Code} {L σ : ℕ} {fs : List (ℕ × Code)} {w : Words} {x : Control} → Shows p L w σ fs x → statusIn w ≡ statusOf x
 unfolding statusOf
 status-shown (shows-draft h) = ap statusIn h
 status-shown (shows-fresh h) = ap statusIn h
 status-shown (shows-ready h) = ap statusIn h
 status-shown (shows-busy h) = ap statusIn h
-status-shown (shows-joining k φ ms h at goes le rest) = ap statusIn h
+status-shown (shows-joining k φ ms gs h at goes le rest behind opens) = ap statusIn h
 status-shown (shows-over pl sc ph a b c h) = ap statusIn h
 
-shown-status : {p : Code} {L σ : ℕ} (s : Lent) (v : ℕ) {x : Control} → Shows p L (wordsOf s v) σ x → status (s .vertices) v ≡ statusOf x
+shown-status :
+    {p : Code} {L σ : ℕ} {fs : List (ℕ × Code)} (s : Lent) (v : ℕ) {x : Control} → Shows p L (wordsOf s v) σ fs x
+    → status (s .vertices) v ≡ statusOf x
 unfolding wordsOf
 shown-status s v h = status-shown h
 
@@ -59,12 +64,14 @@ pub follows-status :
     {p : Code} {L : ℕ} (s : Lent) (S : State) (v : ℕ) → Follows p L s S → v < S .count → status (s .vertices) v ≡ statusOf (S .control v)
 follows-status s S v F lt = shown-status s v (F .rows-are v lt)
 
--- a row and its control change
-pub row-follows :
-    {p : Code} {L : ℕ} {s s' : Lent} {v : ℕ} {f : Words → Words} (S : State) (x : Control) → Follows p L s S → Rowed s s' v f
-    → Shows p L (f (wordsOf s v)) (S .scope v) x → Follows p L s' (withControl S (put (S .control) v x))
-row-follows {p} {L} {s} {s'} {v} S x F R shown =
+-- a row and its control change, and other futures are open there
+pub opens-follow :
+    {p : Code} {L : ℕ} {s s' : Lent} {v : ℕ} {f : Words → Words} (S : State) (x : Control) (opens : ℕ → List (ℕ × Code)) → Follows p L s S
+    → Rowed s s' v f → ((u : ℕ) → (u ≡ v → ⊥) → opens u ≡ S .opens u) → Shows p L (f (wordsOf s v)) (S .scope v) (opens v) x
+    → Follows p L s' (withOpens (withControl S (put (S .control) v x)) opens)
+opens-follow {p} {L} {s} {s'} {v} S x opens F R same shown =
     record {
+      last-is = F .last-is;
       made-is = R .made-same ∙ F .made-is;
       edges-are = edges;
       rows-are = rows;
@@ -87,14 +94,20 @@ row-follows {p} {L} {s} {s'} {v} S x F R shown =
     edges : (a b : ℕ) → holds (s' .edges) (s' .held) a b ≡ S .edge a b
     edges a b = rw (R .held-same, R .edges-same) (F .edges-are a b)
 
-    rows : (u : ℕ) → u < S .count → Shows p L (wordsOf s' u) (S .scope u) (put (S .control) v x u)
+    rows : (u : ℕ) → u < S .count → Shows p L (wordsOf s' u) (S .scope u) (opens u) (put (S .control) v x u)
     rows u lt =
         ⊎-elim
         (λ q.
-        subst (λ (z : ℕ). Shows p L (wordsOf s' z) (S .scope z) (put (S .control) v x z)) (sym q)
+        subst (λ (z : ℕ). Shows p L (wordsOf s' z) (S .scope z) (opens z) (put (S .control) v x z)) (sym q)
         (rw (R .here, put-same (S .control) v x) shown))
-        (λ ne. rw (R .others u ne, put-other (S .control) v x u ne) (F .rows-are u lt))
+        (λ ne. rw (R .others u ne, put-other (S .control) v x u ne, same u ne) (F .rows-are u lt))
         (equal? u v)
+
+-- a row and its control change
+pub row-follows :
+    {p : Code} {L : ℕ} {s s' : Lent} {v : ℕ} {f : Words → Words} (S : State) (x : Control) → Follows p L s S → Rowed s s' v f
+    → Shows p L (f (wordsOf s v)) (S .scope v) (S .opens v) x → Follows p L s' (withControl S (put (S .control) v x))
+row-follows S x F R shown = opens-follow S x (S .opens) F R (λ u ne. refl) shown
 
 -- tables with the same vertices have the same rows
 same-rows : (s s' : Lent) (u : ℕ) → s' .vertices ≡ s .vertices → wordsOf s' u ≡ wordsOf s u
@@ -107,20 +120,22 @@ pub edges-follow :
     → ((a b : ℕ) → holds (s' .edges) (s' .held) a b ≡ e a b) → sound s' ≡ true → Follows p L s' (withEdges S e)
 edges-follow {s} {s'} S e F q m h known =
     record {
+      last-is = F .last-is;
       made-is = m ∙ F .made-is;
       edges-are = h;
       rows-are = λ u lt. rw (same-rows s s' u q) (F .rows-are u lt);
       sound-is = known;
     }
 
--- a vertex is made
+-- a vertex is made by t, with this place, scope, rank and fin
 pub vertex-follows :
-    {p : Code} {L : ℕ} (s : Lent) (S : State) (t : ℕ) (x : Control) (k : Code) (σ : ℕ) → Follows p L s S
-    → s .made < vertexRows (s .vertices) → sound (withVertex s (startOf k) σ) ≡ true → Shows p L (row NEW (startOf k) σ 0 0 0 0) σ x
-    → Follows p L (withVertex s (startOf k) σ) (grown S t x σ (startOf k) (last k))
+    {p : Code} {L : ℕ} (s : Lent) (S : State) (t : ℕ) (x : Control) (place σ low high : ℕ) → Follows p L s S
+    → s .made < vertexRows (s .vertices) → sound (withVertex s t place σ) ≡ true
+    → Shows p L (row NEW place σ 0 0 0 0 (latest s t)) σ (S .opens t) x → Follows p L (withVertex s t place σ) (grown S t x σ low high)
 unfolding withVertex
-vertex-follows {p} {L} s S t x k σ F room known shown =
+vertex-follows {p} {L} s S t x place σ low high F room known shown =
     record {
+      last-is = F .last-is;
       made-is = counted s S (F .made-is);
       edges-are = F .edges-are;
       rows-are = rows;
@@ -130,29 +145,33 @@ vertex-follows {p} {L} s S t x k σ F room known shown =
     counted : (s : Lent) (S : State) → s .made ≡ S .count → s .made + 1 ≡ suc (S .count)
     counted s S q = omega arith
 
-    rows :
-        (u : ℕ) → u < suc (S .count)
-        → Shows p L (wordsOf (withVertex s (startOf k) σ) u) (put (S .scope) (S .count) σ u) (put (S .control) (S .count) x u)
+    Row : ℕ → Type 0
+    Row u =
+        Shows p L (wordsOf (withVertex s t place σ) u) (put (S .scope) (S .count) σ u) (put (S .opens) (S .count) (S .opens t) u)
+        (put (S .control) (S .count) x u)
+
+    rows : (u : ℕ) → u < suc (S .count) → Row u
     rows u lt =
         ⊎-elim
         (λ q.
-        subst
-        (λ (z : ℕ). Shows p L (wordsOf (withVertex s (startOf k) σ) z) (put (S .scope) (S .count) σ z) (put (S .control) (S .count) x z))
-        (sym q)
-        (rw (put-same (S .scope) (S .count) σ, put-same (S .control) (S .count) x, sym (F .made-is), new-row s (startOf k) σ room) shown))
+        subst (λ (z : ℕ). Row z) (sym q)
+        (rw (put-same (S .scope) (S .count) σ, put-same (S .opens) (S .count) (S .opens t), put-same (S .control) (S .count) x)
+        (rw (sym (F .made-is), new-row s t place σ room) shown)))
         (λ ne.
-        rw (put-other (S .scope) (S .count) σ u ne, put-other (S .control) (S .count) x u ne)
-        (rw (new-others s (startOf k) σ u (λ q. ne (q ∙ F .made-is))) (F .rows-are u (omega arith))))
+        rw
+        (put-other (S .scope) (S .count) σ u ne, put-other (S .opens) (S .count) (S .opens t) u ne, put-other (S .control) (S .count) x u ne)
+        (rw (new-others s t place σ u (λ q. ne (q ∙ F .made-is))) (F .rows-are u (omega arith))))
         (equal? u (S .count))
 
 -- a draft and a fresh vertex have the same row
-shows-woken : {p : Code} {L σ : ℕ} {w : Words} {x : Control} → Shows p L w σ x → Shows p L w σ (woken x)
+shows-woken :
+    {p : Code} {L σ : ℕ} {fs : List (ℕ × Code)} {w : Words} {x : Control} → Shows p L w σ fs x → Shows p L w σ fs (woken x)
 unfolding woken
 shows-woken (shows-draft h) = shows-fresh h
 shows-woken (shows-fresh h) = shows-fresh h
 shows-woken (shows-ready h) = shows-ready h
 shows-woken (shows-busy h) = shows-busy h
-shows-woken (shows-joining k φ ms h at goes le rest) = shows-joining k φ ms h at goes le rest
+shows-woken (shows-joining k φ ms gs h at goes le rest behind opens) = shows-joining k φ ms gs h at goes le rest behind opens
 shows-woken (shows-over pl sc ph a b c h) = shows-over pl sc ph a b c h
 
 -- drafts are drafts no more
@@ -161,17 +180,27 @@ pub woken-follows :
     → Follows p L s (withControl S (stirred (S .control) ms))
 woken-follows {p} {L} {s} S ms F =
     record {
+      last-is = F .last-is;
       made-is = F .made-is;
       edges-are = F .edges-are;
       rows-are = λ u lt. go (among u ms) (F .rows-are u lt);
       sound-is = F .sound-is;
     }
   where
-    go : (b : Bool) {w : Words} {σ : ℕ} {x : Control} → Shows p L w σ x → Shows p L w σ (cond b (woken x) x)
+    go :
+        (b : Bool) {w : Words} {σ : ℕ} {fs : List (ℕ × Code)} {x : Control} → Shows p L w σ fs x
+        → Shows p L w σ fs (cond b (woken x) x)
     go true h = shows-woken h
     go false h = h
 
 -- a step is counted
 pub count-follows : {p : Code} {L : ℕ} {s : Lent} {S : State} → Follows p L s S → Follows p L (oneStep s) S
 unfolding wordsOf sound
-count-follows F = record { made-is = F .made-is; edges-are = F .edges-are; rows-are = F .rows-are; sound-is = F .sound-is }
+count-follows F =
+    record {
+      last-is = F .last-is;
+      made-is = F .made-is;
+      edges-are = F .edges-are;
+      rows-are = F .rows-are;
+      sound-is = F .sound-is;
+    }

@@ -13,45 +13,57 @@ use Rattle.graph.specs.Paths.{holds}
 use Rattle.graph.specs.Answers.{Outcome}
 use Rattle.program.specs.Located.{Code, job-at, codeAt}
 use Rattle.program.specs.Located as code
+use Rattle.program.proofs.OpenLaws.{Opens}
 use Rattle.machine.specs.Answers.{StepSaid, refuse}
 use Rattle.machine.specs.Stepping as words
-use Rattle.machine.proofs.GhostMachine.Ghost.{Do, Control, draft, fresh, ready, busy, joining, over, State, kids, goes, kindOf, commandsOf, joins}
-use Rattle.machine.proofs.GhostMachine.Ghost.{Event, a-start, a-new, an-edge, a-release, a-transfer, a-job, a-stop, Move}
-use Rattle.machine.proofs.GhostMachine.Invariant.{isNew}
+use Rattle.machine.proofs.GhostMachine.Ghost.{Do, Control, draft, fresh, ready, busy, joining, over, State, kids, goes, kindOf, commandsOf}
+use Rattle.machine.proofs.GhostMachine.Ghost.{vertexAt, forcedBy, opensBehind, joins, Event, a-start, a-new, an-edge, a-release, a-transfer}
+use Rattle.machine.proofs.GhostMachine.Ghost.{a-job, a-stop, Move}
+use Rattle.machine.proofs.GhostMachine.Invariant.{isNew, bodies}
 use Rattle.machine.proofs.Counting.Weights.{links}
 
--- A vertex row: status, place, scope, phase, and the vertices that the item at hand made.
+-- A vertex row: status, place, scope, phase, the vertices that the item at hand made, and the latest open future.
 pub data Words : Type 0 where
-  row : (status place scope phase a b c : ℕ) → Words
+  row : (status place scope phase a b c l : ℕ) → Words
 
 unfoldable pub wordsOf : Lent → ℕ → Words
 wordsOf s v =
     row (status (s .vertices) v) (words.place s v) (words.scope s v) (words.phase s v) (words.made s v 0) (words.made s v 1)
     (words.made s v 2)
+    (words.latest s v)
 
 -- its status
 abbrev pub statusIn : Words → ℕ
-statusIn (row st pl sc ph a b c) = st
+statusIn (row st pl sc ph a b c l) = st
 
--- A row shows a control, of a vertex with the scope σ, in a program p whose last byte is at L.
-pub data Shows (p : Code) (L : ℕ) (w : Words) (σ : ℕ) : Control → Type 0 where
-  shows-draft : {c : Code} → w ≡ row NEW (code.startOf c) σ 0 0 0 0 → Shows p L w σ (draft c)
-  shows-fresh : {c : Code} → w ≡ row NEW (code.startOf c) σ 0 0 0 0 → Shows p L w σ (fresh c)
-  shows-ready : {c : Code} → w ≡ row RELEASED (code.startOf c) σ 0 0 0 0 → Shows p L w σ (ready c)
+-- the word that names the nearest of these open futures: its first vertex; "0 is none"
+abbrev pub firstOf : List (ℕ × Code) → ℕ
+firstOf fs = vertexAt fs 0
+
+-- A row shows a control, of a vertex with the scope σ and these open futures, in a program p whose last byte is at L.
+pub data Shows (p : Code) (L : ℕ) (w : Words) (σ : ℕ) (fs : List (ℕ × Code)) : Control → Type 0 where
+  shows-draft : {c : Code} → w ≡ row NEW (code.startOf c) σ 0 0 0 0 (firstOf fs) → Shows p L w σ fs (draft c)
+  shows-fresh : {c : Code} → w ≡ row NEW (code.startOf c) σ 0 0 0 0 (firstOf fs) → Shows p L w σ fs (fresh c)
+  shows-ready : {c : Code} → w ≡ row RELEASED (code.startOf c) σ 0 0 0 0 (firstOf fs) → Shows p L w σ fs (ready c)
   shows-busy :
-      {c : Code} {ms : List ℕ} → w ≡ row EXECUTING (code.startOf c) σ (length ms) (getD ms 0 0) (getD ms 1 0) (getD ms 2 0)
-      → Shows p L w σ (busy c ms)
-  -- its item is at k's head, and has come to phase φ
+      {c : Code} {ms : List ℕ}
+      → w ≡ row EXECUTING (code.startOf c) σ (length ms) (getD ms 0 0) (getD ms 1 0) (getD ms 2 0) (firstOf fs)
+      → Shows p L w σ fs (busy c ms)
+  -- its item is at k's head, and has come to phase φ; gs are the futures that are open before the item, whose last command opens one more if
+  -- it is a future
   shows-joining :
-      {c : Code} {d : Do} {ds : List Do} (k : Code) (φ : ℕ) (ms : List ℕ)
-      → w ≡ row EXECUTING (code.startOf k) σ φ (getD ms 0 0) (getD ms 1 0) (getD ms 2 0) → codeAt p (code.startOf k) ≡ some k → goes L k ≡ c
-      → length (kids k) ≤ φ → joins σ ms (drop φ (commandsOf (kindOf k))) ≡ d ∷ ds → Shows p L w σ (joining c d ds)
-  shows-over : (pl sc ph a b c : ℕ) → w ≡ row FINISHED pl sc ph a b c → Shows p L w σ over
+      {c : Code} {d : Do} {ds : List Do} (k : Code) (φ : ℕ) (ms : List ℕ) (gs : List (ℕ × Code))
+      → w ≡ row EXECUTING (code.startOf k) σ φ (getD ms 0 0) (getD ms 1 0) (getD ms 2 0) (firstOf gs)
+      → codeAt p (code.startOf k) ≡ some k → goes L k ≡ c → length (kids L k) ≤ φ
+      → joins σ (forcedBy gs k) ms (drop φ (commandsOf (kindOf k))) ≡ d ∷ ds → opensBehind gs ms k ≡ fs → Opens (bodies gs) k
+      → Shows p L w σ fs (joining c d ds)
+  shows-over : (pl sc ph a b c : ℕ) → w ≡ row FINISHED pl sc ph a b c (firstOf fs) → Shows p L w σ fs over
 
 pub record Follows (p : Code) (L : ℕ) (s : Lent) (S : State) : Type 0 where
+  pub last-is : S .lastByte ≡ L
   pub made-is : s .made ≡ S .count
   pub edges-are : (a b : ℕ) → holds (s .edges) (s .held) a b ≡ S .edge a b
-  pub rows-are : (v : ℕ) → v < S .count → Shows p L (wordsOf s v) (S .scope v) (S .control v)
+  pub rows-are : (v : ℕ) → v < S .count → Shows p L (wordsOf s v) (S .scope v) (S .opens v) (S .control v)
   pub sound-is : sound s ≡ true
 
 -- why a step of v is refused: "20 no such vertex; 21 released but an edge leads in; 22 new; 23 finished"
@@ -82,5 +94,5 @@ pub record Tallied (e : Event) (s s' : Lent) : Type 0 where
 pub data Followed (p : Code) (L : ℕ) (s : Lent) (S : State) (v : ℕ) (o : Outcome StepSaid) : Type 0 where
   refused : (n : ℕ) → Refuses S v n → o ≡ refuse s n 0 → Followed p L s S v o
   moved :
-      (e : Event) (S' : State) → Move L S v e S' → Follows p L (o .after) S' → Answers S v e (o .answer) → Tallied e s (o .after)
+      (e : Event) (S' : State) → Move S v e S' → Follows p L (o .after) S' → Answers S v e (o .answer) → Tallied e s (o .after)
       → Followed p L s S v o

@@ -4,7 +4,7 @@ use Prim.Native.Nat.{ℕ, zero, suc, _+_, _-_, _*_, _<_, _≤_}
 use mathlib.Core.Path.{_≡_, refl, sym, _∙_, ap}
 use mathlib.Core.Bool.{true, false}
 use mathlib.Core.Logic.{inr, ⊎-elim}
-use mathlib.Core.List.{List}
+use mathlib.Core.List.{List, []}
 use native.Mathlib.Omega.{arith}
 use lib.ListN.{length, getD, length-set}
 use lib.Seq.{getD-set-same, getD-set-other}
@@ -19,7 +19,7 @@ use Rattle.graph.proofs.SoundLaws.{fits-sound}
 use Rattle.program.specs.Trees.{Body}
 use Rattle.program.specs.Bytes.{encode, size}
 use Rattle.program.specs.Reader.{program, reading}
-use Rattle.program.specs.Located.{Code, end-at, locate}
+use Rattle.program.specs.Located.{Code, end-at, located}
 use Rattle.program.specs.Located as code
 use Rattle.program.proofs.LocatedLaws.{place-locate, last-locate}
 use Rattle.program.proofs.Exactness.{reading-sound}
@@ -27,7 +27,7 @@ use Rattle.machine.specs.Answers.{isLoaded}
 use Rattle.machine.specs.Loading.{placed, loadedTables, load}
 use Rattle.machine.specs.Demand2.{Lends}
 use Rattle.machine.proofs.LoadLaws.{two-rows, one-edge-row, load-accepted}
-use Rattle.machine.proofs.GhostMachine.Ghost.{ready}
+use Rattle.machine.proofs.GhostMachine.Ghost.{ready, vertexAt}
 use Rattle.machine.proofs.GhostMachine.RoadLaws.{linked-new}
 use Rattle.machine.proofs.GhostMachine.Beginning.{beginning, beginning-edge}
 use Rattle.machine.proofs.TablesFollow.Follows.{Words, row, wordsOf, Shows, shows-ready, Follows, statusIn}
@@ -37,6 +37,7 @@ use Rattle.machine.proofs.TablesFollow.RowLaws.{same-row}
 abbrev rowIn : List ℕ → ℕ → Words
 rowIn l k =
     row (vertexWord l k 0) (vertexWord l k 1) (vertexWord l k 2) (vertexWord l k 3) (vertexWord l k 4) (vertexWord l k 5) (vertexWord l k 6)
+    (vertexWord l k 7)
 
 -- a vertex as loading sets it, in a table where its row is cleared
 module _ (l : List ℕ) (k x : ℕ) where
@@ -73,10 +74,11 @@ module _ (l : List ℕ) (k x : ℕ) where
       (simp length-set (vertex-in l k scopeWord lt (omega arith)))
 
   -- its whole row
-  placed-row : k < vertexRows l → ((w : ℕ) → w < vertexWords → vertexWord l k w ≡ 0) → rowIn (placed l k x) k ≡ row RELEASED x 1 0 0 0 0
+  placed-row : k < vertexRows l → ((w : ℕ) → w < vertexWords → vertexWord l k w ≡ 0) → rowIn (placed l k x) k ≡ row RELEASED x 1 0 0 0 0 0
   placed-row lt z =
       same-row (placed-status lt) (placed-place lt) (placed-scope lt) (rest 3 (omega arith) (omega arith))
       (rest 4 (omega arith) (omega arith)) (rest 5 (omega arith) (omega arith)) (rest 6 (omega arith) (omega arith))
+      (rest 7 (omega arith) (omega arith))
     where
       rest : (w : ℕ) → 2 < w → w < vertexWords → vertexWord (placed l k x) k w ≡ 0
       rest w gt lw = placed-out (vertexWords * k + w) (omega arith) (omega arith) (omega arith) ∙ z w lw
@@ -88,7 +90,7 @@ module _ (l : List ℕ) (k x : ℕ) where
   placed-other : (u : ℕ) → (u ≡ k → ⊥) → rowIn (placed l k x) u ≡ rowIn l u
   placed-other u ne =
       same-row (at 0 (omega arith)) (at 1 (omega arith)) (at 2 (omega arith)) (at 3 (omega arith)) (at 4 (omega arith))
-      (at 5 (omega arith)) (at 6 (omega arith))
+      (at 5 (omega arith)) (at 6 (omega arith)) (at 7 (omega arith))
     where
       at : (w : ℕ) → w < vertexWords → vertexWord (placed l k x) u w ≡ vertexWord l u w
       at w lw = placed-word u w lw ne
@@ -108,12 +110,12 @@ loadedRows l L = placed (placed (blank l) 0 0) 1 L
 length-loaded : (l : List ℕ) (L : ℕ) → length (loadedRows l L) ≡ length l
 length-loaded l L = length-placed (placed (blank l) 0 0) 1 L ∙ length-placed (blank l) 0 0 ∙ length-clear l 0 (vertexWords * vertexRows l)
 
-first-row : (l : List ℕ) (L : ℕ) → 2 ≤ vertexRows l → rowIn (loadedRows l L) 0 ≡ row RELEASED 0 1 0 0 0 0
+first-row : (l : List ℕ) (L : ℕ) → 2 ≤ vertexRows l → rowIn (loadedRows l L) 0 ≡ row RELEASED 0 1 0 0 0 0 0
 first-row l L le =
     placed-other (placed (blank l) 0 0) 1 L 0 (omega arith)
     ∙ placed-row (blank l) 0 0 (rw length-clear (omega arith)) (λ w lw. blank-word l 0 w (omega arith) lw)
 
-second-row : (l : List ℕ) (L : ℕ) → 2 ≤ vertexRows l → rowIn (loadedRows l L) 1 ≡ row RELEASED L 1 0 0 0 0
+second-row : (l : List ℕ) (L : ℕ) → 2 ≤ vertexRows l → rowIn (loadedRows l L) 1 ≡ row RELEASED L 1 0 0 0 0 0
 second-row l L le =
     placed-row (placed (blank l) 0 0) 1 L (rw (length-placed (blank l) 0 0, length-clear) (omega arith))
     (λ w lw. placed-word (blank l) 0 0 1 w lw (omega arith) ∙ blank-word l 1 w (omega arith) lw)
@@ -136,21 +138,21 @@ module _ (bytes : List ℕ) (s : Lent) (t : Body) (h : Lends t s) where
   L = length bytes - 1
 
   -- each part of the claim
-  edges-follow : (a b : ℕ) → holds (loadedTables bytes s .edges) (loadedTables bytes s .held) a b ≡ beginning (locate 0 t) L .edge a b
+  edges-follow : (a b : ℕ) → holds (loadedTables bytes s .edges) (loadedTables bytes s .held) a b ≡ beginning (located t) L .edge a b
   unfolding loadedTables
-  edges-follow = is-same (loaded-edge (s .edges) (edgeWords * edgeRows (s .edges)) (one-edge-row t s h)) (begin-edge (locate 0 t) L)
+  edges-follow = is-same (loaded-edge (s .edges) (edgeWords * edgeRows (s .edges)) (one-edge-row t s h)) (begin-edge (located t) L)
 
-  first-shows : Shows (locate 0 t) L (wordsOf (loadedTables bytes s) 0) 1 (ready (locate 0 t))
-  unfolding loadedTables wordsOf
+  first-shows : Shows (located t) L (wordsOf (loadedTables bytes s) 0) 1 [] (ready (located t))
+  unfolding loadedTables wordsOf vertexAt located
   first-shows =
       shows-ready
-      (first-row (s .vertices) L (two-rows t s h) ∙ ap (λ (x : ℕ). row RELEASED x 1 0 0 0 0) (sym (place-locate 0 t)))
+      (first-row (s .vertices) L (two-rows t s h) ∙ ap (λ (x : ℕ). row RELEASED x 1 0 0 0 0 0) (sym (place-locate [] 0 t)))
 
-  second-shows : Shows (locate 0 t) L (wordsOf (loadedTables bytes s) 1) 1 (ready (end-at L))
-  unfolding loadedTables wordsOf code.startOf
+  second-shows : Shows (located t) L (wordsOf (loadedTables bytes s) 1) 1 [] (ready (end-at L))
+  unfolding loadedTables wordsOf vertexAt code.startOf
   second-shows = shows-ready (second-row (s .vertices) L (two-rows t s h))
 
-  rows-follow : (v : ℕ) → v < 2 → Shows (locate 0 t) L (wordsOf (loadedTables bytes s) v) 1 (beginning (locate 0 t) L .control v)
+  rows-follow : (v : ℕ) → v < 2 → Shows (located t) L (wordsOf (loadedTables bytes s) v) 1 [] (beginning (located t) L .control v)
   unfolding beginning
   rows-follow zero lt = first-shows
   rows-follow (suc zero) lt = second-shows
@@ -176,10 +178,11 @@ module _ (bytes : List ℕ) (s : Lent) (t : Body) (h : Lends t s) where
             (omega (arith, x), omega (arith, y));
       })
 
-  loaded-follows : Follows (locate 0 t) L (loadedTables bytes s) (beginning (locate 0 t) L)
+  loaded-follows : Follows (located t) L (loadedTables bytes s) (beginning (located t) L)
   unfolding loadedTables beginning
   loaded-follows =
       record {
+        last-is = refl;
         made-is = refl;
         edges-are = edges-follow;
         rows-are = rows-follow;
@@ -206,16 +209,16 @@ loaded-begun bytes s =
 -- After an accepted loading the tables follow the ghost machine as it begins.
 pub load-follows :
     (bytes : List ℕ) (s : Lent) (t : Body) → reading bytes ≡ program t → isLoaded (load bytes s .answer) ≡ true
-    → Follows (locate 0 t) (length bytes - 1) (load bytes s .after) (beginning (locate 0 t) (length bytes - 1))
+    → Follows (located t) (length bytes - 1) (load bytes s .after) (beginning (located t) (length bytes - 1))
     × Begun s (load bytes s .after)
 load-follows bytes s t r h =
     let (l, e) = load-accepted bytes s t r h in
     rw e (loaded-follows bytes s t l, loaded-begun bytes s)
 
 -- The number that the two are told is the offset of the program's end byte.
-pub last-byte : (bytes : List ℕ) (t : Body) → reading bytes ≡ program t → code.last (locate 0 t) ≡ length bytes - 1
-unfolding size
+pub last-byte : (bytes : List ℕ) (t : Body) → reading bytes ≡ program t → code.last (located t) ≡ length bytes - 1
+unfolding size located
 last-byte bytes t r =
     let same : length bytes ≡ length (encode t) = ap length (reading-sound bytes t r .0) in
-    let ends : suc (code.last (locate 0 t)) ≡ 0 + size t = last-locate 0 t in
+    let ends : suc (code.last (located t)) ≡ 0 + size t = last-locate [] 0 t in
     omega arith

@@ -3,7 +3,9 @@
 use Prim.Native.Nat.{ℕ, _+_, _<_, _≤_}
 use mathlib.Core.Path.{_≡_, refl, sym, _∙_, ap, subst}
 use mathlib.Core.Bool.{true}
+use mathlib.Core.Logic.{_⊎_, inl, inr, ⊎-elim}
 use mathlib.Core.List.{List, [], _∷_, _++_}
+use mathlib.Core.Option.{some}
 use native.Mathlib.Omega.{arith}
 use lib.ListN.{length, getD}
 use Rattle.graph.specs.Tables.{Lent, NEW, vertexRows}
@@ -12,43 +14,50 @@ use Rattle.graph.specs.Commands.{stopped, withVertex}
 use Rattle.graph.specs.declared.Command as single
 use Rattle.graph.specs.declared.Command.the-variants.{NewTd, Stop}
 use Rattle.graph.specs.Answers.{Outcome}
+use Rattle.graph.proofs.TestLaws.{both-left, both-right}
 use Rattle.graph.proofs.SoundLaws.{sound-fits}
 use Rattle.graph.proofs.TableLaws.{keptRows-le}
 use Rattle.graph.proofs.TakenLaws.{leaves, Taken}
 use Rattle.graph.proofs.WordLaws.{vertex-words-of, edge-words-of, steps-kept-of}
 use Rattle.program.specs.Encodings.{Name, Spot, Command, perform, newTd}
-use Rattle.program.specs.Located.{Code, job-at, startOf, last}
-use Rattle.machine.specs.Stepping.{Own, ownOf, movedOn, command-due, filledIn, withOwn, doDue}
-use Rattle.machine.proofs.GhostMachine.Ghost.{Do, Control, busy, State, put, resolved, onward, done, withControl, grown, Event, Move}
+use Rattle.program.specs.Located.{Code, job-at, startOf}
+use Rattle.machine.specs.Stepping.{followed, Own, ownOf, movedOn, command-due, filledIn, withOwn, doDue}
+use Rattle.machine.proofs.GhostMachine.Ghost.{Do, Control, busy, State, put, Kid, resolved, onward, done, withControl, withOpens, grown, Event}
+use Rattle.machine.proofs.GhostMachine.Ghost.{Move}
 use Rattle.machine.proofs.GhostMachine.GhostLaws.{put-other}
 use Rattle.machine.proofs.Counting.Weights.{links}
-use Rattle.machine.proofs.TablesFollow.Follows.{Words, row, wordsOf, Shows, shows-busy, Follows, Answers, Followed, moved}
+use Rattle.machine.proofs.TablesFollow.Follows.{Words, row, wordsOf, firstOf, Shows, shows-busy, Follows, Answers, Followed, moved}
 use Rattle.machine.proofs.TablesFollow.RowLaws.{ownIn, own-is, putOwn, rowed-own, advancing, new-others}
 use Rattle.machine.proofs.TablesFollow.OwnLaws.{length-stored}
-use Rattle.machine.proofs.TablesFollow.FollowLaws.{row-follows, count-follows}
+use Rattle.machine.proofs.TablesFollow.FollowLaws.{opens-follow, count-follows}
 use Rattle.machine.proofs.TablesFollow.CommandLaws.{says, called}
 use Rattle.machine.proofs.TablesFollow.DoneLaws.{new-done, asked, Joined}
-use Rattle.machine.proofs.TablesFollow.StepLaws.{rowOf, named-is, job-item}
+use Rattle.machine.proofs.TablesFollow.StepLaws.{row-latest, plain, plainNames, named-is, rowOf, job-item}
 use Rattle.machine.proofs.TablesFollow.ItemLaws.{Joins, joins-link, joins-hand, joins-free, Acting, busyRow, Making, job-row}
 use Rattle.machine.specs.Answers.{StepSaid}
 
 -- the command of the calculus that a joining command of an item is, with its names filled in
 pub joins-due :
-    (s : Lent) (v n : ℕ) (spot : Spot → ℕ) (w : Own) {st pl σ ph : ℕ} (ms : List ℕ) {c : Command} {d : Do}
-    → wordsOf s v ≡ row st pl σ ph (getD ms 0 0) (getD ms 1 0) (getD ms 2 0) → Joins σ ms c d
-    → filledIn s v n spot w c ≡ command-due (asked v d) w
-unfolding filledIn asked
-joins-due s v n spot w ms h (joins-link a b) = rw (named-is s v ms h a, named-is s v ms h b) refl
-joins-due s v n spot w ms h (joins-hand a) = rw (named-is s v ms h a) refl
-joins-due s v n spot w ms h (joins-free a) = rw (named-is s v ms h a) refl
+    (s : Lent) (v n f : ℕ) (spot : Spot → ℕ) (w : Own) {st pl σ ph l : ℕ} (ms : List ℕ) {c : Command} {d : Do}
+    → wordsOf s v ≡ row st pl σ ph (getD ms 0 0) (getD ms 1 0) (getD ms 2 0) l → (plainNames c ≡ true) ⊎ (followed s v n ≡ some f)
+    → Joins σ f ms c d → filledIn s v n spot w c ≡ command-due (asked v d) w
+unfolding filledIn asked plainNames
+joins-due s v n f spot w ms h u (joins-link a b) =
+    rw (
+      named-is s v n f ms h a (⊎-elim (λ p. inl (both-left _ _ p)) inr u),
+      named-is s v n f ms h b (⊎-elim (λ p. inl (both-right _ _ p)) inr u),
+    )
+    refl
+joins-due s v n f spot w ms h u (joins-hand a) = rw (named-is s v n f ms h a u) refl
+joins-due s v n f spot w ms h u (joins-free a) = rw (named-is s v n f ms h a u) refl
 
--- and that of a newTd
+-- and that of a newTd, whose scope is never a force's future
 pub new-due :
-    (s : Lent) (v n : ℕ) (spot : Spot → ℕ) (w : Own) {st pl σ ph : ℕ} (ms : List ℕ) (b : Spot) (a : Name) {q : ℕ}
-    → wordsOf s v ≡ row st pl σ ph (getD ms 0 0) (getD ms 1 0) (getD ms 2 0) → spot b ≡ q
-    → filledIn s v n spot w (newTd b a) ≡ command-due (NewTd v q (resolved σ ms a)) w
+    (s : Lent) (v n : ℕ) (spot : Spot → ℕ) (w : Own) {st pl σ ph l : ℕ} (ms : List ℕ) (b : Spot) (a : Name) {q : ℕ}
+    → wordsOf s v ≡ row st pl σ ph (getD ms 0 0) (getD ms 1 0) (getD ms 2 0) l → plain a ≡ true → spot b ≡ q
+    → filledIn s v n spot w (newTd b a) ≡ command-due (NewTd v q (resolved σ 0 ms a)) w
 unfolding filledIn
-new-due s v n spot w ms b a h q = rw (named-is s v ms h a, q) refl
+new-due s v n spot w ms b a h u q = rw (named-is s v n 0 ms h a (inl u), q) refl
 
 -- a vertex that is made has its row in the table, also after a command
 pub row-within : (s : Lent) → sound s ≡ true → (c : single.Command) (v : ℕ) → v < s .made → v < vertexRows (leaves c s .vertices)
@@ -57,7 +66,7 @@ row-within s known c v lt = rw (vertex-words-of c s .0) (omega (arith, sound-fit
 -- a step by a command that is taken is a move
 pub by-command :
     {p : Code} {L : ℕ} {s : Lent} {S : State} {v : ℕ} {o : Outcome StepSaid} (c : single.Command) (w : Own) (e : Event) (S' : State)
-    → Follows p L s S → o ≡ doDue s v (command-due c w) → Taken c s → Move L S v e S' → Follows p L (withOwn (leaves c s) v w) S'
+    → Follows p L s S → o ≡ doDue s v (command-due c w) → Taken c s → Move S v e S' → Follows p L (withOwn (leaves c s) v w) S'
     → Answers S v e (says c s) → leaves c s .held ≤ s .held + links e → Followed p L s S v o
 by-command {p} {L} {s} {S} {v} c w e S' F q taken move follows answers le =
     subst (λ (o : Outcome StepSaid). Followed p L s S v o) (sym (q ∙ called c s v w taken))
@@ -70,58 +79,69 @@ by-command {p} {L} {s} {S} {v} c w e S' F q taken move follows answers le =
     }))
 
 module _ {p : Code} {L : ℕ} {s : Lent} {S : State} (F : Follows p L s S) (v : ℕ) where
-  -- own words are stored behind a command that left the row of its vertex
+  -- own words are stored behind a command that left the row of its vertex; then these futures are open
   own-follows :
-      {mid : Lent} (S' : State) (x : Control) (f : Own → Own) → Follows p L mid S' → v < vertexRows (mid .vertices)
-      → wordsOf mid v ≡ wordsOf s v → Shows p L (putOwn (f (ownIn (wordsOf s v))) (wordsOf s v)) (S' .scope v) x
-      → Follows p L (withOwn mid v (f (ownOf s v))) (withControl S' (put (S' .control) v x))
-  own-follows {mid} S' x f follows lt same shown =
-      row-follows S' x follows (rowed-own mid v (f (ownOf s v)) lt) (rw (same, own-is s v) shown)
+      {mid : Lent} (S' : State) (x : Control) (opens : ℕ → List (ℕ × Code)) (f : Own → Own) → Follows p L mid S'
+      → v < vertexRows (mid .vertices) → wordsOf mid v ≡ wordsOf s v → ((u : ℕ) → (u ≡ v → ⊥) → opens u ≡ S' .opens u)
+      → Shows p L (putOwn (f (ownIn (wordsOf s v))) (wordsOf s v)) (S' .scope v) (opens v) x
+      → Follows p L (withOwn mid v (f (ownOf s v))) (withOpens (withControl S' (put (S' .control) v x)) opens)
+  own-follows {mid} S' x opens f follows lt same others shown =
+      opens-follow S' x opens follows (rowed-own mid v (f (ownOf s v)) lt) others (rw (same, own-is s v) shown)
 
   -- a command that joins
   pub acts-follows :
-      (c : Code) (d : Do) (ds : List Do) (a : Acting p L (S .scope v) (wordsOf s v) d ds c) (j : Joined p L s S v d) → v < s .made
+      (c : Code) (d : Do) (ds : List Do) (a : Acting p L (S .scope v) (S .opens v) (wordsOf s v) d ds c) (j : Joined p L s S v d)
+      → v < s .made
       → Follows p L
       (withOwn (leaves (asked v d) s) v (movedOn (rowOf (a .item)) (a .item .spot) (a .command) (a .φ) (s .made) (ownOf s v)))
       (withControl (done S v d) (put (done S v d .control) v (onward c ds)))
   acts-follows c d ds a j lt =
-      own-follows (done S v d) (onward c ds) (movedOn (rowOf (a .item)) (a .item .spot) (a .command) (a .φ) (s .made)) (j .follows)
+      own-follows (done S v d) (onward c ds) (done S v d .opens)
+      (movedOn (rowOf (a .item)) (a .item .spot) (a .command) (a .φ) (s .made))
+      (j .follows)
       (row-within s (F .sound-is) (asked v d) v lt)
       (j .row-same)
-      (rw (j .scope-same) (a .shows (s .made)))
+      (λ u ne. refl)
+      (rw (j .scope-same, j .opens-same) (a .shows (s .made)))
 
   -- the job's step
   pub performs-follows :
-      (o n : ℕ) (r : Code) → wordsOf s v ≡ busyRow (job-at o n r) (S .scope v) [] → v < vertexRows (s .vertices)
+      (o n : ℕ) (r : Code) → wordsOf s v ≡ busyRow (job-at o n r) (S .scope v) [] (firstOf (S .opens v)) → v < vertexRows (s .vertices)
       → Follows p L (withOwn s v (movedOn (rowOf (job-item L o n r)) (job-item L o n r .spot) perform 0 (s .made) (ownOf s v)))
       (withControl S (put (S .control) v (busy r [])))
   performs-follows o n r is-row lt =
       let i = job-item L o n r in
-      own-follows S (busy r []) (movedOn (rowOf i) (i .spot) perform 0 (s .made)) F lt refl
-      (shows-busy (ap (advancing (rowOf i) (i .spot) perform 0 (s .made)) is-row ∙ job-row L o n r (S .scope v) (s .made)))
+      own-follows S (busy r []) (S .opens) (movedOn (rowOf i) (i .spot) perform 0 (s .made)) F lt refl (λ u ne. refl)
+      (shows-busy
+      (ap (advancing (rowOf i) (i .spot) perform 0 (s .made)) is-row ∙ job-row L o n r (S .scope v) (firstOf (S .opens v)) (s .made)))
 
-  -- a vertex more, which has the scope σ
+  -- a vertex more, with the scope σ and what the kid k says; then v is at x, and these futures are open
   pub makes-follows :
-      (c : Code) (ms : List ℕ) (k : Code) (a : Name) (m : Making L c ms k a) (x kid : Control) (σ : ℕ)
-      → Shows p L (row NEW (startOf k) σ 0 0 0 0) σ kid
-      → ((w : Words) → w ≡ busyRow c (S .scope v) (ms ++ (S .count ∷ [])) → Shows p L w (S .scope v) x)
-      → wordsOf s v ≡ busyRow c (S .scope v) ms → v < s .made → Taken (NewTd v (startOf k) σ) s
+      (c : Code) (ms : List ℕ) (k : Kid) (m : Making L c ms k) (x made : Control) (σ : ℕ) (opens : ℕ → List (ℕ × Code))
+      → Shows p L (row NEW (startOf (k .code)) σ 0 0 0 0 (firstOf (S .opens v))) σ (S .opens v) made
+      → ((u : ℕ) → (u ≡ v → ⊥) → opens u ≡ put (S .opens) (S .count) (S .opens v) u)
+      → ((w : Words) → w ≡ busyRow c (S .scope v) (ms ++ (S .count ∷ [])) (firstOf (S .opens v)) → Shows p L w (S .scope v) (opens v) x)
+      → wordsOf s v ≡ busyRow c (S .scope v) ms (firstOf (S .opens v)) → v < s .made → Taken (NewTd v (startOf (k .code)) σ) s
       → Follows p L
-      (withOwn (leaves (NewTd v (startOf k) σ) s) v
-      (movedOn (rowOf (m .item)) (m .item .spot) (newTd (m .spot-of) a) (length ms) (s .made) (ownOf s v)))
-      (withControl (grown S v kid σ (startOf k) (last k)) (put (put (S .control) (S .count) kid) v x))
-  makes-follows c ms k a m x kid σ kid-shown shown is-row lt taken =
-      own-follows (grown S v kid σ (startOf k) (last k)) x on (new-done F v kid k σ kid-shown taken)
-      (row-within s (F .sound-is) (NewTd v (startOf k) σ) v lt)
-      (new-others s (startOf k) σ v (omega arith))
+      (withOwn (leaves (NewTd v (startOf (k .code)) σ) s) v
+      (movedOn (rowOf (m .item)) (m .item .spot) (newTd (m .spot-of) (k .name)) (length ms) (s .made) (ownOf s v)))
+      (withOpens (withControl (grown S v made σ (k .low) (k .high)) (put (put (S .control) (S .count) made) v x)) opens)
+  makes-follows c ms k m x made σ opens made-shown others shown is-row lt taken =
+      own-follows (grown S v made σ (k .low) (k .high)) x opens on
+      (new-done F v made (startOf (k .code)) σ (k .low) (k .high)
+      (subst (λ (l : ℕ). Shows p L (row NEW (startOf (k .code)) σ 0 0 0 0 l) σ (S .opens v) made) (sym (row-latest s v is-row)) made-shown)
+      taken)
+      (row-within s (F .sound-is) (NewTd v (startOf (k .code)) σ) v lt)
+      (new-others s v (startOf (k .code)) σ v (omega arith))
+      others
       (rw (put-other (S .scope) (S .count) σ v (omega (arith, lt, F .made-is)))
       (shown _
       (ap (λ (w : Words). putOwn (on (ownIn w)) w) is-row
-      ∙ m .row-is (S .scope v) (s .made)
-      ∙ ap (λ (n : ℕ). busyRow c (S .scope v) (ms ++ (n ∷ []))) (F .made-is))))
+      ∙ m .row-is (S .scope v) (firstOf (S .opens v)) (s .made)
+      ∙ ap (λ (n : ℕ). busyRow c (S .scope v) (ms ++ (n ∷ [])) (firstOf (S .opens v))) (F .made-is))))
     where
       on : Own → Own
-      on = movedOn (rowOf (m .item)) (m .item .spot) (newTd (m .spot-of) a) (length ms) (s .made)
+      on = movedOn (rowOf (m .item)) (m .item .spot) (newTd (m .spot-of) (k .name)) (length ms) (s .made)
 
 -- newTd and stop hold no more edges than before
 pub new-held : (s : Lent) (v q σ n : ℕ) → leaves (NewTd v q σ) s .held ≤ s .held + n

@@ -10,7 +10,7 @@ use native.Mathlib.Omega.{arith}
 use lib.Dec.{ltb}
 use lib.ListN.{length, getD, length-set}
 use lib.Seq.{getD-set-other, set-getD}
-use Rattle.graph.specs.Tables.{Lent, vertexWords, statusWord, placeWord, phaseWord, madeWord, vertexRows, vertexWord, status}
+use Rattle.graph.specs.Tables.{Lent, vertexWords, statusWord, placeWord, phaseWord, madeWord, futureWord, vertexRows, vertexWord, status}
 use Rattle.graph.specs.Paths.{holds}
 use Rattle.graph.specs.Demand2.{graph, VertexWordOf}
 use Rattle.graph.specs.declared.Command as single
@@ -26,17 +26,18 @@ use Rattle.machine.proofs.TablesFollow.RowLaws.{ownIn, own-is, rowed-ow
 -- the table is as long as it was
 pub length-stored : (t : List ℕ) (v : ℕ) (w : Own) → length (stored t v w) ≡ length t
 unfolding stored
-length-stored t v (own p φ a b c) = simp length-set
+length-stored t v (own p φ a b c l) = simp length-set
 
 -- its other words are what they were
 stored-else : (t : List ℕ) (v : ℕ) (w : Own) (i : ℕ) → (OwnWord v i → ⊥) → getD (stored t v w) i 0 ≡ getD t i 0
 unfolding stored
-stored-else t v (own p φ a b c) i not-own =
+stored-else t v (own p φ a b c l) i not-own =
     let n1 : i ≡ vertexWords * v + placeWord → ⊥ = λ q. not-own (inl q) in
     let n2 : i ≡ vertexWords * v + phaseWord → ⊥ = λ q. not-own (inr (inl q)) in
     let n3 : i ≡ vertexWords * v + madeWord → ⊥ = λ q. not-own (inr (inr (omega arith))) in
     let n4 : i ≡ vertexWords * v + (madeWord + 1) → ⊥ = λ q. not-own (inr (inr (omega arith))) in
     let n5 : i ≡ vertexWords * v + (madeWord + 2) → ⊥ = λ q. not-own (inr (inr (omega arith))) in
+    let n6 : i ≡ vertexWords * v + futureWord → ⊥ = λ q. not-own (inr (inr (omega arith))) in
     simp getD-set-other
 
 -- no vertex's status is one of the own words of a vertex
@@ -53,7 +54,7 @@ stored-graph s v w = λ i. record { status = λ x. cond (ltb x (s .made)) (some 
 -- the words stored are those that stand there then
 own-stored : (s : Lent) (v : ℕ) (w : Own) → v < vertexRows (s .vertices) → ownOf (withOwn s v w) v ≡ w
 unfolding wordsOf
-own-stored s v (own p φ a b c) lt = own-is (withOwn s v (own p φ a b c)) v ∙ ap ownIn (rowed-own s v (own p φ a b c) lt .here)
+own-stored s v (own p φ a b c l) lt = own-is (withOwn s v (own p φ a b c l)) v ∙ ap ownIn (rowed-own s v (own p φ a b c l) lt .here)
 
 -- What a step adds.
 pub own-adds : (s : Lent) (v : ℕ) (w : Own) → v < vertexRows (s .vertices) → Adds v w s (oneStep (withOwn s v w))
@@ -91,6 +92,7 @@ leaves-own c s v lt =
     own (at placeWord (omega arith) (omega arith) i) (at phaseWord (omega arith) (omega arith) i) (at madeWord (omega arith) (omega arith) i)
     (at (madeWord + 1) (omega arith) (omega arith) i)
     (at (madeWord + 2) (omega arith) (omega arith) i)
+    (at futureWord (omega arith) (omega arith) i)
   where
     at : (w : ℕ) → 0 < w → w < vertexWords → vertexWord (leaves c s .vertices) v w ≡ vertexWord (s .vertices) v w
     at w gt lw = vertex-words-of c s .1 (vertexWords * v + w) (not-changed c s v w lt gt lw)

@@ -10,19 +10,20 @@ use lib.Dec.{eqb}
 use lib.ListN.{length, getD, set, length-set}
 use lib.Seq.{getD-set-same, getD-set-other}
 use borrow.Author.Tests.{eq-eqb, ne-eqb}
-use Rattle.graph.specs.Tables.{Lent, NEW, vertexWords, statusWord, placeWord, phaseWord, madeWord, vertexRows, vertexWord, setVertexWord}
+use Rattle.graph.specs.Tables.{Lent, NEW, vertexWords, statusWord, placeWord, phaseWord, madeWord, futureWord, vertexRows, vertexWord, setVertexWord}
 use Rattle.graph.specs.Commands.{withStatus, withVertex}
 use Rattle.graph.proofs.TestLaws.{equal?}
-use Rattle.graph.proofs.TableLaws.{vertex-in, vertex-apart, newRow-other, newRow-status, newRow-place, newRow-scope, newRow-zero}
+use Rattle.graph.proofs.TableLaws.{vertex-in, vertex-apart, newRow-other, newRow-status, newRow-place, newRow-scope, newRow-future, newRow-zero}
 use Rattle.program.specs.Encodings.{Command, Spot, Row}
-use Rattle.machine.specs.Stepping.{Own, own, ownOf, movedOn, stored, withOwn}
+use Rattle.machine.specs.Stepping.{latest, Own, own, ownOf, movedOn, stored, withOwn}
 use Rattle.machine.proofs.TablesFollow.Follows.{Words, row, wordsOf}
 
 -- word number w of a row set to x
 abbrev pub setAt : ℕ → ℕ → Words → Words
-setAt w x (row st pl sc ph a b c) =
+setAt w x (row st pl sc ph a b c l) =
     row (cond (eqb w 0) x st) (cond (eqb w 1) x pl) (cond (eqb w 2) x sc) (cond (eqb w 3) x ph) (cond (eqb w 4) x a) (cond (eqb w 5) x b)
     (cond (eqb w 6) x c)
+    (cond (eqb w 7) x l)
 
 -- a word of a row after one was set
 word-set :
@@ -45,9 +46,9 @@ word-else l v u w i x lw li ne =
 
 -- rows of the same words are the same
 pub same-row :
-    {st st' pl pl' sc sc' ph ph' a a' b b' c c' : ℕ} → st ≡ st' → pl ≡ pl' → sc ≡ sc' → ph ≡ ph' → a ≡ a' → b ≡ b' → c ≡ c'
-    → row st pl sc ph a b c ≡ row st' pl' sc' ph' a' b' c'
-same-row p0 p1 p2 p3 p4 p5 p6 = λ i. row (p0 i) (p1 i) (p2 i) (p3 i) (p4 i) (p5 i) (p6 i)
+    {st st' pl pl' sc sc' ph ph' a a' b b' c c' l l' : ℕ} → st ≡ st' → pl ≡ pl' → sc ≡ sc' → ph ≡ ph' → a ≡ a' → b ≡ b' → c ≡ c' → l ≡ l'
+    → row st pl sc ph a b c l ≡ row st' pl' sc' ph' a' b' c' l'
+same-row p0 p1 p2 p3 p4 p5 p6 p7 = λ i. row (p0 i) (p1 i) (p2 i) (p3 i) (p4 i) (p5 i) (p6 i) (p7 i)
 
 -- s' is s, but that f is done to the row of v
 pub record Rowed (s s' : Lent) (v : ℕ) (f : Words → Words) : Type 0 where
@@ -78,8 +79,9 @@ rowed-word s v w x lw lt =
           same-row (else u 0 ne (omega arith)) (else u 1 ne (omega arith)) (else u 2 ne (omega arith)) (else u 3 ne (omega arith))
           (else u 4 ne (omega arith))
           (else u 5 ne (omega arith))
-          (else u 6 ne (omega arith));
-      here = same-row (at 0) (at 1) (at 2) (at 3) (at 4) (at 5) (at 6);
+          (else u 6 ne (omega arith))
+          (else u 7 ne (omega arith));
+      here = same-row (at 0) (at 1) (at 2) (at 3) (at 4) (at 5) (at 6) (at 7);
     }
   where
     at : (i : ℕ) → vertexWord (withWord s v w x .vertices) v i ≡ cond (eqb w i) x (vertexWord (s .vertices) v i)
@@ -118,7 +120,7 @@ rowed-status s v x lt = rowed-word s v statusWord x (omega arith) lt
 
 -- the own words of a row
 abbrev pub ownIn : Words → Own
-ownIn (row st pl sc ph a b c) = own pl ph a b c
+ownIn (row st pl sc ph a b c l) = own pl ph a b c l
 
 pub own-is : (s : Lent) (v : ℕ) → ownOf s v ≡ ownIn (wordsOf s v)
 unfolding ownOf wordsOf
@@ -126,45 +128,52 @@ own-is s v = refl
 
 -- a row with other ones
 abbrev pub putOwn : Own → Words → Words
-putOwn (own p φ a b c) w =
-    setAt (madeWord + 2) c (setAt (madeWord + 1) b (setAt madeWord a (setAt phaseWord φ (setAt placeWord p w))))
+putOwn (own p φ a b c l) w =
+    setAt futureWord l (setAt (madeWord + 2) c (setAt (madeWord + 1) b (setAt madeWord a (setAt phaseWord φ (setAt placeWord p w)))))
 
 -- own words that are stored
 pub rowed-own : (s : Lent) (v : ℕ) (w : Own) → v < vertexRows (s .vertices) → Rowed s (withOwn s v w) v (putOwn w)
 unfolding stored
-rowed-own s v (own p φ a b c) lt =
-    rowed-more (madeWord + 2) c (omega arith) lt
+rowed-own s v (own p φ a b c l) lt =
+    rowed-more futureWord l (omega arith) lt
+    (rowed-more (madeWord + 2) c (omega arith) lt
     (rowed-more (madeWord + 1) b (omega arith) lt
     (rowed-more madeWord a (omega arith) lt
     (rowed-more phaseWord φ (omega arith) lt
-    (rowed-word s v placeWord p (omega arith) lt))))
+    (rowed-word s v placeWord p (omega arith) lt)))))
 
 -- the row after an item's command c, which was at phase φ and made x if it made a vertex
 abbrev pub advancing : Row → (Spot → ℕ) → Command → ℕ → ℕ → Words → Words
 advancing r spot c φ x w = putOwn (movedOn r spot c φ x (ownIn w)) w
 
--- the row that newTd makes, and the others
+-- the row that newTd of t makes, and the others; the latest open future is copied
 pub new-row :
-    (s : Lent) (place scope : ℕ) → s .made < vertexRows (s .vertices)
-    → wordsOf (withVertex s place scope) (s .made) ≡ row NEW place scope 0 0 0 0
+    (s : Lent) (t place scope : ℕ) → s .made < vertexRows (s .vertices)
+    → wordsOf (withVertex s t place scope) (s .made) ≡ row NEW place scope 0 0 0 0 (latest s t)
 unfolding wordsOf withVertex
-new-row s place scope lt =
-    same-row (newRow-status (s .vertices) (s .made) place scope lt) (newRow-place (s .vertices) (s .made) place scope lt)
-    (newRow-scope (s .vertices) (s .made) place scope lt)
-    (zero-word phaseWord (omega arith) (omega arith))
-    (zero-word madeWord (omega arith) (omega arith))
-    (zero-word (madeWord + 1) (omega arith) (omega arith))
-    (zero-word (madeWord + 2) (omega arith) (omega arith))
+new-row s t place scope lt =
+    same-row (newRow-status (s .vertices) (s .made) place scope future lt) (newRow-place (s .vertices) (s .made) place scope future lt)
+    (newRow-scope (s .vertices) (s .made) place scope future lt)
+    (zero-word phaseWord (omega arith) (omega arith) (omega arith))
+    (zero-word madeWord (omega arith) (omega arith) (omega arith))
+    (zero-word (madeWord + 1) (omega arith) (omega arith) (omega arith))
+    (zero-word (madeWord + 2) (omega arith) (omega arith) (omega arith))
+    (newRow-future (s .vertices) (s .made) place scope future lt)
   where
-    zero-word : (w : ℕ) → w < vertexWords → 2 < w → vertexWord (withVertex s place scope .vertices) (s .made) w ≡ 0
-    zero-word w lw gt = newRow-zero (s .vertices) (s .made) place scope w lw (omega arith) (omega arith) (omega arith)
+    future : ℕ
+    future = latest s t
 
-pub new-others : (s : Lent) (place scope u : ℕ) → (u ≡ s .made → ⊥) → wordsOf (withVertex s place scope) u ≡ wordsOf s u
+    zero-word : (w : ℕ) → w < vertexWords → 2 < w → w < futureWord → vertexWord (withVertex s t place scope .vertices) (s .made) w ≡ 0
+    zero-word w lw gt lf =
+        newRow-zero (s .vertices) (s .made) place scope future w lw (omega arith) (omega arith) (omega arith) (omega arith)
+
+pub new-others : (s : Lent) (t place scope u : ℕ) → (u ≡ s .made → ⊥) → wordsOf (withVertex s t place scope) u ≡ wordsOf s u
 unfolding wordsOf withVertex
-new-others s place scope u ne =
+new-others s t place scope u ne =
     same-row (word 0 (omega arith)) (word 1 (omega arith)) (word 2 (omega arith)) (word 3 (omega arith)) (word 4 (omega arith))
     (word 5 (omega arith))
     (word 6 (omega arith))
+    (word 7 (omega arith))
   where
-    word : (w : ℕ) → w < vertexWords → vertexWord (withVertex s place scope .vertices) u w ≡ vertexWord (s .vertices) u w
-    word w lw = newRow-other (s .vertices) (s .made) place scope u w lw ne
+    word : (w : ℕ) → w < vertexWords → vertexWord (withVertex s t place scope .vertices) u w ≡ vertexWord (s .vertices) u w
+    word w lw = newRow-other (s .vertices) (s .made) place scope (latest s t) u w lw ne

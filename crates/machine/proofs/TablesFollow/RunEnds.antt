@@ -41,12 +41,12 @@ module _ {bytes : List ℕ} {t : Body} {s₀ : Lent} {answers : List StepSaid} {
       status-over (T .state .control v)
       (sym (follows-status s (T .state) v (T .follows) lt) ∙ all v (subst (λ (n : ℕ). v < n) (sym (T .follows .made-is)) lt)))
       in
-      omega (arith, z, T .steps-are, steps-run 0 t (length bytes - 1) (T .runs), steps-formula t)
+      omega (arith, z, T .steps-are, steps-run t (length bytes - 1) (T .runs), steps-formula t)
 
   full-finished : s .steps ≡ stepFormula (counts t) → AllFinished s
   unfolding statusOf
   full-finished h v lt =
-      let z : total each (T .state) ≡ 0 = omega (arith, h, T .steps-are, steps-run 0 t (length bytes - 1) (T .runs), steps-formula t) in
+      let z : total each (T .state) ≡ 0 = omega (arith, h, T .steps-are, steps-run t (length bytes - 1) (T .runs), steps-formula t) in
       let l : v < T .state .count = subst (λ (n : ℕ). v < n) (T .follows .made-is) lt in
       follows-status s (T .state) v (T .follows) l ∙ ap statusOf (all-over (T .state) z v l)
 

@@ -3,12 +3,12 @@
 use Prim.Native.Nat.{ℕ, _-_, _<_, _≤_}
 use mathlib.Core.Path.{_≡_, refl, sym, _∙_, ap, subst}
 use mathlib.Core.Bool.{true}
-use mathlib.Core.Logic.{⊎-elim}
+use mathlib.Core.Logic.{_⊎_, inl, inr, ⊎-elim}
 use mathlib.Core.List.{List, [], _∷_, _++_}
 use mathlib.Core.Option.{some}
 use native.Mathlib.Omega.{arith}
 use lib.Dec.{ltb}
-use lib.ListN.{length}
+use lib.ListN.{length, drop}
 use borrow.Author.Tests.{ltb-true, ltb-false}
 use Rattle.graph.specs.Tables.{Lent, NEW, RELEASED, EXECUTING, FINISHED, vertexRows, edgeRows}
 use Rattle.refusal.specs.Refusals.{no-such-vertex, edge-leads-in, vertex-is-new, vertex-is-finished}
@@ -20,33 +20,38 @@ use Rattle.graph.proofs.SoundLaws.{sound-fits}
 use Rattle.graph.proofs.EdgeLaws.{none-into}
 use Rattle.graph.proofs.TakenLaws.{leaves, Taken}
 use Rattle.program.specs.Trees.{Body}
-use Rattle.program.specs.Encodings.{Name, perform, newTd}
+use Rattle.program.specs.Encodings.{Command, perform, newTd}
 use Rattle.program.specs.Reader.{program, reading}
-use Rattle.program.specs.Located.{Code, end-at, job-at, locate, startOf, codeAt}
+use Rattle.program.specs.Located.{Code, end-at, job-at, located, startOf, codeAt}
 use Rattle.machine.specs.Answers.{StepSaid, oneStep}
-use Rattle.machine.specs.Stepping.{stepLimit, steppable, Own, ownOf, movedOn, filledIn, withOwn, step}
+use Rattle.machine.specs.Stepping.{stepLimit, steppable, followed, Own, ownOf, movedOn, filledIn, withOwn, step}
 use Rattle.machine.specs.Stepping as words
-use Rattle.machine.proofs.GhostMachine.Ghost.{Do, link, hand, free, Control, draft, fresh, ready, busy, joining, over, State, resolved, a-start}
+use Rattle.machine.proofs.GhostMachine.Ghost.{Do, link, hand, free, Control, draft, fresh, ready, busy, joining, over, State, Kid, kids, put}
+use Rattle.machine.proofs.GhostMachine.Ghost.{goes, forcedBy, opensBehind, onward, todoOf, scopeFor, a-start}
 use Rattle.machine.proofs.GhostMachine.Ghost.{a-new, an-edge, a-job, a-stop, eventOf, Move, begins, performs, stops, makes, splits, acts}
-use Rattle.machine.proofs.GhostMachine.Invariant.{isNew, Shape, Ranks, Roads, Coded}
-use Rattle.machine.proofs.GhostMachine.GhostLaws.{draft-new, fresh-new}
+use Rattle.machine.proofs.GhostMachine.Invariant.{isNew, Shape, Ranks, Roads, Coded, Opened}
+use Rattle.machine.proofs.GhostMachine.GhostLaws.{draft-new, fresh-new, put-same, put-other}
 use Rattle.machine.proofs.GhostMachine.RoadLaws.{busy-code}
 use Rattle.machine.proofs.GhostMachine.Unsplit.{MoreToMake, UnsplitAt, Unsplit}
-use Rattle.machine.proofs.TablesFollow.Follows.{Words, wordsOf, Shows, shows-draft, shows-fresh, shows-busy, Follows, absent, blocked, is-new}
-use Rattle.machine.proofs.TablesFollow.Follows.{is-over, Answers, says-start, says-new, says-job, says-stop, Followed, refused, moved}
+use Rattle.machine.proofs.TablesFollow.Follows.{Words, wordsOf, firstOf, Shows, shows-draft, shows-fresh, shows-busy, Follows, absent, blocked}
+use Rattle.machine.proofs.TablesFollow.Follows.{is-new, is-over, Answers, says-start, says-new, says-job, says-stop, Followed, refused, moved}
 use Rattle.machine.proofs.TablesFollow.OwnLaws.{length-stored, leaves-stored}
 use Rattle.machine.proofs.TablesFollow.FollowLaws.{statusOf, follows-status, woken-follows, count-follows}
 use Rattle.machine.proofs.TablesFollow.CommandLaws.{into-from, first-task, stands, runs, takes-start}
 use Rattle.machine.proofs.TablesFollow.DoneLaws.{shown-as, start-done, stop-done, asked, Room, Joined, joined}
-use Rattle.machine.proofs.TablesFollow.StepLaws.{rowOf, steppable-of, step-is, due-absent, due-new, due-over, due-released, row-place, job-item}
-use Rattle.machine.proofs.TablesFollow.StepLaws.{due-command, due-end}
+use Rattle.machine.proofs.TablesFollow.StepLaws.{rowOf, steppable-of, step-is, due-absent, due-new, due-over, due-released, row-place}
+use Rattle.machine.proofs.TablesFollow.StepLaws.{row-latest, job-item, plainNames, names-stand, due-command, due-end}
+use Rattle.machine.proofs.TablesFollow.FutureLaws.{followed-is}
 use Rattle.machine.proofs.StepDemand2.{blocked-step}
-use Rattle.machine.proofs.TablesFollow.ItemLaws.{Acting, acting, busyRow, Making, Busy, at-end, at-job, making, splitting}
+use Rattle.machine.proofs.TablesFollow.ItemLaws.{ForcesOpen, Acting, acting, busyRow, Making, Busy, at-end, at-job, making, splitting}
 use Rattle.machine.proofs.TablesFollow.ItemLaws.{busy-cases, job-next}
-use Rattle.machine.proofs.TablesFollow.MoveLaws.{joins-due, new-due, by-command, acts-follows, performs-follows, makes-follows, new-held, stop-held}
+use Rattle.machine.proofs.TablesFollow.MoveLaws.{joins-due, new-due, by-command, acts-follows, performs-follows, makes-follows, new-held}
+use Rattle.machine.proofs.TablesFollow.MoveLaws.{stop-held}
 
 -- the row of a busy vertex
-busy-row : {p : Code} {L σ : ℕ} {w : Words} {c : Code} {ms : List ℕ} → Shows p L w σ (busy c ms) → w ≡ busyRow c σ ms
+busy-row :
+    {p : Code} {L σ : ℕ} {fs : List (ℕ × Code)} {w : Words} {c : Code} {ms : List ℕ} → Shows p L w σ fs (busy c ms)
+    → w ≡ busyRow c σ ms (firstOf fs)
 busy-row (shows-busy h) = h
 
 -- statuses by what a vertex is at
@@ -76,14 +81,14 @@ unfolding statusOf
 over-is q = ap statusOf q
 
 -- what is left of an item that is not split
-busy-left : {x : Control} {c : Code} {ms : List ℕ} → UnsplitAt x → x ≡ busy c ms → MoreToMake c ms
+busy-left : (L : ℕ) {x : Control} {c : Code} {ms : List ℕ} → UnsplitAt L x → x ≡ busy c ms → MoreToMake L c ms
 unfolding UnsplitAt
-busy-left h q = subst (λ (x : Control). UnsplitAt x) q h
+busy-left L h q = subst (λ (x : Control). UnsplitAt L x) q h
 
 -- the row that a joining command needs
 room-for :
-    {L : ℕ} (s : Lent) {S : State} {v : ℕ} {c : Code} {ds : List Do} (d : Do) → S .control v ≡ joining c d ds
-    → ((S' : State) → Move L S v an-edge S' → s .held < edgeRows (s .edges)) → Room s d
+    (s : Lent) {S : State} {v : ℕ} {c : Code} {ds : List Do} (d : Do) → S .control v ≡ joining c d ds
+    → ((S' : State) → Move S v an-edge S' → s .held < edgeRows (s .edges)) → Room s d
 unfolding Room eventOf
 room-for s (link a b) q edge-room = edge-room _ (acts q)
 room-for s (hand h) q edge-room = tt
@@ -91,11 +96,11 @@ room-for s (free m) q edge-room = tt
 
 module _
     (bytes : List ℕ) (t : Body) (s : Lent) (S : State) (v : ℕ) (reads : reading bytes ≡ program t) (shape : Shape S) (ranks : Ranks S)
-    (roads : Roads S) (coded : Coded (locate 0 t) S) (unsplit : Unsplit S) (F : Follows (locate 0 t) (length bytes - 1) s S)
+    (roads : Roads S) (opened : Opened S) (coded : Coded (located t) S) (unsplit : Unsplit S) (F : Follows (located t) (length bytes - 1) s S)
     (limit : s .steps < stepLimit)
   where
     abbrev p : Code
-    p = locate 0 t
+    p = located t
 
     abbrev L : ℕ
     L = length bytes - 1
@@ -140,24 +145,39 @@ module _
         (omega arith))
         (decide (leadsInto (s .edges) (s .held) v))
 
+    -- the future that a command names, if it does, is the vertex that the words followed come to
+    followed-to :
+        (c : Command) (k : Code) (gs : List (ℕ × Code)) (n : ℕ) → v < S .count → words.latest s v ≡ firstOf gs
+        → (plainNames c ≡ true) ⊎ ForcesOpen gs (S .opens v) k n → (plainNames c ≡ true) ⊎ (followed s v n ≡ some (forcedBy gs k))
+    followed-to c k gs n lt first (inl h) = inl h
+    followed-to c k gs n lt first (inr h) =
+        inr (followed-is F opened gs n v lt (sym (h .still-open)) first (h .is-open) ∙ ap some (sym (h .vertex-is)))
+
     -- a joining command
     step-acts :
-        (c : Code) (d : Do) (ds : List Do) → S .control v ≡ joining c d ds → v < s .made → Acting p L (S .scope v) (wordsOf s v) d ds c
-        → Joined p L s S v d → Result
+        (c : Code) (d : Do) (ds : List Do) → S .control v ≡ joining c d ds → v < s .made
+        → Acting p L (S .scope v) (S .opens v) (wordsOf s v) d ds c → Joined p L s S v d → Result
     step-acts c d ds q made a j =
         by-command (asked v d) _ (eventOf d) _ F
         (step-is bytes s v
         (due-command bytes t s v reads ok made (a .k) (a .is-row) (a .stands) (a .item) (a .command) (a .next-is)
-        ∙ joins-due s v (a .item .number) (a .item .spot) _ (a .ms) (a .is-row) (a .does)))
+        (names-stand s v (a .item .number) (forcedBy (a .gs) (a .k)) (a .command) named)
+        ∙ joins-due s v (a .item .number) (forcedBy (a .gs) (a .k)) (a .item .spot) _ (a .ms) (a .is-row) named (a .does)))
         (j .is-taken)
         (acts q)
         (acts-follows F v c d ds a j made)
         (j .answers)
         (j .held-le)
+      where
+        named : (plainNames (a .command) ≡ true) ⊎ (followed s v (a .item .number) ≡ some (forcedBy (a .gs) (a .k)))
+        named =
+            followed-to (a .command) (a .k) (a .gs) (a .item .number) (subst (λ (k : ℕ). v < k) (F .made-is) made)
+            (row-latest s v (a .is-row))
+            (a .names)
 
     step-joining :
         (c : Code) (d : Do) (ds : List Do) → S .control v ≡ joining c d ds
-        → ((S' : State) → Move L S v an-edge S' → s .held < edgeRows (s .edges)) → Result
+        → ((S' : State) → Move S v an-edge S' → s .held < edgeRows (s .edges)) → Result
     step-joining c d ds q edge-room =
         let made = stands shape F v EXECUTING (joining-is q) (omega arith) .0 in
         step-acts c d ds q made (acting (shown-as F v (joining c d ds) made q))
@@ -168,7 +188,7 @@ module _
       busy-made : v < s .made
       busy-made = stands shape F v EXECUTING (busy-is q) (omega arith) .0
 
-      busy-shown : wordsOf s v ≡ busyRow c (S .scope v) ms
+      busy-shown : wordsOf s v ≡ busyRow c (S .scope v) ms (firstOf (S .opens v))
       busy-shown = busy-row (shown-as F v (busy c ms) busy-made q)
 
       busy-stands : codeAt p (startOf c) ≡ some c
@@ -176,28 +196,29 @@ module _
 
       -- it makes a vertex: S' is what the tables follow then
       step-makes :
-          (k : Code) (a : Name) (m : Making L c ms k a) (S' : State) → Move L S v a-new S' → s .made < vertexRows (s .vertices)
-          → (Taken (NewTd v (startOf k) (resolved (S .scope v) ms a)) s
+          (k : Kid) (m : Making L c ms k) (S' : State) → Move S v a-new S' → s .made < vertexRows (s .vertices)
+          → (Taken (NewTd v (startOf (k .code)) (scopeFor S v ms k)) s
           → Follows p L
-          (withOwn (leaves (NewTd v (startOf k) (resolved (S .scope v) ms a)) s) v
-          (movedOn (rowOf (m .item)) (m .item .spot) (newTd (m .spot-of) a) (length ms) (s .made) (ownOf s v)))
+          (withOwn (leaves (NewTd v (startOf (k .code)) (scopeFor S v ms k)) s) v
+          (movedOn (rowOf (m .item)) (m .item .spot) (newTd (m .spot-of) (k .name)) (length ms) (s .made) (ownOf s v)))
           S')
           → Result
-      step-makes k a m S' move room follows =
-          by-command (NewTd v (startOf k) σ) _ a-new S' F
+      step-makes k m S' move room follows =
+          by-command (NewTd v (startOf (k .code)) σ) _ a-new S' F
           (step-is bytes s v
-          (due-command bytes t s v reads ok busy-made c busy-shown busy-stands (m .item) (newTd (m .spot-of) a) (m .next-is)
-          ∙ new-due s v (m .item .number) (m .item .spot) _ ms (m .spot-of) a busy-shown (m .spot-is)))
+          (due-command bytes t s v reads ok busy-made c busy-shown busy-stands (m .item) (newTd (m .spot-of) (k .name)) (m .next-is)
+          (names-stand s v (m .item .number) 0 (newTd (m .spot-of) (k .name)) (inl (unfold plainNames in m .plain-scope)))
+          ∙ new-due s v (m .item .number) (m .item .spot) _ ms (m .spot-of) (k .name) busy-shown (m .plain-scope) (m .spot-is)))
           taken
           move
           (follows taken)
           (subst (λ (n : ℕ). Answers S v a-new (StepSaid.new n)) (sym (F .made-is)) says-new)
-          (new-held s v (startOf k) σ _)
+          (new-held s v (startOf (k .code)) σ _)
         where
           σ : ℕ
-          σ = resolved (S .scope v) ms a
+          σ = scopeFor S v ms k
 
-          taken : Taken (NewTd v (startOf k) σ) s
+          taken : Taken (NewTd v (startOf (k .code)) σ) s
           taken = (runs shape F v (busy-is q), room)
 
     -- an end byte
@@ -209,7 +230,7 @@ module _
         (step-is bytes s v (due-end bytes t s v reads ok made o (busy-shown (end-at o) [] q) (busy-stands (end-at o) [] q)))
         taken
         (stops q)
-        (rw (leaves-stored (Stop v) s v made) (stop-done F v taken))
+        (rw (leaves-stored (Stop v) s v made) (stop-done F v o q taken))
         says-stop
         (stop-held s v _)
 
@@ -225,7 +246,7 @@ module _
         made : v < s .made
         made = busy-made (job-at o n r) [] q
 
-        shown : wordsOf s v ≡ busyRow (job-at o n r) (S .scope v) []
+        shown : wordsOf s v ≡ busyRow (job-at o n r) (S .scope v) [] (firstOf (S .opens v))
         shown = busy-shown (job-at o n r) [] q
 
         within : v < vertexRows (s .vertices)
@@ -242,37 +263,61 @@ module _
             unfold filledIn job-item in
             step-is bytes s v
             (due-command bytes t s v reads ok made (job-at o n r) shown (busy-stands (job-at o n r) [] q) (job-item L o n r) perform
-            (job-next L o n r))
+            (job-next L o n r)
+            (names-stand s v (job-item L o n r .number) 0 perform (inl (unfold plainNames in refl))))
+
+    -- the vertices that are left to an item, by the state's last byte
+    left-after :
+        (c : Code) (ms : List ℕ) {ks : List Kid} → drop (length ms) (kids L c) ≡ ks → drop (length ms) (kids (S .lastByte) c) ≡ ks
+    left-after c ms {ks} h = subst (λ (n : ℕ). drop (length ms) (kids n c) ≡ ks) (sym (F .last-is)) h
+
+    not-count : v < s .made → v ≡ S .count → ⊥
+    not-count lt q = absurd (omega (arith, lt, q, F .made-is))
 
     -- a busy vertex
     step-busy :
-        (c : Code) (ms : List ℕ) → S .control v ≡ busy c ms → ((S' : State) → Move L S v a-new S' → s .made < vertexRows (s .vertices))
+        (c : Code) (ms : List ℕ) → S .control v ≡ busy c ms → ((S' : State) → Move S v a-new S' → s .made < vertexRows (s .vertices))
         → Busy L c ms → Result
     step-busy c ms q room (at-end o) = step-stop o q
     step-busy c ms q room (at-job o n r) = step-job o n r q
-    step-busy c ms q room (making k a next more left m) =
-        step-makes c ms q k a m _ (makes q left) (room _ (makes q left))
-        (makes-follows F v c ms k a m (busy c (ms ++ (S .count ∷ []))) (draft k) (resolved (S .scope v) ms a) (shows-draft refl)
-        (λ w h. shows-busy h)
+    step-busy c ms q room (making k next more left m) =
+        let move = makes q (left-after c ms left) in
+        step-makes c ms q k m _ move (room _ move)
+        (makes-follows F v c ms k m (busy c (ms ++ (S .count ∷ []))) (draft (k .code)) (scopeFor S v ms k)
+        (put (S .opens) (S .count) (S .opens v))
+        (shows-draft refl)
+        (λ u ne. refl)
+        (λ w h. rw (put-other (S .opens) (S .count) (S .opens v) v (not-count (busy-made c ms q))) (shows-busy h))
         (busy-shown c ms q)
         (busy-made c ms q))
-    step-busy c ms q room (splitting k a left m behind) =
-        step-makes c ms q k a m _ (splits q left) (room _ (splits q left))
-        (makes-follows (woken-follows S ms F) v c ms k a m _ (fresh k) (resolved (S .scope v) ms a) (shows-fresh refl)
-        (λ w h. behind p (S .scope v) (S .count) w h (busy-stands c ms q))
+    step-busy c ms q room (splitting k left m behind) =
+        let move = splits q (left-after c ms left) in
+        let all : List ℕ = ms ++ (S .count ∷ []) in
+        let fs : List (ℕ × Code) = opensBehind (S .opens v) all c in
+        let opens = put (S .opens) (S .count) (S .opens v) in
+        step-makes c ms q k m _ move (room _ move)
+        (makes-follows (woken-follows S ms F) v c ms k m _ (fresh (k .code)) (scopeFor S v ms k) (put opens v fs)
+        (shows-fresh refl)
+        (λ u ne. put-other opens v fs u ne)
+        (λ w h.
+        rw (put-same opens v fs)
+        (subst (λ (n : ℕ). Shows p L w (S .scope v) fs (onward (goes n c) (todoOf S v all c))) (sym (F .last-is))
+        (behind p (S .scope v) (S .count) (S .opens v) w h (busy-stands c ms q) (opened .scoped v c (busy-code q)))))
         (busy-shown c ms q)
         (busy-made c ms q))
 
     -- by what v is at
     module _
-        (new-room : (S' : State) → Move L S v a-new S' → s .made < vertexRows (s .vertices))
-        (edge-room : (S' : State) → Move L S v an-edge S' → s .held < edgeRows (s .edges))
+        (new-room : (S' : State) → Move S v a-new S' → s .made < vertexRows (s .vertices))
+        (edge-room : (S' : State) → Move S v an-edge S' → s .held < edgeRows (s .edges))
       where
         step-at : (x : Control) → v < S .count → S .control v ≡ x → Result
         step-at (draft c) lt q = refuses-new (draft-new q)
         step-at (fresh c) lt q = refuses-new (fresh-new q)
         step-at (ready c) lt q = step-ready c q
-        step-at (busy c ms) lt q = step-busy c ms q new-room (busy-cases L c ms (busy-left (unsplit v) q))
+        step-at (busy c ms) lt q =
+            step-busy c ms q new-room
+            (busy-cases L c ms (subst (λ (n : ℕ). MoreToMake n c ms) (F .last-is) (busy-left (S .lastByte) (unsplit v) q)))
         step-at (joining c d ds) lt q = step-joining c d ds q edge-room
         step-at over lt q = refuses-over lt q
 
@@ -286,8 +331,8 @@ module _
 -- A step of the lent tables is a move of the ghost machine.
 pub step-follows :
     (bytes : List ℕ) (t : Body) (s : Lent) (S : State) (v : ℕ) → reading bytes ≡ program t → Shape S → Ranks S → Roads S
-    → Coded (locate 0 t) S → Unsplit S → Follows (locate 0 t) (length bytes - 1) s S → s .steps < stepLimit
-    → ((S' : State) → Move (length bytes - 1) S v a-new S' → s .made < vertexRows (s .vertices))
-    → ((S' : State) → Move (length bytes - 1) S v an-edge S' → s .held < edgeRows (s .edges))
-    → Followed (locate 0 t) (length bytes - 1) s S v (step bytes s v)
+    → Opened S → Coded (located t) S → Unsplit S → Follows (located t) (length bytes - 1) s S → s .steps < stepLimit
+    → ((S' : State) → Move S v a-new S' → s .made < vertexRows (s .vertices))
+    → ((S' : State) → Move S v an-edge S' → s .held < edgeRows (s .edges))
+    → Followed (located t) (length bytes - 1) s S v (step bytes s v)
 step-follows = step-any

@@ -12,13 +12,14 @@ use Rattle.graph.specs.Tables.{Lent, usableLimit, vertexWords, edgeWords, verte
 use Rattle.graph.specs.Tables as tables
 use Rattle.graph.specs.Answers.{Outcome}
 use Rattle.program.specs.Limits.{numberBytes, programBytes, vertexLimit}
-use Rattle.program.specs.Trees.{jobs, Body, end, job, async, finish, fork, total, same, counts}
+use Rattle.program.specs.Trees.{jobs, forces, Body, end, job, async, finish, fork, future, force, total, same, counts}
 use Rattle.program.specs.Encodings.{verticesMade, edgeRowsNeeded, stepsTaken, firstEdition}
 use Rattle.program.specs.Reader.{reading, program}
 use Rattle.program.specs.Bytes.{topBit, encodeNumber, groupBytes, encode, size}
-use Rattle.program.specs.Located.{locate, startOf, job-at}
+use Rattle.program.specs.Located.{located, startOf, job-at}
 use Rattle.program.specs.Claims.{Loadable}
-use Rattle.program.proofs.LocatedLaws.{laid-locate}
+use Rattle.program.proofs.LocatedLaws.{laid-located}
+use Rattle.program.proofs.OpenLaws.{Opens, opens-locate}
 use Rattle.program.proofs.Formulas.{vertices-formula, steps-formula}
 use Rattle.program.proofs.Exactness.{reading-sound}
 use Rattle.machine.specs.Answers.{StepSaid, accepted, isLoaded}
@@ -66,9 +67,9 @@ answered-snoc {a} {b} (c ∷ answers) (later i) = more (answered-snoc answers i)
 pub record Tracked (bytes : List ℕ) (t : Body) (s₀ : Lent) (answers : List StepSaid) (s : Lent) : Type 0 where
   pub state : State
   pub events : List Event
-  pub runs : Runs (length bytes - 1) (beginning (locate 0 t) (length bytes - 1)) events state
-  pub inv : Inv (locate 0 t) state
-  pub follows : Follows (locate 0 t) (length bytes - 1) s state
+  pub runs : Runs (beginning (located t) (length bytes - 1)) events state
+  pub inv : Inv (located t) state
+  pub follows : Follows (located t) (length bytes - 1) s state
   pub steps-are : s .steps ≡ length events
   pub accepted-are : acceptedIn answers ≡ length events
   pub jobs-are : (o : ℕ) → ranIn o answers ≡ spent (jobAt o) events
@@ -78,6 +79,11 @@ pub record Tracked (bytes : List ℕ) (t : Body) (s₀ : Lent) (answers : List S
   pub refusals : (n p : ℕ) → Answered (said.refused n p) answers → ByChoice n
   pub only-written : (n o : ℕ) → Answered (said.job n o) answers → Written t o n
 
+-- each force of a program has its future
+pub opens-located : (bytes : List ℕ) (t : Body) → reading bytes ≡ program t → Opens [] (located t)
+unfolding located
+opens-located bytes t r = opens-locate [] 0 t (reading-sound bytes t r .1 .forced)
+
 -- After loading.
 pub tracked-begun :
     (bytes : List ℕ) (t : Body) (s₀ : Lent) → reading bytes ≡ program t → isLoaded (load bytes s₀ .answer) ≡ true
@@ -86,10 +92,10 @@ unfolding acceptedIn ranIn spent
 tracked-begun bytes t s₀ r h =
     let (f, b) = load-follows bytes s₀ t r h in
     record {
-      state = beginning (locate 0 t) (length bytes - 1);
+      state = beginning (located t) (length bytes - 1);
       events = [];
       runs = no-move;
-      inv = inv-beginning t (length bytes - 1) (last-byte bytes t r);
+      inv = inv-beginning t (length bytes - 1) (last-byte bytes t r) (opens-located bytes t r);
       follows = f;
       steps-are = b .steps-none;
       accepted-are = refl;
@@ -125,7 +131,7 @@ module _ {S : State} {v : ℕ} where
   answers-jobs (says-job at) o = refl
   answers-jobs says-stop o = refl
 
-  answers-written : {t : Body} {e : Event} {a : StepSaid} {n o : ℕ} → Coded (locate 0 t) S → Answers S v e a → said.job n o ≡ a → Written t o n
+  answers-written : {t : Body} {e : Event} {a : StepSaid} {n o : ℕ} → Coded (located t) S → Answers S v e a → said.job n o ≡ a → Written t o n
   unfolding codeOf startOf
   answers-written coded says-start h = clash cc
   answers-written coded says-new h = clash cc
@@ -158,22 +164,24 @@ number-some : (n : ℕ) → 1 ≤ length (encodeNumber n)
 unfolding encodeNumber
 number-some n = group-some (numberBytes - 1) n
 
--- each job has two bytes at least
-jobs-short : (b : Body) → 2 * total (same jobs) b < size b
+-- each job and each force has two bytes at least
+numbers-short : (b : Body) → 2 * (total (same jobs) b + total (same forces) b) < size b
 unfolding total same size encode
-jobs-short end = omega arith
-jobs-short (job n r) = omega (arith, jobs-short r, number-some n, length-append (encodeNumber n) (encode r))
-jobs-short (async b r) = omega (arith, jobs-short b, jobs-short r, length-append (encode b) (encode r))
-jobs-short (finish b r) = omega (arith, jobs-short b, jobs-short r, length-append (encode b) (encode r))
-jobs-short (fork b c r) =
+numbers-short end = omega arith
+numbers-short (job n r) = omega (arith, numbers-short r, number-some n, length-append (encodeNumber n) (encode r))
+numbers-short (async b r) = omega (arith, numbers-short b, numbers-short r, length-append (encode b) (encode r))
+numbers-short (finish b r) = omega (arith, numbers-short b, numbers-short r, length-append (encode b) (encode r))
+numbers-short (fork b c r) =
     let parts = length-append (encode b) (encode c ++ encode r) in
-    omega (arith, jobs-short b, jobs-short c, jobs-short r, parts, length-append (encode c) (encode r))
+    omega (arith, numbers-short b, numbers-short c, numbers-short r, parts, length-append (encode c) (encode r))
+numbers-short (future b r) = omega (arith, numbers-short b, numbers-short r, length-append (encode b) (encode r))
+numbers-short (force n r) = omega (arith, numbers-short r, number-some n, length-append (encodeNumber n) (encode r))
 
 -- a program takes fewer steps than the tally may count
 few-steps : (t : Body) → Loadable t → stepsTaken firstEdition t < stepLimit
 unfolding counts
 few-steps t h =
-    let w = jobs-short t in
+    let w = numbers-short t in
     let z : size t ≤ programBytes = h .bytes in
     let v : verticesMade firstEdition t ≤ vertexLimit = h .made in
     omega (arith, w, z, v, vertices-formula t, steps-formula t)
@@ -189,26 +197,26 @@ edge-rows-are s s₀ h = ap (λ (n : ℕ). min usableLimit (n / edgeWords)) h
 module _ (bytes : List ℕ) (t : Body) (s₀ : Lent) (r : reading bytes ≡ program t) (lends : Lends t s₀) where
   module _ {answers : List StepSaid} {s : Lent} (T : Tracked bytes t s₀ answers s) (v : ℕ) where
     -- a vertex row is free for a vertex that is due
-    room-new : (S' : State) → Move (length bytes - 1) (T .state) v a-new S' → s .made < vertexRows (s .vertices)
+    room-new : (S' : State) → Move (T .state) v a-new S' → s .made < vertexRows (s .vertices)
     unfolding news
     room-new S' m =
-        let a : S' .count ≤ verticesMade firstEdition t = vertices-bound 0 t (length bytes - 1) (and-then (T .runs) m) in
+        let a : S' .count ≤ verticesMade firstEdition t = vertices-bound t (length bytes - 1) (and-then (T .runs) m) in
         let b : S' .count ≡ news a-new + T .state .count = move-count m in
         omega (arith, a, b, T .follows .made-is, lends .vertex-rows, vertex-rows-are s s₀ (T .vertex-length))
 
     -- an edge row is free for an edge that is due
-    room-edge : (S' : State) → Move (length bytes - 1) (T .state) v an-edge S' → s .held < tables.edgeRows (s .edges)
+    room-edge : (S' : State) → Move (T .state) v an-edge S' → s .held < tables.edgeRows (s .edges)
     unfolding spent links
     room-edge S' m =
         let a : 1 + spent links (an-edge ∷ T .events) ≤ edgeRowsNeeded firstEdition t =
-        edges-bound 0 t (length bytes - 1) (and-then (T .runs) m)
+        edges-bound t (length bytes - 1) (and-then (T .runs) m)
         in
         omega (arith, a, T .held-le, lends .edge-rows, edge-rows-are s s₀ (T .edge-length))
 
     -- the tally is not used up
     pub room-steps : s .steps < stepLimit
     room-steps =
-        let a : length (T .events) ≤ stepsTaken firstEdition t = steps-bound 0 t (length bytes - 1) (T .runs) in
+        let a : length (T .events) ≤ stepsTaken firstEdition t = steps-bound t (length bytes - 1) (T .runs) in
         omega (arith, a, T .steps-are, few-steps t (reading-sound bytes t r .1))
 
     refused-tracked : (n : ℕ) → Refuses (T .state) v n → Tracked bytes t s₀ (answers ++ (said.refused n 0 ∷ [])) s
@@ -239,8 +247,8 @@ module _ (bytes : List ℕ) (t : Body) (s₀ : Lent) (r : reading bytes ≡ prog
         old k o (inr e) = clash cc
 
     moved-tracked :
-        {e : Event} {S' : State} {a : StepSaid} {s' : Lent} → Move (length bytes - 1) (T .state) v e S'
-        → Follows (locate 0 t) (length bytes - 1) s' S' → Answers (T .state) v e a → Tallied e s s'
+        {e : Event} {S' : State} {a : StepSaid} {s' : Lent} → Move (T .state) v e S'
+        → Follows (located t) (length bytes - 1) s' S' → Answers (T .state) v e a → Tallied e s s'
         → Tracked bytes t s₀ (answers ++ (a ∷ [])) s'
     unfolding spent
     moved-tracked {e} {S'} {a} {s'} m f says tally =
@@ -248,7 +256,7 @@ module _ (bytes : List ℕ) (t : Body) (s₀ : Lent) (r : reading bytes ≡ prog
           state = S';
           events = e ∷ T .events;
           runs = and-then (T .runs) m;
-          inv = inv-kept (locate 0 t) (laid-locate 0 t) (last-byte bytes t r) (T .inv) m;
+          inv = inv-kept (located t) (laid-located t) (T .inv) m;
           follows = f;
           steps-are = omega (arith, tally .steps-are, T .steps-are);
           accepted-are = counted (accepted a) (answers-accepted says) (accepted-snoc answers a);
@@ -275,17 +283,17 @@ module _ (bytes : List ℕ) (t : Body) (s₀ : Lent) (r : reading bytes ≡ prog
         wrote k o (inr q) = answers-written (T .inv .coded) says q
 
     -- what the step is of the ghost machine
-    pub stepped-as : Followed (locate 0 t) (length bytes - 1) s (T .state) v (step bytes s v)
+    pub stepped-as : Followed (located t) (length bytes - 1) s (T .state) v (step bytes s v)
     stepped-as =
         let inv = T .inv in
-        step-follows bytes t s (T .state) v r (inv .shape) (inv .ranks) (inv .roads) (inv .coded) (inv .unsplit) (T .follows) room-steps
+        step-follows bytes t s (T .state) v r (inv .shape) (inv .ranks) (inv .roads) (inv .opened) (inv .coded) (inv .unsplit) (T .follows) room-steps
         room-new room-edge
 
     pub tracked-stepped : Tracked bytes t s₀ (answers ++ (step bytes s v .answer ∷ [])) (step bytes s v .after)
     tracked-stepped = go (step bytes s v) stepped-as
       where
         go :
-            (o : Outcome StepSaid) → Followed (locate 0 t) (length bytes - 1) s (T .state) v o
+            (o : Outcome StepSaid) → Followed (located t) (length bytes - 1) s (T .state) v o
             → Tracked bytes t s₀ (answers ++ (o .answer ∷ [])) (o .after)
         go o (refused n h e) = rw e (refused-tracked n h)
         go o (moved e S' m f says tally) = moved-tracked m f says tally
