@@ -15,6 +15,17 @@ from cases import next_state, total
 from rows import EDGE_WORDS, USABLE, VERTEX_WORDS
 
 NEW, RELEASED, EXECUTING, FINISHED = 1, 2, 3, 4
+NUMBERED = "job", "force"
+# of each kind: vertices, edge rows and steps
+COSTS = {
+    "end": (0, 0, 0),
+    "job": (0, 0, 1),
+    "async": (1, 1, 5),
+    "finish": (2, 1, 10),
+    "fork": (3, 2, 15),
+    "future": (2, 1, 9),
+    "force": (1, 1, 6),
+}
 
 
 class Refused(Exception):
@@ -48,64 +59,71 @@ class Text:
         need(value < 2**32, 7, first)
         return value
 
-    def body(self, level):
-        """[place, items.., end], where an item is [kind, place, past, contents..]."""
+    def body(self, level, futures):
+        """[place, items.., end], where an item is [kind, place, past, contents..]. `futures` are the bodies of the futures open there,
+        the nearest first; a force's contents are its number and its future's body."""
         body = [self.at]
         while True:
             place = self.at
-            kind = self.byte()
-            if kind == 0:
+            byte = self.byte()
+            if byte == 0:
                 return body + [["end", place, place]]
-            need(kind <= 4, 3, place)
-            if kind == 1:
+            need(byte <= 6, 3, place)
+            kind = ["job", "async", "finish", "fork", "future", "force"][byte - 1]
+            if kind in NUMBERED:
                 contents = [self.number()]
             else:
                 need(level < 32, 4, place)
-                contents = [self.body(level + 1) for _ in range(1 + (kind == 4))]
-            body.append([["job", "async", "finish", "fork"][kind - 1], place, self.at] + contents)
+                contents = [self.body(level + 1, futures) for _ in range(1 + (kind == "fork"))]
+            if kind == "force":
+                need(contents[0] < len(futures), 43, place + 1)
+                contents.append(futures[contents[0]])
+            if kind == "future":
+                futures = contents + futures
+            body.append([kind, place, self.at] + contents)
 
 
 @lru_cache
 def parse(data):
     need(0 < len(data) <= 4096, 1)
     text = Text(data)
-    main = text.body(1)
+    main = text.body(1, [])
     need(text.at == len(data), 6, text.at)
-    need(vertices_of(main) <= 1022, 8)
+    need(cost(main)[0] <= 1022, 8)
     return main
 
 
 def items(body):
     for item in body[1:]:
         yield item
-        if item[0] not in ("job", "end"):
-            for inner in item[3:]:
-                yield from items(inner)
+        for inner in bodies(item):
+            yield from items(inner)
 
 
-def vertices_of(body):
-    return sum({"async": 1, "finish": 2, "fork": 3}.get(item[0], 0) for item in items(body))
+def bodies(item):
+    return [] if item[0] in NUMBERED else item[3:]
 
 
-def edges_of(body):
-    return sum({"async": 1, "finish": 1, "fork": 2}.get(item[0], 0) for item in items(body))
+def cost(body):
+    """The vertices, edge rows and steps that a body comes to, with all that is in it."""
+    return [sum(numbers) for numbers in zip(*[COSTS[item[0]] for item in items(body)])]
 
 
-def job(past, own, number):
+def job(past, last, own, number):
     yield "job", number
 
 
-def end(past, own):
+def end(past, last, own):
     yield ("stop",)
 
 
-def one_async(past, own, body):
+def one_async(past, last, own, body):
     yield "new", body[0], own.scope
     yield "edge", own.made[0], own.scope
     yield "release", own.made[0]
 
 
-def finish(past, own, body):
+def finish(past, last, own, body):
     yield "new", past, own.scope
     yield "new", body[0], own.made[0]
     rest, inner = own.made[:2]
@@ -115,7 +133,7 @@ def finish(past, own, body):
     yield "release", inner
 
 
-def fork(past, own, left, right):
+def fork(past, last, own, left, right):
     for place in left[0], right[0], past:
         yield "new", place, own.scope
     yield "edge", own.made[0], own.made[2]
@@ -125,16 +143,33 @@ def fork(past, own, left, right):
         yield "release", own.made[which]
 
 
-COMMANDS = {"job": job, "end": end, "async": one_async, "finish": finish, "fork": fork}
+def future(past, last, own, body):
+    yield "new", last, own.scope
+    yield "new", body[0], own.made[0]
+    whole, inner = own.made[:2]
+    yield "edge", inner, whole
+    yield "release", whole
+    yield "release", inner
+
+
+def force(past, last, own, number, body):
+    yield "new", past, own.scope
+    yield "edge_from_future", number, own.made[0]
+    yield "transfer", own.made[0]
+    yield "release", own.made[0]
+
+
+COMMANDS = {"job": job, "end": end, "async": one_async, "finish": finish, "fork": fork, "future": future, "force": force}
+GOES_PAST = "job", "async", "future"  # the others go to the last byte
 
 
 class Vertex:
-    def __init__(self, status, place, scope, phase=0, *made):
+    def __init__(self, status, place, scope, phase=0, first=0, second=0, third=0, future=0):
         self.status, self.place, self.scope, self.phase = status, place, scope, phase
-        self.made = list(made or [0] * (VERTEX_WORDS - 4))  # the three, and what a wider row has behind them
+        self.made, self.future = [first, second, third], future
 
     def words(self):
-        return [self.status, self.place, self.scope, self.phase] + self.made
+        return [self.status, self.place, self.scope, self.phase] + self.made + [self.future]
 
 
 class Edge:
@@ -162,8 +197,9 @@ class Shop:
 
     def load(self):
         main = parse(self.data)
-        need(2 + vertices_of(main) <= self.vertex_rows, 10)
-        need(1 + edges_of(main) <= self.edge_rows, 11)
+        vertices, edges, _ = cost(main)
+        need(2 + vertices <= self.vertex_rows, 10)
+        need(1 + edges <= self.edge_rows, 11)
         self.vertices = [Vertex(RELEASED, 0, 1), Vertex(RELEASED, len(self.data) - 1, 1)]
         self.edges, self.steps, self.sound = [Edge(0, 1)], 0, True
         self.spare = [[0] * VERTEX_WORDS * (self.vertex_rows - 2), [0] * EDGE_WORDS * (self.edge_rows - 1)]
@@ -194,7 +230,7 @@ class Shop:
 
     def new(self, own, me, place, scope):
         need(len(self.vertices) < self.vertex_rows, 31)
-        self.vertices.append(Vertex(NEW, place, scope))
+        self.vertices.append(Vertex(NEW, place, scope, future=own.future))
         del self.spare[0][:VERTEX_WORDS]
         return f"new {len(self.vertices) - 1}"
 
@@ -207,6 +243,15 @@ class Shop:
             self.edges.append(Edge(a, b))
             del self.spare[1][:EDGE_WORDS]
         return f"edge {a} {b}"
+
+    def edge_from_future(self, own, me, number, target):
+        """newEdge from an open future. Its number is how many are nearer: the word of each names the next one out."""
+        at = own
+        for _ in range(number + 1):
+            found = at.future
+            need(0 < found < len(self.vertices), 13)
+            at = self.vertices[found]
+        return self.edge(own, me, found, target)
 
     def release(self, own, me, number):
         vertex = self.named(number)
@@ -248,7 +293,8 @@ class Shop:
             kind, place, past, *contents = next(item for item in items(parse(self.data)) if item[1] == own.place)
         except (Refused, StopIteration):
             raise Refused(13)
-        commands = list(COMMANDS[kind](past, own, *contents))
+        last = len(self.data) - 1
+        commands = list(COMMANDS[kind](past, last, own, *contents))
         need(own.phase < len(commands), 13)
         word, *numbers = commands[own.phase]
         if word == "job":
@@ -261,10 +307,11 @@ class Shop:
             own.made[own.phase] = len(self.vertices) - 1
         own.phase += 1
         if own.phase == len(commands):
-            own.phase, own.made[:3] = 0, [0, 0, 0]
-            own.place = past if kind in ("job", "async") else len(self.data) - 1
+            if kind == "future":
+                own.future = own.made[0]
+            own.phase, own.made = 0, [0, 0, 0]
+            own.place = past if kind in GOES_PAST else last
         return answer
-
 
     def can(self, me):
         """Whether a step would be accepted; an executing vertex's is tried on a copy."""
@@ -356,6 +403,33 @@ def loaded(program, vertex_rows, edge_rows, budget):
     return shop
 
 
+# programs with a force of number 0 and of number 1: futures are vertices 2 and, in the second, 4
+FORCED, FORCED_FURTHER = "05 00 06 00 00", "05 00 05 00 06 01 00"
+# a program, the steps of a run, the vertex whose word is altered then, and the word
+ALTERED_FUTURES = [
+    (FORCED, 1, 0, 9),
+    (FORCED, 5, 0, 9),
+    (FORCED, 6, 0, 0),
+    (FORCED, 7, 0, 0),
+    (FORCED, 7, 0, 1),
+    (FORCED, 7, 0, 3),
+    (FORCED, 7, 0, 4),
+    (FORCED, 7, 0, 5),
+    (FORCED, 7, 0, 4294967295),
+    (FORCED, 8, 0, 0),
+    (FORCED_FURTHER, 12, 0, 0),
+    (FORCED_FURTHER, 12, 0, 1),
+    (FORCED_FURTHER, 12, 0, 6),
+    (FORCED_FURTHER, 12, 0, 7),
+    (FORCED_FURTHER, 12, 4, 0),
+    (FORCED_FURTHER, 12, 4, 1),
+    (FORCED_FURTHER, 12, 4, 4),
+    (FORCED_FURTHER, 12, 4, 7),
+    (FORCED_FURTHER, 12, 2, 9),
+    (FORCED_FURTHER, 13, 4, 0),
+]
+
+
 def examples():
     for count, apart in (31, 1), (32, 1), (1022, 2), (1023, 2):
         print(f"asyncs {count}: ", end="")
@@ -373,23 +447,36 @@ def examples():
             shop.edges.append(Edge(*ends))
             del shop.spare[1][:EDGE_WORDS]
         turned(shop)
+    for program, steps, vertex, word in ALTERED_FUTURES:
+        print(f"after {steps} steps vertex {vertex} names {word}: ", end="")
+        shop = loaded(bytes.fromhex(program), 8, 8, steps)
+        shop.vertices[vertex].future = word
+        turned(shop)
 
 
 def draw_program(seed, room):
-    program, pending = bytearray(), 1
-    while pending:
+    program, futures = bytearray(), [0]  # of each body that is not closed, how many futures are open in it
+    while futures:
         seed = next_state(seed)
-        kind = "0001112234"[seed // 4096 % 10]
-        if kind in "234" and pending > 12:
+        kind = "00000011112234555666"[seed // 4096 % 20]
+        here, left = futures[-1], room - len(program) - len(futures)
+        if kind in "2345" and len(futures) > 12 or kind == "6" and not here:
             kind = "1"
-        if kind == "0" and pending == 1 and room - len(program) - pending >= 40:
+        if kind == "0" and len(futures) == 1 and left >= 40:
             kind = "3"
-        if room - len(program) - pending < 6:
+        if left < 6:
             kind = "0"
-        pending += {"0": -1, "1": 0, "2": 1, "3": 1, "4": 2}[kind]
         program.append(int(kind))
+        if kind == "0":
+            futures.pop()
         if kind == "1":
             program += number_bytes(drawn_number(seed))
+        if kind == "5":
+            futures[-1] += 1
+        if kind in "2345":
+            futures += [here] * (1 + (kind == "4"))
+        if kind == "6":
+            program += number_bytes(seed // 65536 % here)
     return bytes(program)
 
 
@@ -403,39 +490,46 @@ def number_bytes(number):
     return bytes([128 + group for group in groups[:-1]] + groups[-1:])
 
 
-def ways(body, way=()):
-    """Each job's offset, with the bodies and items on the way down to it."""
+def ways(body, reading, way=()):
+    """Each job's offset, with the bodies and items on the way down to it: to its own place, and where forces are read, to the places that
+    it has in their readings, too. "A force is read as a finish around its future's body, forces inside it likewise." """
     for index, item in enumerate(body[1:]):
-        here = way + ((body[0], index, item[0]),)
-        if item[0] == "job":
+        kind = "finish" if item[0] == "force" else item[0]
+        here = way + ((body[0], index, kind),)
+        if kind == "job":
             yield item[1], here
-        elif item[0] != "end":
-            for inner in item[3:]:
-                yield from ways(inner, here)
+        for inner in item[4:] if item[0] == "force" and reading else bodies(item):
+            yield from ways(inner, reading, here)
 
 
 def is_ahead(p, q):
-    """Of the ways to two jobs."""
+    """Of the ways to two jobs. "A future on the way counts as an async that no finish closes." """
     depth = next(d for d, (a, b) in enumerate(zip(p, q)) if a != b)
     (body, index, _), (other, later, _) = p[depth], q[depth]
     if body != other or later < index:
         return False
     kinds = [kind for _, _, kind in p[depth:]]
-    return "async" not in kinds or "finish" in kinds[: kinds.index("async")]
+    return "future" not in kinds and ("async" not in kinds or "finish" in kinds[: kinds.index("async")])
+
+
+def ordered(program):
+    """The pairs of jobs the first of which is ahead of the second: "p is ahead of q if the old rule says so with q at its own place and p
+    at its own or in such a reading"."""
+    main = parse(program)
+    own = dict(ways(main, False))
+    return {(p, q) for p, way in ways(main, True) for q in own if p != q and is_ahead(way, own[q])}
 
 
 def check(program, steps, jobs):
     assert steps == needed(program)
-    way = dict(ways(parse(program)))
-    assert sorted(jobs) == sorted(way)
-    for p in way:
-        for q in way:
-            assert p == q or not is_ahead(way[p], way[q]) or jobs.index(p) < jobs.index(q)
+    assert sorted(jobs) == sorted(offset for offset, _ in ways(parse(program), False))
+    for p, q in ordered(program):
+        assert jobs.index(p) < jobs.index(q)
 
 
+@lru_cache
 def needed(program):
-    weights = {"job": 1, "async": 5, "finish": 10, "fork": 15}
-    return 4 + sum(weights.get(item[0], 0) for item in items(parse(program)))
+    return 4 + cost(parse(program))[2]
 
 
 def turns(shop, order, seed):
@@ -487,6 +581,19 @@ PROGRAMS = """
 04 02 00 03 04 01 7F 00 00 00 00 01 80 01 02 04 00 00 00 00 00 | 7 8 30
 02 02 02 01 81 02 00 00 03 02 00 00 00 00 | 40 20 1
 05 | 40 20 1
+06 | 40 20 1
+07 | 40 20 1
+06 00 | 40 20 1
+05 00 06 01 00 | 40 20 1
+05 00 06 01 00 | 5 6 6
+05 00 06 00 00 | 40 20 1
+05 00 06 00 00 | 5 3 1
+05 00 06 00 00 | 4 3 1
+05 00 06 00 00 | 5 2 1
+05 01 01 00 01 02 00 | 40 20 1
+05 01 01 00 01 02 06 00 01 03 00 | 40 20 1
+05 02 01 01 00 01 02 00 05 06 00 01 03 00 05 01 04 00 06 01 01 05 06 02 01 06 00 | 40 20 1
+05 01 01 00 03 02 06 00 01 02 00 05 01 03 00 06 00 00 04 06 00 00 01 04 00 01 05 00 | 15 10 1
 03 00 | 40 20 1
 | 40 20 1
 00 00 | 5 6 2
@@ -496,13 +603,22 @@ PROGRAMS = """
 03 02 00 02 04 00 00 00 00 00 | 6 7 30
 04 03 02 00 00 03 00 00 00 00 | 8 6 30
 01 02 03 00 04 00 00 00 | 5 8 30
+05 00 06 00 06 00 06 00 00 | 6 7 30
+05 00 05 00 06 01 06 00 00 | 6 7 30
+05 00 05 00 06 01 04 00 00 06 00 00 | 9 8 30
 """
 
-for line in PROGRAMS.strip().splitlines():
-    text, lent = line.split("|")
-    vertex_rows, edge_rows, tables = map(int, lent.split())
-    for seed in range(tables):
-        run(text.strip(), vertex_rows, edge_rows, seed)
 
-examples()
-soak()
+
+def main():
+    for line in PROGRAMS.strip().splitlines():
+        text, lent = line.split("|")
+        vertex_rows, edge_rows, tables = map(int, lent.split())
+        for seed in range(tables):
+            run(text.strip(), vertex_rows, edge_rows, seed)
+    examples()
+    soak()
+
+
+if __name__ == "__main__":
+    main()

@@ -3,11 +3,33 @@
 
     tests/lister_cases.py > crates/lister_cases/stdout
 
-A vertex is a generator of its steps: it does a command to the graph and yields the command's text."""
+A vertex is a generator of its steps: it does a command to the graph and yields the command's text. It holds the list of the futures
+open to it, where the engine follows words from row to row."""
 
-PROGRAMS = ["05", "", "00", "03 00", "02 00 00", "04 02 01 01 00 00 02 01 02 00 01 03 00 02 01 04 00 01 05 00"]
-PROGRAMS += ["02 01 90 81 db 06 00 01 ff ff ff ff 0f 00", "01 80 80 80 80 10 00", "01 80 80 80 80 80 00", "01 80 80 80 80"]
-JOB, ASYNC, FINISH, FORK = 1, 2, 3, 4
+PROGRAMS = """
+07
+05
+06
+06 00
+05 00 06 01 00
+05 06 00 00 00
+06 80 80 80 80 10 00
+05 00 06 00 00
+05 01 01 00 01 02 00
+05 01 01 00 01 02 06 00 01 03 00
+05 02 01 01 00 01 02 00 05 06 00 01 03 00 05 01 04 00 06 01 01 05 06 02 01 06 00
+05 01 01 00 03 02 06 00 01 02 00 05 01 03 00 06 00 00 04 06 00 00 01 04 00 01 05 00
+
+00
+03 00
+02 00 00
+04 02 01 01 00 00 02 01 02 00 01 03 00 02 01 04 00 01 05 00
+02 01 90 81 db 06 00 01 ff ff ff ff 0f 00
+01 80 80 80 80 10 00
+01 80 80 80 80 80 00
+01 80 80 80 80
+"""
+JOB, ASYNC, FINISH, FORK, FUTURE, FORCE = 1, 2, 3, 4, 5, 6
 
 
 class Refused(Exception):
@@ -33,7 +55,7 @@ def number(data, at):
     return value, end + 1
 
 
-def body(data, at):
+def body(data, at, open_futures):
     """The items of the body that starts there, each its kind and contents, and where the body ends."""
     items = []
     while True:
@@ -42,19 +64,22 @@ def body(data, at):
         kind, at = data[at], at + 1
         if kind == 0:
             return items, at
-        if kind > FORK:
+        if kind > FORCE:
             raise Refused(3, at - 1)
-        contents = []
+        first, contents = at, []
         for _ in range(2 if kind == FORK else 1):
-            part, at = number(data, at) if kind == JOB else body(data, at)
+            part, at = number(data, at) if kind in (JOB, FORCE) else body(data, at, open_futures)
             contents.append(part)
+        if kind == FORCE and contents[0] >= open_futures:
+            raise Refused(43, first)
+        open_futures += kind == FUTURE
         items.append((kind, *contents))
 
 
 def parse(data):
     if not 0 < len(data) <= 4096:
         raise Refused(1, 0)
-    items, end = body(data, 0)
+    items, end = body(data, 0, 0)
     if end < len(data):
         raise Refused(6, end)
     return items
@@ -64,8 +89,8 @@ def count(items):
     """Vertices, jobs and steps that items come to."""
     total = [0, 0, 0]
     for kind, *contents in items:
-        own = {JOB: (0, 1, 1), ASYNC: (1, 0, 5), FINISH: (2, 0, 10), FORK: (3, 0, 15)}[kind]
-        inner = [count(part) for part in contents if kind != JOB]
+        own = {JOB: (0, 1, 1), ASYNC: (1, 0, 5), FINISH: (2, 0, 10), FORK: (3, 0, 15), FUTURE: (2, 0, 9), FORCE: (1, 0, 6)}[kind]
+        inner = [count(part) for part in contents if kind not in (JOB, FORCE)]
         total = [sum(numbers) for numbers in zip(total, own, *inner)]
     return total
 
@@ -81,13 +106,14 @@ def listing(data):
 
     lives, status, edges = [], [], [(0, 1)]
 
-    def new(items, scope):
-        lives.append(life(len(lives), items, scope))
+    def new(items, scope, futures):
+        lives.append(life(len(lives), items, scope, futures))
         status.append("new")
         return f"new {len(lives) - 1}"
 
     def edge(a, b):
-        edges.append((a, b))
+        if status[a] != "finished":
+            edges.append((a, b))
         return f"edge {a} {b}"
 
     def release(v):
@@ -98,7 +124,7 @@ def listing(data):
         edges[:] = [(to if a == v else a, b) for a, b in edges]
         return f"transfer {to}"
 
-    def life(v, items, scope):
+    def life(v, items, scope, futures):
         status[v] = "executing"
         yield "start"
         for i, (kind, *contents) in enumerate(items):
@@ -107,21 +133,34 @@ def listing(data):
             if kind == JOB:
                 yield f"job {contents[0]}"
             elif kind == ASYNC:
-                yield new(contents[0], scope)
+                yield new(contents[0], scope, futures)
                 yield edge(a, scope)
                 yield release(a)
+            elif kind == FUTURE:
+                yield new([], scope, futures)
+                yield new(contents[0], a, futures)
+                yield edge(b, a)
+                yield release(a)
+                yield release(b)
+                futures = [a, *futures]
+            elif kind == FORCE:
+                yield new(items[i + 1 :], scope, futures)
+                yield edge(futures[contents[0]], a)
+                yield transfer(v, a)
+                yield release(a)
+                break
             elif kind == FINISH:
-                yield new(items[i + 1 :], scope)
-                yield new(contents[0], a)
+                yield new(items[i + 1 :], scope, futures)
+                yield new(contents[0], a, futures)
                 yield edge(b, a)
                 yield transfer(v, a)
                 yield release(a)
                 yield release(b)
                 break
             else:
-                yield new(contents[0], scope)
-                yield new(contents[1], scope)
-                yield new(items[i + 1 :], scope)
+                yield new(contents[0], scope, futures)
+                yield new(contents[1], scope, futures)
+                yield new(items[i + 1 :], scope, futures)
                 yield edge(a, c)
                 yield edge(b, c)
                 yield transfer(v, c)
@@ -136,8 +175,8 @@ def listing(data):
     def can_step(v):
         return status[v] == "executing" or status[v] == "released" and all(b != v for _, b in edges)
 
-    new(main, 1)
-    new([], 1)
+    new(main, 1, [])
+    new([], 1, [])
     release(0)
     release(1)
     while able := list(filter(can_step, range(len(lives)))):
@@ -146,7 +185,7 @@ def listing(data):
     assert steps == -4
 
 
-for program in PROGRAMS:
+for program in PROGRAMS.strip("\n").split("\n"):
     print(f"program {program}".strip())
     print(*listing(bytes.fromhex(program)), sep="\n")
 print("program of 4097 bytes")

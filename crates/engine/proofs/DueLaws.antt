@@ -10,7 +10,8 @@ use lib.Dec.{eqb, ltb}
 use lib.ListN.{length, getD, List·getD-eq-default}
 use borrow.Author.Tests.{lt-ltb, le-ltb, ltb-true, ltb-false, eq-eqb, ne-eqb}
 use Rattle.graph.specs.declared.Tally.{Tally}
-use Rattle.graph.specs.Tables.{Lent, lent, NEW, RELEASED, FINISHED, vertexWords, placeWord, scopeWord, phaseWord, madeWord, vertexWord, status}
+use Rattle.graph.specs.Tables.{Lent, lent, NEW, RELEASED, FINISHED, vertexWords, placeWord, scopeWord, phaseWord, madeWord, futureWord, vertexWord}
+use Rattle.graph.specs.Tables.{status}
 use Rattle.graph.specs.declared.Command.the-variants.{Start}
 use Rattle.graph.specs.Sound.{sound}
 use Rattle.graph.proofs.TestLaws.{decide, both-true, both-false-left, both-false-right, not-of-true, not-of-false}
@@ -23,7 +24,7 @@ use Rattle.machine.specs.Stepping as machine
 use Rattle.machine.specs.Stepping.{stepLimit, steppable, place, task, ownOf, Due, refusal-due, command-due, dueIf, nextAt, due}
 use Rattle.engine.specs.declared.Own.{Own}
 use Rattle.engine.specs.Answers.{ownWords}
-use Rattle.engine.specs.Internal.Underway.{OwnIn, DueThere, Next, NextAt}
+use Rattle.engine.specs.Internal.Underway.{OwnIn, DueThere, Next, NextIn}
 use Rattle.program.proofs.PlaceLaws.{starts-beyond, not-starting}
 
 own-place : (s : Lent) (v : ℕ) (w : Own) → ownOf s v ≡ ownWords w → place s v ≡ w .place
@@ -32,19 +33,21 @@ own-place s v w h = cc
 
 -- what is due at an item is due at the place where it stands
 pub next-item :
-    (bytes : List ℕ) (v σ : ℕ) (w : Own) (made : ℕ) {item : Stands} {d : Due} → item ≡ itemAt bytes (w .place)
-    → NextAt (length bytes - 1) v σ (ownWords w) made item d → Next bytes v σ (ownWords w) made d
-next-item bytes v σ w made {item} {d} e h s p q r =
-    h s p q r ∙ ap (λ (x : Stands). nextAt s v (task (length bytes - 1) x)) (e ∙ ap (itemAt bytes) (sym (own-place s v w p)))
+    (bytes t : List ℕ) (v σ : ℕ) (w : Own) (made : ℕ) {item : Stands} {d : Due} → item ≡ itemAt bytes (w .place)
+    → NextIn t (length bytes - 1) v σ (ownWords w) made item d → Next bytes t v σ (ownWords w) made d
+next-item bytes t v σ w made {item} {d} e h s k p q r =
+    h s k p q r ∙ ap (λ (x : Stands). nextAt s v (task (length bytes - 1) x)) (e ∙ ap (itemAt bytes) (sym (own-place s v w p)))
 
 -- where nothing starts
 pub next-nothing :
-    (bytes : List ℕ) (v σ : ℕ) (w : Own) (made : ℕ) {n q : ℕ} → Stands.refused n q ≡ itemAt bytes (w .place) → Next bytes v σ (ownWords w) made (refusal-due 13)
+    (bytes t : List ℕ) (v σ : ℕ) (w : Own) (made : ℕ) {n q : ℕ} → Stands.refused n q ≡ itemAt bytes (w .place)
+    → Next bytes t v σ (ownWords w) made (refusal-due 13)
 unfolding task nextAt
-next-nothing bytes v σ w made e = next-item bytes v σ w made e (λ s p q r. refl)
+next-nothing bytes t v σ w made e = next-item bytes t v σ w made e (λ s k p q r. refl)
 
-pub next-unstarted : (bytes : List ℕ) (v σ : ℕ) (w : Own) (made : ℕ) → startsAt bytes (w .place) ≡ false → Next bytes v σ (ownWords w) made (refusal-due 13)
-next-unstarted bytes v σ w made h = next-nothing bytes v σ w made (sym (not-starting bytes (w .place) h))
+pub next-unstarted :
+    (bytes t : List ℕ) (v σ : ℕ) (w : Own) (made : ℕ) → startsAt bytes (w .place) ≡ false → Next bytes t v σ (ownWords w) made (refusal-due 13)
+next-unstarted bytes t v σ w made h = next-nothing bytes t v σ w made (sym (not-starting bytes (w .place) h))
 
 -- what the mark of a place tells; beyond the marks nothing starts
 mark-is : (b : Bool) → eqb (cond b 1 0) 1 ≡ b
@@ -78,9 +81,12 @@ first-of {d = d} rest p = ap (λ (x : Bool). cond x d rest) (sym p)
 other-of : {b : Bool} (first : Due) {d rest : Due} → b ≡ false → d ≡ rest → d ≡ cond b first rest
 other-of first {rest = rest} p q = q ∙ ap (λ (x : Bool). cond x first rest) (sym p)
 
--- what can be read of a row once `is_sound` has answered yes
+-- what can be read of the rows, and of one, once `is_sound` has answered yes
+pub rows-there : (v e : List ℕ) (t : Tally) {r : Bool} → r ≡ sound (lent v e t) → not r ≡ false → vertexWords * t .made ≤ length v
+rows-there v e t p q = sound-rows (lent v e t) (answered-yes p q) .0
+
 pub row-there : (v e : List ℕ) (t : Tally) (k : ℕ) {r : Bool} → r ≡ sound (lent v e t) → not r ≡ false → k < t .made → vertexWords * k + vertexWords ≤ length v
-row-there v e t k p q lt = omega (arith, sound-rows (lent v e t) (answered-yes p q))
+row-there v e t k p q lt = omega (arith, rows-there v e t p q)
 
 pub word-there :
     (v e : List ℕ) (t : Tally) (k w : ℕ) {r : Bool} → w < vertexWords → r ≡ sound (lent v e t) → not r ≡ false → k < t .made → vertexWords * k + w < length v
@@ -108,7 +114,8 @@ pub own-there :
     (t : List ℕ) (k : ℕ)
     → OwnIn t k
     (machine.own (vertexWord t k placeWord) (vertexWord t k phaseWord) (vertexWord t k madeWord) (vertexWord t k (madeWord + 1))
-    (vertexWord t k (madeWord + 2)))
+    (vertexWord t k (madeWord + 2))
+    (vertexWord t k futureWord))
 unfolding ownOf
 own-there t k s e = cc
 
@@ -119,10 +126,10 @@ there-start bytes t made k w own is s e m = ap (command-due (Start k)) (own s e)
 
 pub there-executing :
     (bytes t : List ℕ) (made k : ℕ) (w : Own) {d : Due} → OwnIn t k (ownWords w) → (status t k ≡ RELEASED → ⊥)
-    → Next bytes k (vertexWord t k scopeWord) (ownWords w) made d → DueThere bytes t made k d
+    → Next bytes t k (vertexWord t k scopeWord) (ownWords w) made d → DueThere bytes t made k d
 there-executing bytes t made k w own unlike next s e m =
     other-of _ (ne-eqb _ _ (λ is. unlike (sym (ap (λ (x : List ℕ). status x k) e) ∙ is)))
-    (next s (sym (own s e)) (ap (λ (x : List ℕ). vertexWord x k scopeWord) e) m)
+    (next s e (sym (own s e)) (ap (λ (x : List ℕ). vertexWord x k scopeWord) e) m)
 
 -- behind all tests
 pub due-there :

@@ -2,6 +2,7 @@
 --     LoadedLaws     loading
 --     DueLaws        what is due at a step: the refusals, and what stands at the vertex's place
 --     NextLaws       what is due at an item, by its kind and phase
+--     FollowLaws     the words that a force follows
 --     StepIs         a step is what is due, with the vertex's own words stored
 --     PromiseLaws    a loading, and then a list of steps
 --     CandidateLaws  which vertices may step, and what is due there
@@ -11,6 +12,7 @@
 pub mod LoadedLaws
 pub mod DueLaws
 pub mod NextLaws
+pub mod FollowLaws
 pub mod StepIs
 pub mod PromiseLaws
 pub mod CandidateLaws

@@ -55,7 +55,7 @@ choiceOf (of-lowest.Refused r) = choice-refused (r .number) (r .place)
 
 -- a vertex's own words
 abbrev pub ownWords : Own → machine.Own
-ownWords w = machine.own (w .place) (w .phase) (w .first) (w .second) (w .third)
+ownWords w = machine.own (w .place) (w .phase) (w .first) (w .second) (w .third) (w .latest)
 
 -- what is due at a step
 abbrev pub dueOf : Due → machine.Due

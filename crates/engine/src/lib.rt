@@ -42,13 +42,15 @@ pub struct Done {
     pub tally: Tally,
 }
 
-// The words of a vertex's row that only its own steps move: its place, its phase, and the three vertices that the item at hand made.
+// The words of a vertex's row that only its own steps move: its place, its phase, the three vertices that the item at hand made, and its
+// latest open future.
 pub struct Own {
     pub place: u32,
     pub phase: u32,
     pub first: u32,
     pub second: u32,
     pub third: u32,
+    pub latest: u32,
 }
 
 // What is due at a step of a vertex: a refusal, before any command; a job, with its number and offset; or a single command of the

@@ -4,6 +4,7 @@ use crate::Own;
 use graph::Command;
 use graph::Tally;
 use graph::rows::FINISHED;
+use graph::rows::FUTURE;
 use graph::rows::MADE;
 use graph::rows::NEW;
 use graph::rows::PHASE;
@@ -34,6 +35,7 @@ ghost use Rattle.machine.specs.Stepping as machine;
 ghost use Rattle.machine.specs.Stepping.{due};
 ghost use Rattle.engine.specs.Answers.{ownWords, dueOf};
 ghost use Rattle.engine.specs.Internal.Underway.{DueThere, OwnIn, Next, NextAt, EndNext, JobNext, AsyncNext, ForkNext, ForkLast};
+ghost use Rattle.engine.specs.Internal.Underway.{NextIn, FollowsTo};
 
 // The words of the vertices that the item at hand made.
 pub const FIRST: usize = MADE;
@@ -41,6 +43,9 @@ pub const FIRST: usize = MADE;
 pub const SECOND: usize = MADE + 1;
 
 pub const THIRD: usize = MADE + 2;
+
+// A word of a row that names no future.
+const NONE_OPEN: u32 = 0;
 
 // A step is refused where this many were taken.
 pub const STEP_LIMIT: u32 = 8192;
@@ -75,6 +80,7 @@ pub fn next_due(program: &[u8], vertices: &[u32], edges: &[u32], tally: Tally, v
     executing(
         program,
         starts_at(program, own.place),
+        vertices,
         vertex,
         vertices[at + SCOPE],
         own,
@@ -90,7 +96,7 @@ pub(crate) fn marked_due(
     made: u32,
     vertex: u32,
 ) -> Due
-    requires { ⌜ MarksStarts (now program) (now marks) × (length (now marks) ≡ programBytes) × (vertexWords * vertex + vertexWords ≤ length (now vertices)) ⌝ }
+    requires { ⌜ MarksStarts (now program) (now marks) × (length (now marks) ≡ programBytes) × (vertex < made) × (vertexWords * made ≤ length (now vertices)) ⌝ }
     ensures { λ r. ⌜ DueThere (now (program .entry)) (now (vertices .entry)) made vertex (dueOf r) ⌝ }
 {
     let at = VERTEX_WORDS * (vertex as usize);
@@ -104,6 +110,7 @@ pub(crate) fn marked_due(
     executing(
         program,
         is_marked(marks, own.place),
+        vertices,
         vertex,
         vertices[at + SCOPE],
         own,
@@ -132,14 +139,23 @@ fn own_words(vertices: &[u32], vertex: usize) -> Own
         first: vertices[at + FIRST],
         second: vertices[at + SECOND],
         third: vertices[at + THIRD],
+        latest: vertices[at + FUTURE],
     }
 }
 
 // What is due at the step of an executing vertex with these words, where so many vertices are made; `starts` tells whether an item or
 // an end byte starts at its place. Then the program from that place on is passed to the item reader.
-fn executing(program: &[u8], starts: bool, vertex: u32, scope: u32, own: Own, made: u32) -> Due
-    requires { ⌜ starts ≡ startsAt (now program) (own .place) ⌝ }
-    ensures { λ r. ⌜ Next (now (program .entry)) vertex scope (ownWords own) made (dueOf r) ⌝ }
+fn executing(
+    program: &[u8],
+    starts: bool,
+    vertices: &[u32],
+    vertex: u32,
+    scope: u32,
+    own: Own,
+    made: u32,
+) -> Due
+    requires { ⌜ (starts ≡ startsAt (now program) (own .place)) × (vertexWords * made ≤ length (now vertices)) ⌝ }
+    ensures { λ r. ⌜ Next (now (program .entry)) (now (vertices .entry)) vertex scope (ownWords own) made (dueOf r) ⌝ }
 {
     if !starts {
         return Due::Refused(NOTHING_STARTS);
@@ -157,6 +173,12 @@ fn executing(program: &[u8], starts: bool, vertex: u32, scope: u32, own: Own, ma
         }
         ItemRead::Fork { left, right, past } => {
             fork_next(vertex, scope, own, made, left, right, past.place, last)
+        }
+        ItemRead::Future { body, past } => {
+            future_next(vertex, scope, own, made, body, past.place, last)
+        }
+        ItemRead::Force { number, past } => {
+            force_next(vertices, vertex, scope, own, made, number, past.place, last)
         }
     }
 }
@@ -184,7 +206,7 @@ fn job_next(vertex: u32, own: Own, number: u32, past: u32) -> Due
     Due::Job {
         number,
         offset: own.place,
-        own: idle(past),
+        own: idle(past, own.latest),
     }
 }
 
@@ -200,7 +222,7 @@ fn async_next(vertex: u32, scope: u32, own: Own, made: u32, body: u32, past: u32
         return new_edge(vertex, own.first, scope, onward(own));
     }
     if phase == 2 {
-        return release(vertex, own.first, idle(past));
+        return release(vertex, own.first, idle(past, own.latest));
     }
     Due::Refused(NOTHING_STARTS)
 }
@@ -227,7 +249,7 @@ fn finish_next(vertex: u32, scope: u32, own: Own, made: u32, body: u32, past: u3
         return release(vertex, own.first, onward(own));
     }
     if phase == 5 {
-        return release(vertex, own.second, idle(last));
+        return release(vertex, own.second, idle(last, own.latest));
     }
     Due::Refused(NOTHING_STARTS)
 }
@@ -290,14 +312,95 @@ fn fork_releases(vertex: u32, own: Own, last: u32) -> Due
         return release(vertex, own.first, onward(own));
     }
     if phase == 8 {
-        return release(vertex, own.second, idle(last));
+        return release(vertex, own.second, idle(last, own.latest));
     }
     Due::Refused(NOTHING_STARTS)
 }
 
+// A future: newTd m1 (the last byte, own scope); newTd m2 (its body, scope m1); newEdge m2 to m1; release m1; release m2; then past the
+// item, and m1 is the latest open future.
+fn future_next(vertex: u32, scope: u32, own: Own, made: u32, body: u32, past: u32, last: u32) -> Due
+    ensures { λ r. ⌜ NextAt last vertex scope (ownWords own) made (Stands.future body past) (dueOf r) ⌝ }
+{
+    let phase = own.phase;
+    if phase == 0 {
+        return new_td(vertex, last, scope, keeping(own, 0, made));
+    }
+    if phase == 1 {
+        return new_td(vertex, body, own.first, keeping(own, 1, made));
+    }
+    if phase == 2 {
+        return new_edge(vertex, own.second, own.first, onward(own));
+    }
+    if phase == 3 {
+        return release(vertex, own.first, onward(own));
+    }
+    if phase == 4 {
+        return release(vertex, own.second, idle(past, own.first));
+    }
+    Due::Refused(NOTHING_STARTS)
+}
+
+// A force: newTd m1 (past the item, own scope); newEdge from the first vertex of its future to m1; transfer to m1; release m1; then the
+// last byte.
+fn force_next(
+    vertices: &[u32],
+    vertex: u32,
+    scope: u32,
+    own: Own,
+    made: u32,
+    number: u32,
+    past: u32,
+    last: u32,
+) -> Due
+    requires { ⌜ vertexWords * made ≤ length (now vertices) ⌝ }
+    ensures { λ r. ⌜ NextIn (now (vertices .entry)) last vertex scope (ownWords own) made (Stands.force number past) (dueOf r) ⌝ }
+{
+    let phase = own.phase;
+    if phase == 0 {
+        return new_td(vertex, past, scope, keeping(own, 0, made));
+    }
+    if phase == 1 {
+        let forced = followed(vertices, made, own.latest, number);
+        if forced == NONE_OPEN {
+            return Due::Refused(NOTHING_STARTS);
+        }
+        return new_edge(vertex, forced, own.first, onward(own));
+    }
+    if phase == 2 {
+        return transfer(vertex, own.first, onward(own));
+    }
+    if phase == 3 {
+        return release(vertex, own.first, idle(last, own.latest));
+    }
+    Due::Refused(NOTHING_STARTS)
+}
+
+// The future that a vertex's word `latest` names, or so many futures further out, each named by the word of the one before it; or
+// `NONE_OPEN` where a word followed is 0 or names no made vertex.
+fn followed(vertices: &[u32], made: u32, latest: u32, number: u32) -> u32
+    requires { ⌜ vertexWords * made ≤ length (now vertices) ⌝ }
+    ensures { λ r. ⌜ FollowsTo (now (vertices .entry)) made latest number r ⌝ }
+{
+    let mut future = latest;
+    for i in 0..number {
+        if future == NONE_OPEN {
+            return NONE_OPEN;
+        }
+        if made <= future {
+            return NONE_OPEN;
+        }
+        future = vertices[VERTEX_WORDS * (future as usize) + FUTURE];
+    }
+    if made <= future {
+        return NONE_OPEN;
+    }
+    future
+}
+
 // The own words of a vertex with no item under way.
-fn idle(place: u32) -> Own
-    ensures { λ r. ⌜ ownWords r ≡ machine.own place 0 0 0 0 ⌝ }
+fn idle(place: u32, latest: u32) -> Own
+    ensures { λ r. ⌜ ownWords r ≡ machine.own place 0 0 0 0 latest ⌝ }
 {
     Own {
         place,
@@ -305,6 +408,7 @@ fn idle(place: u32) -> Own
         first: 0,
         second: 0,
         third: 0,
+        latest,
     }
 }
 
@@ -319,6 +423,7 @@ fn onward(own: Own) -> Own
         first: own.first,
         second: own.second,
         third: own.third,
+        latest: own.latest,
     }
 }
 
@@ -329,6 +434,7 @@ fn keeping(own: Own, others: u32, vertex: u32) -> Own
 {
     let next = own.phase + 1;
     let place = own.place;
+    let latest = own.latest;
     if others == 0 {
         return Own {
             place,
@@ -336,6 +442,7 @@ fn keeping(own: Own, others: u32, vertex: u32) -> Own
             first: vertex,
             second: own.second,
             third: own.third,
+            latest,
         };
     }
     if others == 1 {
@@ -345,6 +452,7 @@ fn keeping(own: Own, others: u32, vertex: u32) -> Own
             first: own.first,
             second: vertex,
             third: own.third,
+            latest,
         };
     }
     Own {
@@ -353,6 +461,7 @@ fn keeping(own: Own, others: u32, vertex: u32) -> Own
         first: own.first,
         second: own.second,
         third: vertex,
+        latest,
     }
 }
 

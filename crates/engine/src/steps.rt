@@ -9,6 +9,7 @@ use crate::next::THIRD;
 use crate::next::next_due;
 use graph::Tally;
 use graph::commands::command_on_sound;
+use graph::rows::FUTURE;
 use graph::rows::PHASE;
 use graph::rows::PLACE;
 use graph::rows::VERTEX_WORDS;
@@ -107,6 +108,7 @@ fn store(vertices: &mut [u32], vertex: usize, own: Own)
     vertices[at + FIRST] = own.first;
     vertices[at + SECOND] = own.second;
     vertices[at + THIRD] = own.third;
+    vertices[at + FUTURE] = own.latest;
 }
 
 fn command_refused(answer: graph::Answer) -> bool

@@ -1,5 +1,5 @@
 // The examples at the limits (docs/ENGINE.md, "Examples"), each run to its end on tables of 1,024 rows; a vertex altered to a place inside a
-// number; and edges that the host writes before the step that names them (note 3).
+// number; edges that the host writes before the step that names them (note 3); and vertices altered to name another future, or none.
 use crate::show;
 use crate::turns::ran;
 use crate::turns::turned;
@@ -9,16 +9,23 @@ use engine::load::load_by_value;
 use graph::Tally;
 use graph::rows::EDGE_TABLE;
 use graph::rows::EDGE_WORDS;
+use graph::rows::FUTURE;
 use graph::rows::PLACE;
 use graph::rows::SOURCE;
 use graph::rows::TARGET;
 use graph::rows::VERTEX_TABLE;
 use graph::rows::VERTEX_WORDS;
-ghost use Prim.Native.Nat.{_*_, _≤_};
+ghost use Prim.Native.Nat.{_*_, _<_, _≤_};
 ghost use lib.ListN.{length};
 
 // An async of job 1, and job 2.
 const ASYNC: [u8; 7] = [2, 1, 1, 0, 1, 2, 0];
+
+// A future, vertex 2, and a force of it.
+const FORCED: [u8; 5] = [5, 0, 6, 0, 0];
+
+// Two futures, vertices 2 and 4, and a force of the first.
+const FORCED_FURTHER: [u8; 7] = [5, 0, 5, 0, 6, 1, 0];
 
 pub(crate) fn all() {
     asyncs(31, 1);
@@ -28,6 +35,8 @@ pub(crate) fn all() {
     altered();
     held_already();
     held_with_a_cycle();
+    altered_futures();
+    further_futures();
 }
 
 // So many asyncs, each inside the one before where the next byte is the next async, each behind the one before where the next byte but
@@ -116,4 +125,48 @@ fn held_with_a_cycle() {
         steps: tally.steps,
     };
     turned(&ASYNC, &mut vertices, &mut edges, written);
+}
+
+// The future's last command, step 6, sets the word of vertex 0, and the force's newEdge, step 8, reads it. Before the one and behind the other
+// the word may be anything.
+fn altered_futures() {
+    future(&FORCED, 1, 0, 9);
+    future(&FORCED, 5, 0, 9);
+    future(&FORCED, 6, 0, 0);
+    future(&FORCED, 7, 0, 0);
+    future(&FORCED, 7, 0, 1);
+    future(&FORCED, 7, 0, 3);
+    future(&FORCED, 7, 0, 4);
+    future(&FORCED, 7, 0, 5);
+    future(&FORCED, 7, 0, 4294967295);
+    future(&FORCED, 8, 0, 0);
+}
+
+// The force's newEdge is step 13. It follows the word of vertex 0 and then that of vertex 4.
+fn further_futures() {
+    future(&FORCED_FURTHER, 12, 0, 0);
+    future(&FORCED_FURTHER, 12, 0, 1);
+    future(&FORCED_FURTHER, 12, 0, 6);
+    future(&FORCED_FURTHER, 12, 0, 7);
+    future(&FORCED_FURTHER, 12, 4, 0);
+    future(&FORCED_FURTHER, 12, 4, 1);
+    future(&FORCED_FURTHER, 12, 4, 4);
+    future(&FORCED_FURTHER, 12, 4, 7);
+    future(&FORCED_FURTHER, 12, 2, 9);
+    future(&FORCED_FURTHER, 13, 4, 0);
+}
+
+// A run of so many steps, and then the vertex names another future.
+fn future(program: &[u8], steps: u32, vertex: usize, word: u32)
+    requires { ⌜ vertex < 8 ⌝ }
+{
+    let mut vertices = [0u32; 8 * VERTEX_WORDS];
+    let mut edges = [0u32; 8 * EDGE_WORDS];
+    number(b"after ", steps);
+    number(b" steps vertex ", vertex as u32);
+    number(b" names ", word);
+    text(b": ");
+    let tally = loaded(program, &mut vertices, &mut edges, steps);
+    vertices[VERTEX_WORDS * vertex + FUTURE] = word;
+    turned(program, &mut vertices, &mut edges, tally);
 }

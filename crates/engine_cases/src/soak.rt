@@ -14,6 +14,13 @@ use graph::Tally;
 use graph::rows::EDGE_WORDS;
 use graph::rows::VERTEX_WORDS;
 use program::ProgramRead;
+use program::format::ASYNC;
+use program::format::END;
+use program::format::FINISH;
+use program::format::FORCE;
+use program::format::FORK;
+use program::format::FUTURE;
+use program::format::JOB;
 use program::reading::read;
 use program::reading::steps;
 ghost use Prim.Native.Nat.{_+_, _-_, _*_, _<_, _≤_};
@@ -52,7 +59,7 @@ fn random(drawn: u64) -> u64 {
 }
 
 // Draws a program of at most as many bytes as are lent, and answers how many it has. `open` bodies are not closed yet, and each needs a
-// byte for its end.
+// byte for its end; `futures` has for each of them how many futures are open in it.
 fn draw(program: &mut [u8], seed: u64) -> usize
     ensures { λ r. ⌜ r ≤ length (now (program .exit)) ⌝ }
 {
@@ -62,57 +69,106 @@ fn draw(program: &mut [u8], seed: u64) -> usize
     let mut drawn = seed;
     let mut open: usize = 1;
     let mut at: usize = 0;
+    let mut futures = [0u32; 16];
     while 0 < open {
         drawn = random(drawn);
-        let kind = kind(drawn / 4096, open, program.len() - at - open);
-        if kind == 0 {
-            program[at] = 0;
+        let here = in_last(&futures, open);
+        let kind = kind(drawn / 4096, open, program.len() - at - open, here);
+        if kind == END {
+            program[at] = END;
             at += 1;
             open -= 1;
-        } else if kind < 2 {
-            at = job(program, at, drawn_number(drawn));
-        } else if kind < 4 {
+        } else if kind < ASYNC {
+            at = numbered(program, at, JOB, drawn_number(drawn));
+        } else if kind < FORCE {
+            opened(&mut futures, open, kind, here);
             program[at] = kind;
             at += 1;
-            open += 1;
+            open += bodies(kind);
         } else {
-            program[at] = 4;
-            at += 1;
-            open += 2;
+            at = numbered(program, at, FORCE, one_of(drawn / 65536, here));
         }
     }
     at
 }
 
-// The kind of the next item, or 0 for an end, and 0 where there is room for less than 6 bytes.
-fn kind(drawn: u64, open: usize, room: usize) -> u8
+// How many futures are open in the last body.
+fn in_last(futures: &[u32; 16], open: usize) -> u32 {
+    if open == 0 {
+        return 0;
+    }
+    if 16 < open {
+        return 0;
+    }
+    futures[open - 1]
+}
+
+// In the bodies of an item, of which a fork has two, those futures are open that are open at it; behind a future it is open, too.
+fn opened(futures: &mut [u32; 16], open: usize, kind: u8, here: u32) {
+    if open == 0 {
+        return;
+    }
+    if 14 < open {
+        return;
+    }
+    if kind == FUTURE {
+        futures[open - 1] = here % 256 + 1;
+    }
+    futures[open] = here;
+    futures[open + 1] = here;
+}
+
+// The kind of the next item, or an end, and an end where there is room for less than 6 bytes. A force has a future that is open.
+fn kind(drawn: u64, open: usize, room: usize, futures: u32) -> u8
     ensures { λ r. ⌜ 6 ≤ room + 6 * (1 - r) ⌝ }
 {
     if room < 6 {
-        return 0;
+        return END;
     }
-    let n = drawn % 10;
-    if n < 3 {
+    let n = drawn % 20;
+    if n < 6 {
         return closing(open, room);
     }
-    if n < 6 {
-        return 1;
+    if n < 10 {
+        return JOB;
     }
-    if 12 < open {
-        return 1;
+    if n < 17 {
+        return if 12 < open { JOB } else { with_bodies(n) };
     }
-    if n < 8 {
-        return 2;
-    }
-    if n == 8 { 3 } else { 4 }
+    if futures == 0 { JOB } else { FORCE }
+}
+
+// How many bodies an item of this kind has that has one.
+fn bodies(kind: u8) -> usize
+    ensures { λ r. ⌜ r ≤ 2 ⌝ }
+{
+    if kind == FORK { 2 } else { 1 }
 }
 
 // The main body goes on while there is much room.
 fn closing(open: usize, room: usize) -> u8 {
     if 1 < open {
+        return END;
+    }
+    if room < 40 { END } else { FINISH }
+}
+
+fn with_bodies(drawn: u64) -> u8 {
+    if drawn < 12 {
+        return ASYNC;
+    }
+    if drawn == 12 {
+        return FINISH;
+    }
+    if drawn == 13 { FORK } else { FUTURE }
+}
+
+// A number below `count`, or 0.
+fn one_of(drawn: u64, count: u32) -> u32 {
+    if count == 0 {
         return 0;
     }
-    if room < 40 { 0 } else { 3 }
+    below(drawn, count)
 }
 
 // A number of at most so many bytes as are drawn, one to five; once in eight times it is the greatest of them.
@@ -138,13 +194,13 @@ fn drawn_number(drawn: u64) -> u32 {
     (number % 4294967296) as u32
 }
 
-// A job with this number, and where it ends.
-fn job(program: &mut [u8], at: usize, number: u32) -> usize
+// An item with this number, and where it ends.
+fn numbered(program: &mut [u8], at: usize, first: u8, number: u32) -> usize
     requires { ⌜ at + 6 ≤ length (now program) ⌝ }
     ensures { λ r. ⌜ (at < r) × (r ≤ at + 6) ⌝ }
 {
     let end = groups(program, at + 1, number);
-    program[at] = 1;
+    program[at] = first;
     end
 }
 

@@ -1,5 +1,5 @@
 -- A step and a run under way: what is due, from a vertex's own words, and which vertex is looked at.
-use Prim.Native.Nat.{ℕ, _-_, _<_, _≤_}
+use Prim.Native.Nat.{ℕ, zero, suc, _-_, _<_, _≤_}
 use mathlib.Core.Path.{_≡_}
 use mathlib.Core.Bool.{Bool, true, false, cond}
 use mathlib.Core.List.{List}
@@ -13,7 +13,8 @@ use Rattle.graph.specs.declared.Command.the-variants.{Start}
 use Rattle.program.specs.Answers.{Stands}
 use Rattle.program.specs.Located.{itemAt}
 use Rattle.machine.specs.Answers.{StepSaid}
-use Rattle.machine.specs.Stepping.{scope, place, task, Own, ownOf, Due, refusal-due, job-due, command-due, nextAt, due}
+use Rattle.machine.specs.Stepping.{scope, place, latest, openFuture, further, task, Own, ownOf, Due, refusal-due, job-due, command-due}
+use Rattle.machine.specs.Stepping.{nextAt, due}
 use Rattle.machine.specs.Running.{canStep, lowest, allFinished, Ending, done, stuck, spent}
 use Rattle.machine.specs.Traces.{Stepped}
 use Rattle.engine.specs.declared.Attempt.{Attempt}
@@ -25,10 +26,30 @@ use Rattle.engine.specs.Answers.{said}
 abbrev pub NextAt : ℕ → ℕ → ℕ → Own → ℕ → Stands → Due → Type 0
 NextAt L v σ w made item d = (s : Lent) → ownOf s v ≡ w → scope s v ≡ σ → s .made ≡ made → d ≡ nextAt s v (task L item)
 
--- the same, of a program
-abbrev pub Next : List ℕ → ℕ → ℕ → Own → ℕ → Due → Type 0
-Next bytes v σ w made d =
-    (s : Lent) → ownOf s v ≡ w → scope s v ≡ σ → s .made ≡ made → d ≡ nextAt s v (task (length bytes - 1) (itemAt bytes (place s v)))
+-- the same where t are the vertex rows: a force follows words of other vertices
+abbrev pub NextIn : List ℕ → ℕ → ℕ → ℕ → Own → ℕ → Stands → Due → Type 0
+NextIn t L v σ w made item d =
+    (s : Lent) → s .vertices ≡ t → ownOf s v ≡ w → scope s v ≡ σ → s .made ≡ made → d ≡ nextAt s v (task L item)
+
+-- and of a program
+abbrev pub Next : List ℕ → List ℕ → ℕ → ℕ → Own → ℕ → Due → Type 0
+Next bytes t v σ w made d =
+    (s : Lent) → s .vertices ≡ t → ownOf s v ≡ w → scope s v ≡ σ → s .made ≡ made
+    → d ≡ nextAt s v (task (length bytes - 1) (itemAt bytes (place s v)))
+
+-- the future that a word names, or so many futures further out
+unfoldable pub outwards : Lent → ℕ → ℕ → Option ℕ
+outwards s word zero = openFuture s word
+outwards s word (suc n) = further (openFuture s word) (λ t. outwards s (latest s t) n)
+
+-- as the code tells it: 0 is none
+unfoldable pub unlessZero : ℕ → Option ℕ
+unlessZero zero = none
+unlessZero (suc t) = some (suc t)
+
+-- r tells the future that is so many futures further out than the one that a word names, where t are the vertex rows and so many are made
+abbrev pub FollowsTo : List ℕ → ℕ → ℕ → ℕ → ℕ → Type 0
+FollowsTo t made word n r = (s : Lent) → s .vertices ≡ t → s .made ≡ made → unlessZero r ≡ outwards s word n
 
 -- w are vertex k's own words in a table
 abbrev pub OwnIn : List ℕ → ℕ → Own → Type 0

@@ -100,7 +100,7 @@ lowest-marked-spec =
     (λ c. omega (arith, row (c .before .before .before)))
     (λ c. omega (arith, c .before .before .before .loop-test .taken))
     loop-again
-    (λ c κs. let turn = c .before .before .before in (start turn .pre .0, start turn .pre .1, row turn .0))
+    (λ c κs. let turn = c .before .before .before in (start turn .pre .0, start turn .pre .1, turn .loop-test .taken, sound-rows _ (known turn) .0))
     (λ c κs. search needs)
     returns-2
     (λ c. omega (arith, row (c .before .before .before .before .before .before)))

@@ -12,11 +12,11 @@ use Rattle.engine.proofs.next.executing.Statement.{statement}
 use Rattle.engine.proofs.next.executing.Tie as tie
 
 returns : tie.Need-returns
-returns c = next-unstarted _ _ _ _ _ (answered-no (c .before .before .pre) (c .if1 .taken))
+returns c = next-unstarted _ _ _ _ _ _ (answered-no (c .before .before .before .pre .0) (c .if1 .taken))
 
 -- behind the test something starts at the place
-started : (c : tie.Else1) → startsAt (c .before .before .args .program .now) (c .before .before .args .own .place) ≡ true
-started c = answered-yes (c .before .before .pre) (c .if1 .left)
+started : (c : tie.Else1) → startsAt (c .before .before .before .args .program .now) (c .before .before .before .args .own .place) ≡ true
+started c = answered-yes (c .before .before .before .pre .0) (c .if1 .left)
 
 sub-last : tie.Need-sub-last
 sub-last c = starts-length _ _ (started c) .0
@@ -37,32 +37,48 @@ item-here-requires c κs = rw (c .before .at .ensures) (starting-holds _ _ (star
 found :
     (c : tie.After-item-here)
     → stands (c .item-here .result)
-    ≡ itemAt (c .before .before .before .before .before .before .args .program .now) (c .before .before .before .before .before .before .args .own .place)
+    ≡ itemAt (c .before .before .before .before .before .before .before .args .program .now)
+    (c .before .before .before .before .before .before .before .args .own .place)
 found c =
-    starting-shown (c .before .before .before .before .before .before .args .program .now) _ _ (started (c .before .before .before .before))
+    starting-shown (c .before .before .before .before .before .before .before .args .program .now) _ _ (started (c .before .before .before .before))
     ((rw (c .before .before .at .ensures) at (c .item-here .ensures)) .0)
 
 returns-2 : tie.Need-returns-2
-returns-2 c = next-nothing _ _ _ _ _ (ap stands (sym (c .before .item .given .1)) ∙ found (c .before .before .before))
+returns-2 c = next-nothing _ _ _ _ _ _ (ap stands (sym (c .before .item .given .1)) ∙ found (c .before .before .before))
 
 returns-3 : tie.Need-returns-3
 returns-3 c =
-    next-item _ _ _ _ _ (ap stands (sym (c .before .before .item2 .given .1)) ∙ found (c .before .before .before .before))
-    (c .end-next .ensures _ _ _)
+    next-item _ _ _ _ _ _ (ap stands (sym (c .before .before .item2 .given .1)) ∙ found (c .before .before .before .before))
+    (λ s e. c .end-next .ensures _ _ _ s)
 
 returns-4 : tie.Need-returns-4
 returns-4 c =
-    next-item _ _ _ _ _ (ap stands (sym (c .before .before .item3 .given .1)) ∙ found (c .before .before .before .before))
-    (c .job-next .ensures _ _ _)
+    next-item _ _ _ _ _ _ (ap stands (sym (c .before .before .item3 .given .1)) ∙ found (c .before .before .before .before))
+    (λ s e. c .job-next .ensures _ _ _ s)
 
 returns-5 : tie.Need-returns-5
-returns-5 c = next-item _ _ _ _ _ (ap stands (sym (c .before .before .item4 .given .1)) ∙ found (c .before .before .before .before)) (c .async-next .ensures _)
+returns-5 c =
+    next-item _ _ _ _ _ _ (ap stands (sym (c .before .before .item4 .given .1)) ∙ found (c .before .before .before .before))
+    (λ s e. c .async-next .ensures _ s)
 
 returns-6 : tie.Need-returns-6
-returns-6 c = next-item _ _ _ _ _ (ap stands (sym (c .before .before .item5 .given .1)) ∙ found (c .before .before .before .before)) (c .finish-next .ensures)
+returns-6 c =
+    next-item _ _ _ _ _ _ (ap stands (sym (c .before .before .item5 .given .1)) ∙ found (c .before .before .before .before))
+    (λ s e. c .finish-next .ensures s)
 
 returns-7 : tie.Need-returns-7
-returns-7 c = next-item _ _ _ _ _ (ap stands (sym (c .before .before .item6 .given .1)) ∙ found (c .before .before .before .before)) (c .fork-next .ensures)
+returns-7 c =
+    next-item _ _ _ _ _ _ (ap stands (sym (c .before .before .item6 .given .1)) ∙ found (c .before .before .before .before))
+    (λ s e. c .fork-next .ensures s)
+
+returns-8 : tie.Need-returns-8
+returns-8 c =
+    next-item _ _ _ _ _ _ (ap stands (sym (c .before .before .item7 .given .1)) ∙ found (c .before .before .before .before))
+    (λ s e. c .future-next .ensures s)
+
+returns-9 : tie.Need-returns-9
+returns-9 c =
+    next-item _ _ _ _ _ _ (ap stands (sym (c .before .before .item8 .given .1)) ∙ found (c .before .before .before .before)) (c .force-next .ensures)
 
 pub executing-spec : {M : Type 1} → statement M
 executing-spec =
@@ -88,9 +104,15 @@ executing-spec =
     (λ c κs. search needs)
     (λ c. search needs)
     (λ c κs. search needs)
+    (λ c. search needs)
+    (λ c κs. search needs)
+    (λ c. search needs)
+    (λ c κs. search needs)
     returns-2
     returns-3
     returns-4
     returns-5
     returns-6
-    returns-7)
+    returns-7
+    returns-8
+    returns-9)

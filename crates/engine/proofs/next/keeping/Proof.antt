@@ -9,6 +9,6 @@ keeping-spec =
     tie.close
     (tie.spec
     (λ c. search needs)
-    (λ c. kept-first _ _ _ _ _ _ _ _ (c .if1 .taken))
-    (λ c. kept-second _ _ _ _ _ _ _ _ (c .if2 .taken))
-    (λ c. kept-third _ _ _ _ _ _ _ _ (c .before .if1 .left) (c .if2 .left)))
+    (λ c. kept-first _ _ _ _ _ _ _ _ _ (c .if1 .taken))
+    (λ c. kept-second _ _ _ _ _ _ _ _ _ (c .if2 .taken))
+    (λ c. kept-third _ _ _ _ _ _ _ _ _ (c .before .if1 .left) (c .if2 .left)))

@@ -10,10 +10,12 @@ returns c =
     (c .before .before .before .before .before .before .args .vertices .now) _ _ _ (c .before .before .own-words .ensures) (c .if1 .taken)
 
 executing-requires : tie.Need-executing-requires
-executing-requires c κs =
-    marked-starts _ (c .before .before .before .before .before .before .before .before .args .marks .now) _
-    (c .before .before .before .before .before .before .before .before .pre .0)
-    (c .before .before .before .before .before .before .before .before .pre .1) (c .before .is-marked .ensures)
+executing-requires c κs = (
+  marked-starts _ (c .before .before .before .before .before .before .before .before .args .marks .now) _
+      (c .before .before .before .before .before .before .before .before .pre .0)
+      (c .before .before .before .before .before .before .before .before .pre .1) (c .before .is-marked .ensures),
+  c .before .before .before .before .before .before .before .before .pre .3,
+)
 
 returns-2 : tie.Need-returns-2
 returns-2 c =

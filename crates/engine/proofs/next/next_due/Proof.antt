@@ -3,7 +3,7 @@ use borrow.Author.Needs.{needs}
 use native.Mathlib.Omega.{arith}
 use Rattle.graph.proofs.CallLaws.{answered-yes}
 use Rattle.machine.specs.Stepping.{steppable, due}
-use Rattle.engine.proofs.DueLaws.{row-there, word-there, there-start, there-executing, due-there, dues}
+use Rattle.engine.proofs.DueLaws.{rows-there, row-there, word-there, there-start, there-executing, due-there, dues}
 use Rattle.engine.proofs.next.next_due.Statement.{statement}
 use Rattle.engine.proofs.next.next_due.Tie as tie
 
@@ -85,6 +85,18 @@ shared-slice-read-executing c =
     (c .before .before .before .before .before .before .before .before .before .before .before .before .before .if1 .left)
     (c .before .before .before .before .before .before .before .before .before .if3 .left)
 
+executing-requires : tie.Need-executing-requires
+executing-requires c κs = (
+  c .before .starts-at .ensures,
+  rows-there _
+      (c .before .before .before .before .before .before .before .before .before .before .before .before .before .before .before .before .before
+      .before .args .edges .now)
+      (c .before .before .before .before .before .before .before .before .before .before .before .before .before .before .before .before .before
+      .before .args .tally)
+      (c .before .before .before .before .before .before .before .before .before .before .before .before .before .before .is-sound .ensures)
+      (c .before .before .before .before .before .before .before .before .before .before .before .before .before .if1 .left),
+)
+
 returns-7 : tie.Need-returns-7
 returns-7 c =
     due-there _ _
@@ -133,5 +145,5 @@ next-due-spec =
     (λ c. search needs)
     (λ c. search needs)
     shared-slice-read-executing
-    (λ c κs. search needs)
+    executing-requires
     returns-7)

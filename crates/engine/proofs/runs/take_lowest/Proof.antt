@@ -72,12 +72,8 @@ marked-due-requires : tie.Need-marked-due-requires
 marked-due-requires c κs = (
   c .before .before .before .before .before .before .before .before .before .before .before .before .before .pre .0,
   c .before .before .before .before .before .before .before .before .before .before .before .before .before .pre .1,
-  omega (
-    arith,
-    sound-rows _
-        (c .before .before .before .before .before .before .before .before .before .before .before .before .before .pre .2),
-    live (c .before .before .before),
-  ),
+  live (c .before .before .before),
+  sound-rows _ (c .before .before .before .before .before .before .before .before .before .before .before .before .before .pre .2) .0,
 )
 
 returns-3 : tie.Need-returns-3

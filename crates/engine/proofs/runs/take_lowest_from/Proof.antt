@@ -61,6 +61,7 @@ marked-due-requires : tie.Need-marked-due-requires Inv-loop μ-loop
 marked-due-requires c κs = (
   c .before .before .before .before .before .before .before .before .before .before .before .before .before .before .before .pre .0,
   c .before .before .before .before .before .before .before .before .before .before .before .before .before .before .before .pre .1,
+  c .before .before .before .before .loop-test .taken,
   omega (
     arith,
     sound-rows _

@@ -1,4 +1,4 @@
--- Five words stored, one after the other.
+-- Six words stored, one after the other.
 use borrow.Author.Needs.{needs}
 use native.Mathlib.Omega.{arith}
 use mathlib.Core.Path.{refl}
@@ -18,6 +18,9 @@ slice-write-vertices-4 c = simp length-set (omega arith)
 
 slice-write-vertices-5 : tie.Need-slice-write-vertices-5
 slice-write-vertices-5 c = simp length-set (omega arith)
+
+slice-write-vertices-6 : tie.Need-slice-write-vertices-6
+slice-write-vertices-6 c = simp length-set (omega arith)
 
 returns : tie.Need-returns
 unfolding stored
@@ -41,5 +44,8 @@ store-spec = tie.close (tie.spec
     (λ c. search needs)
     (λ c. search needs)
     slice-write-vertices-5
+    (λ c. search needs)
+    (λ c. search needs)
+    slice-write-vertices-6
     (λ c. search needs)
     returns)

@@ -8,16 +8,18 @@ use mathlib.Core.Path.{_≡_}
 use native.Mathlib.Omega.{arith}
 
 abbrev Inv-loop : tie.InvT-loop
-Inv-loop program₀ seed drawn₀ open₀ at₀ program drawn «open» at = (at + «open» ≤ length program) × (length program ≡ length program₀)
+Inv-loop program₀ seed drawn₀ open₀ at₀ futures₀ program drawn «open» at futures =
+    (at + «open» ≤ length program) × (length program ≡ length program₀)
 
 abbrev μ-loop : tie.MeasureT-loop
-μ-loop program₀ seed drawn₀ open₀ at₀ program drawn «open» at = length program - at
+μ-loop program₀ seed drawn₀ open₀ at₀ futures₀ program drawn «open» at futures = length program - at
 
 pub draw-spec : {M : Type 1} → statement M
 draw-spec = tie.close (tie.spec Inv-loop
     μ-loop
     (λ c. search needs)
     (λ c. omega arith)
+    (λ c κs. search needs)
     (λ c κs. search needs)
     (λ c. omega arith)
     (λ c. omega arith)
@@ -31,15 +33,16 @@ draw-spec = tie.close (tie.spec Inv-loop
     (λ c κs. omega arith)
     (λ c. omega arith)
     (λ c. omega arith)
+    (λ c κs. search needs)
     (λ c. omega arith)
     (λ c. omega arith)
-    (λ c. omega arith)
-    (λ c. simp length-set (omega arith))
-    (λ c. simp length-set (omega arith))
-    (λ c. omega arith)
-    (λ c. omega arith)
+    (λ c κs. search needs)
     (λ c. omega arith)
     (λ c. simp length-set (omega arith))
     (λ c. simp length-set (omega arith))
+    (λ c κs. search needs)
+    (λ c κs. omega arith)
+    (λ c. omega arith)
+    (λ c. omega arith)
     (λ c. omega arith)
     (λ c. omega arith))
