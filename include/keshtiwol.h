@@ -1,8 +1,8 @@
 /* The task-graph engine: which job of a program may start now.
  *
- * A program is bytes: numbered jobs with async, finish and fork. A job's number reaches 4,294,967,295, so that a retune job can carry its
- * frequency in hertz. The engine turns the program into vertices and edges of a task graph and moves it one step at a time, in whatever
- * order the host picks. It keeps nothing: everything that it knows stands in the tables and the tally that the host lends.
+ * A program is bytes: numbered jobs with async, finish, fork, future and force. A job's number reaches 4,294,967,295, so that a retune job
+ * can carry its frequency in hertz. The engine turns the program into vertices and edges of a task graph and moves it one step at a time,
+ * in whatever order the host picks. It keeps nothing: everything that it knows stands in the tables and the tally that the host lends.
  *
  * Each call ends in an accepted step or in a numbered refusal that changed nothing, whatever was handed in. That each answer, table and
  * tally is the one that the engine's definitions give is proved; what this file declares, and that the compiler keeps it, is trusted.
@@ -18,16 +18,22 @@
  *
  *     program = body               1 to 4,096 bytes, and none behind the body's end
  *     body    = { item } 00        the program's is level 1, a body in an item one level deeper, to 32
- *     item    = job | async | finish | fork
+ *     item    = job | async | finish | fork | future | force
  *     job     = 01 number          the host runs it
  *     async   = 02 body            goes on beside what follows it
- *     finish  = 03 body            what follows it waits for its body and all asyncs in it
- *     fork    = 04 body body       both beside each other; what follows it waits for both, and not for asyncs in them
+ *     finish  = 03 body            what follows it waits for its body and all asyncs in it, and not for futures in it
+ *     fork    = 04 body body       both beside each other; what follows it waits for both, and not for asyncs and futures in them
+ *     future  = 05 body            goes on beside what follows it; nothing waits for it but forces
+ *     force   = 06 number          what follows it waits for the future that it names, and for all asyncs in that: 0 is the nearest
+ *                                  future open there, 1 the next one out, and so on
  *     number  = { more } last      1 to 5 bytes, the lowest seven bits first; at most 4,294,967,295
  *     more    = 80..FF             seven bits, and another byte follows
  *     last    = 00..7F             the highest seven bits; 00 only where it is the number's only byte
  *
- * 01 90 81 DB 06 is job 14,074,000. The repository's docs/ENGINE.md says all that the engine does with a program. */
+ * 01 90 81 DB 06 is job 14,074,000. A future is open behind its item, to the end of the body in which the item stands and in the bodies of
+ * later items, and not in its own body. One that is never forced still ends: a program is done when all its vertices are finished.
+ *
+ * The repository's docs/ENGINE.md says all that the engine does with a program. */
 #ifndef KESHTIWOL_H
 #define KESHTIWOL_H
 
@@ -40,7 +46,7 @@ extern "C" {
 
 /* THE VERSION of this header. The first number grows where hosts must be compiled anew (a call's parameters, the shape of what is lent, the
  * meaning of an answer), the second where something is added, the third otherwise. */
-#define KESHTIWOL_VERSION_MAJOR 1
+#define KESHTIWOL_VERSION_MAJOR 2
 #define KESHTIWOL_VERSION_MINOR 0
 #define KESHTIWOL_VERSION_PATCH 0
 /* As one number. */
@@ -50,15 +56,17 @@ extern "C" {
 uint32_t keshtiwol_version(void);
 
 /* THE TABLES, of 32-bit words. Only full rows among the first 1,024 of each are used; other words are never touched.
- * A vertex row: status, place (byte offset in the program), scope (a vertex), phase (commands of the item at hand already done), and
- * the three vertices that this item made, 0 where none. An edge row: source, target. */
+ * A vertex row: status, place (byte offset in the program), scope (a vertex), phase (commands of the item at hand already done), the
+ * three vertices that this item made, 0 where none, and the latest open future, 0 where none: the vertex that finishes when that future
+ * has ended, and whose own word names the next future out. An edge row: source, target. */
 enum {
-    KESHTIWOL_VERTEX_WORDS = 7,
+    KESHTIWOL_VERTEX_WORDS = 8,
     KESHTIWOL_STATUS = 0,
     KESHTIWOL_PLACE = 1,
     KESHTIWOL_SCOPE = 2,
     KESHTIWOL_PHASE = 3,
     KESHTIWOL_MADE = 4,
+    KESHTIWOL_FUTURE = 7,
 
     KESHTIWOL_EDGE_WORDS = 2,
     KESHTIWOL_SOURCE = 0,
@@ -71,8 +79,8 @@ enum {
     KESHTIWOL_VERTEX_FINISHED = 4
 };
 
-/* HOW MUCH TO LEND. A program with a asyncs, f finishes and k forks needs 2 + a + 2f + 3k vertex rows and 1 + a + f + 2k edge rows; with w
- * jobs it takes 4 + w + 5a + 10f + 15k steps. These are enough for every program: */
+/* HOW MUCH TO LEND. A program with a asyncs, f finishes, k forks, u futures and x forces needs 2 + a + 2f + 3k + 2u + x vertex rows and
+ * 1 + a + f + 2k + u + x edge rows; with w jobs it takes 4 + w + 5a + 10f + 15k + 9u + 6x steps. These are enough for every program: */
 enum {
     KESHTIWOL_PROGRAM_BYTES = 4096,
     KESHTIWOL_ROWS = 1024,
@@ -126,17 +134,19 @@ enum {
     /* the program's writer */
     KESHTIWOL_LENGTH_OUTSIDE = 1,    /* length 0 or over 4,096 */
     KESHTIWOL_NUMBER_MALFORMED = 2,  /* a number longer than five bytes or not in its shortest form; place: its first byte */
-    KESHTIWOL_BYTE_UNKNOWN = 3,      /* an item's first byte above 4; place: that byte */
+    KESHTIWOL_BYTE_UNKNOWN = 3,      /* an item's first byte above 6; place: that byte */
     KESHTIWOL_LEVEL_TOO_DEEP = 4,    /* a body at level 33; place: its opener */
     KESHTIWOL_BYTES_RUN_OUT = 5,     /* place: the length */
     KESHTIWOL_BYTES_AFTER_END = 6,   /* place: the first byte after the end */
-    KESHTIWOL_JOB_TOO_LARGE = 7,     /* a job above 4,294,967,295; place: its number's first byte */
+    KESHTIWOL_JOB_TOO_LARGE = 7,     /* a job's or a force's number above 4,294,967,295; place: its first byte */
     KESHTIWOL_TOO_MANY_VERTICES = 8, /* more than 1,024 */
+    KESHTIWOL_NO_SUCH_FUTURE = 43,   /* a force with no such future open; place: its number's first byte */
     /* the lender */
     KESHTIWOL_TOO_FEW_VERTEX_ROWS = 10,
     KESHTIWOL_TOO_FEW_EDGE_ROWS = 11,
     KESHTIWOL_UNSOUND_TABLES = 12, /* tally over the rows, too many steps, an unknown status, or an edge's end that is no vertex */
-    KESHTIWOL_NOTHING_STARTS = 13, /* at an executing vertex's place no item can be read, or its phase is past the item */
+    KESHTIWOL_NOTHING_STARTS = 13, /* at an executing vertex's place no item can be read, its phase is past the item, or the words for
+                                      futures that a force follows lead to 0 or to no vertex */
     /* the host, choosing */
     KESHTIWOL_NO_SUCH_VERTEX = 20,
     KESHTIWOL_EDGE_LEADS_IN = 21, /* released, but something must finish first */
@@ -166,16 +176,17 @@ static inline const char *keshtiwol_refusal_text(uint32_t number)
     switch (number) {
     case KESHTIWOL_LENGTH_OUTSIDE: return "the program has no bytes or more than 4,096";
     case KESHTIWOL_NUMBER_MALFORMED: return "a number is longer than five bytes or not in its shortest form";
-    case KESHTIWOL_BYTE_UNKNOWN: return "an item's first byte is above 4";
+    case KESHTIWOL_BYTE_UNKNOWN: return "an item's first byte is above 6";
     case KESHTIWOL_LEVEL_TOO_DEEP: return "a body is at level 33";
     case KESHTIWOL_BYTES_RUN_OUT: return "the bytes run out";
     case KESHTIWOL_BYTES_AFTER_END: return "bytes come after the end";
-    case KESHTIWOL_JOB_TOO_LARGE: return "a job's number is above 4,294,967,295";
+    case KESHTIWOL_JOB_TOO_LARGE: return "a number is above 4,294,967,295";
     case KESHTIWOL_TOO_MANY_VERTICES: return "the program makes more than 1,024 vertices";
+    case KESHTIWOL_NO_SUCH_FUTURE: return "no such future is open";
     case KESHTIWOL_TOO_FEW_VERTEX_ROWS: return "too few vertex rows are lent";
     case KESHTIWOL_TOO_FEW_EDGE_ROWS: return "too few edge rows are lent";
     case KESHTIWOL_UNSOUND_TABLES: return "tally and tables don't fit together, or 8,192 steps were taken";
-    case KESHTIWOL_NOTHING_STARTS: return "no item can be read at the vertex's place, or its phase is past the item";
+    case KESHTIWOL_NOTHING_STARTS: return "no item can be read at the vertex's place, its phase is past the item, or its words lead to no future";
     case KESHTIWOL_NO_SUCH_VERTEX: return "there is no such vertex";
     case KESHTIWOL_EDGE_LEADS_IN: return "something must finish before this vertex starts";
     case KESHTIWOL_VERTEX_IS_NEW: return "the vertex is not released yet";
@@ -197,7 +208,7 @@ static inline const char *keshtiwol_refusal_text(uint32_t number)
 }
 
 /* Loads a program: clears the usable rows and the tally, and sets the first two vertices and the edge between them.
- * Says KESHTIWOL_READY, or refuses: 1; 2 to 7, the first by place; 8; 10; 11. */
+ * Says KESHTIWOL_READY, or refuses: 1; 2 to 7 and 43, the first by place; 8; 10; 11. */
 struct keshtiwol_reply keshtiwol_load(const uint8_t *program, size_t program_bytes,
                                       uint32_t *vertices, size_t vertex_words,
                                       uint32_t *edges, size_t edge_words,
@@ -231,7 +242,7 @@ struct keshtiwol_reply keshtiwol_open(uint32_t *vertices, size_t vertex_words,
 
 /* The commands. What a command does not name is not looked at. */
 enum {
-    KESHTIWOL_DO_NEW = 1,      /* caller; first: place; second: scope. Makes the next vertex. */
+    KESHTIWOL_DO_NEW = 1,      /* caller; first: place; second: scope. Makes the next vertex, with the caller's latest open future. */
     KESHTIWOL_DO_EDGE = 2,     /* caller; first: source; second: target. From a finished source, or held already, it changes nothing. */
     KESHTIWOL_DO_RELEASE = 3,  /* caller; first: the vertex */
     KESHTIWOL_DO_TRANSFER = 4, /* caller; first: the vertex that gets the caller's edges out */

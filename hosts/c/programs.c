@@ -17,14 +17,26 @@ static void put(struct program *program, uint8_t byte)
     program->bytes[program->length++] = byte;
 }
 
-static void put_job(struct program *program, uint32_t number)
+static void put_number(struct program *program, uint32_t number)
 {
-    put(program, JOB);
     while (number >= 0x80) {
         put(program, (uint8_t)(number | 0x80));
         number >>= 7;
     }
     put(program, (uint8_t)number);
+}
+
+static void put_job(struct program *program, uint32_t number)
+{
+    put(program, JOB);
+    put_number(program, number);
+}
+
+/* A force of the nearest future open there but so many. */
+static void put_force(struct program *program, uint32_t number)
+{
+    put(program, FORCE);
+    put_number(program, number);
 }
 
 static void end(struct program *program)
@@ -169,12 +181,103 @@ static void long_line(struct program *program)
     end(program);
 }
 
+/* Twelve blocks: each is filtered, and a long decode of it begun, which in half of them leaves an async behind. Then the calls are
+ * logged, from the last block to the first, as soon as each is decoded; the odd ones' futures are forced by an async of their own. */
+static void begun_early(struct program *program)
+{
+    enum { FILTER = 200, DECODE = 300, STORE = 400, LOG = 500, BLOCKS = 12 };
+    for (uint32_t block = 0; block < BLOCKS; block++) {
+        put_job(program, FILTER + block);
+        put(program, FUTURE);
+        put_job(program, DECODE + block);
+        if (block % 2 == 0) {
+            put(program, ASYNC);
+            put_job(program, STORE + block);
+            end(program);
+        }
+        end(program);
+    }
+    for (uint32_t block = BLOCKS; block-- > 0;) {
+        if (block % 2 != 0) {
+            put(program, ASYNC);
+        }
+        put_force(program, BLOCKS - 1 - block);
+        put_job(program, LOG + block);
+        if (block % 2 != 0) {
+            end(program);
+        }
+    }
+    end(program);
+}
+
+/* Futures each of which forces the one before twice: read as finishes, the first one's body would stand there half a million times. */
+static void force_before(struct program *program)
+{
+    enum { FUTURES = 20 };
+    for (uint32_t i = 0; i < FUTURES; i++) {
+        put(program, FUTURE);
+        for (uint32_t j = 0; j < 2; j++) {
+            if (i > 0) {
+                put_force(program, 0);
+            }
+            put_job(program, 2 * i + j);
+        }
+        end(program);
+    }
+    put_job(program, 2 * FUTURES);
+    put_force(program, 0);
+    put_job(program, 2 * FUTURES + 1);
+    end(program);
+}
+
+/* Futures that nothing forces, and others inside them; what is behind the finish waits for none of them. */
+static void unforced(struct program *program)
+{
+    uint32_t number = 1;
+    for (int i = 0; i < 10; i++) {
+        put(program, FINISH);
+        put(program, FUTURE);
+        put_job(program, number++);
+        put(program, FUTURE);
+        put_job(program, number++);
+        end(program);
+        put_job(program, number++);
+        end(program);
+        put_job(program, number++);
+        end(program);
+        put_job(program, number++);
+    }
+    end(program);
+}
+
+static void most_futures(struct program *program)
+{
+    for (int i = 0; i < 511; i++) {
+        put(program, FUTURE);
+        end(program);
+    }
+    end(program);
+}
+
+static void most_forces(struct program *program)
+{
+    put(program, FUTURE);
+    put_job(program, 1);
+    end(program);
+    for (int i = 0; i < 1020; i++) {
+        put_force(program, 0);
+    }
+    put_job(program, 2);
+    end(program);
+}
+
 void program_built_in(struct program *program, int which)
 {
     static const char *const names[BUILT_IN] = {
         "nothing", "one job", "async beside a job", "fork, then a job", "largest job number", "finish around an async",
         "31 asyncs, one in the other", "1,022 asyncs", "receiver", "nested forks", "wide asyncs", "deep finishes", "asyncs left behind",
-        "150 jobs in a line",
+        "150 jobs in a line", "future, forced where it is used", "decodes begun early", "futures that force the one before",
+        "futures that nothing forces", "511 futures", "1,020 forces",
     };
     memset(program, 0, sizeof *program);
     snprintf(program->name, sizeof program->name, "%s", names[which]);
@@ -193,6 +296,12 @@ void program_built_in(struct program *program, int which)
     case 11: deep_finishes(program); break;
     case 12: left_behind(program); break;
     case 13: long_line(program); break;
+    case 14: BYTES(5, 1, 1, 0, 1, 2, 6, 0, 1, 3, 0); break;
+    case 15: begun_early(program); break;
+    case 16: force_before(program); break;
+    case 17: unforced(program); break;
+    case 18: most_futures(program); break;
+    case 19: most_forces(program); break;
     }
 }
 
@@ -202,7 +311,7 @@ void program_built_in(struct program *program, int which)
 struct plan {
     uint64_t dice;
     uint32_t vertices, jobs;
-    uint32_t async, finish, fork;
+    uint32_t async, finish, fork, future, force;
     uint32_t items; /* of a body, at most */
     int levels;
 };
@@ -217,8 +326,8 @@ static void draw_job(struct program *program, struct plan *plan)
     }
 }
 
-/* Opens an item with bodies if there are vertices for it. */
-static bool open_item(struct program *program, struct plan *plan, uint8_t kind, uint32_t vertices)
+/* Puts an item's first byte if there are vertices for it. */
+static bool begin_item(struct program *program, struct plan *plan, uint8_t kind, uint32_t vertices)
 {
     if (plan->vertices < vertices) {
         return false;
@@ -228,26 +337,44 @@ static bool open_item(struct program *program, struct plan *plan, uint8_t kind, 
     return true;
 }
 
-static void draw_body(struct program *program, struct plan *plan, int level, uint32_t least)
+/* Whether the pick is of this kind. Where it is not, it is made one among the other kinds. */
+static bool is_picked(uint32_t *pick, uint32_t likely)
+{
+    bool picked = *pick < likely;
+    *pick -= picked ? 0 : likely;
+    return picked;
+}
+
+/* In it so many futures are open from its beginning on. */
+static void draw_body(struct program *program, struct plan *plan, int level, uint32_t least, uint32_t futures)
 {
     uint32_t items = least + draw(&plan->dice, plan->items + 1);
     for (uint32_t i = 0; i < items; i++) {
         uint32_t pick = draw(&plan->dice, 100);
         int inner = level + 1;
-        if (inner > plan->levels) {
+        if (is_picked(&pick, plan->force)) {
+            if (futures > 0 && begin_item(program, plan, FORCE, 1)) {
+                put_number(program, draw(&plan->dice, 2) == 0 ? 0 : draw(&plan->dice, futures));
+            }
+        } else if (inner > plan->levels) {
             draw_job(program, plan);
-        } else if (pick < plan->async) {
-            if (open_item(program, plan, ASYNC, 1)) {
-                draw_body(program, plan, inner, 0);
+        } else if (is_picked(&pick, plan->async)) {
+            if (begin_item(program, plan, ASYNC, 1)) {
+                draw_body(program, plan, inner, 0, futures);
             }
-        } else if (pick < plan->async + plan->finish) {
-            if (open_item(program, plan, FINISH, 2)) {
-                draw_body(program, plan, inner, 0);
+        } else if (is_picked(&pick, plan->finish)) {
+            if (begin_item(program, plan, FINISH, 2)) {
+                draw_body(program, plan, inner, 0, futures);
             }
-        } else if (pick < plan->async + plan->finish + plan->fork) {
-            if (open_item(program, plan, FORK, 3)) {
-                draw_body(program, plan, inner, 0);
-                draw_body(program, plan, inner, 0);
+        } else if (is_picked(&pick, plan->fork)) {
+            if (begin_item(program, plan, FORK, 3)) {
+                draw_body(program, plan, inner, 0, futures);
+                draw_body(program, plan, inner, 0, futures);
+            }
+        } else if (is_picked(&pick, plan->future)) {
+            if (begin_item(program, plan, FUTURE, 2)) {
+                draw_body(program, plan, inner, 0, futures);
+                futures++;
             }
         } else {
             draw_job(program, plan);
@@ -259,13 +386,15 @@ static void draw_body(struct program *program, struct plan *plan, int level, uin
 void program_drawn(struct program *program, uint64_t seed)
 {
     struct plan plan = {.dice = seed, .vertices = 298, .jobs = 200};
-    plan.async = 5 + draw(&plan.dice, 30);
-    plan.finish = 5 + draw(&plan.dice, 20);
-    plan.fork = 5 + draw(&plan.dice, 20);
+    plan.async = 5 + draw(&plan.dice, 20);
+    plan.finish = 5 + draw(&plan.dice, 10);
+    plan.fork = 5 + draw(&plan.dice, 10);
+    plan.future = 5 + draw(&plan.dice, 20);
+    plan.force = 5 + draw(&plan.dice, 20);
     plan.items = 3 + draw(&plan.dice, 6);
     plan.levels = 3 + (int)draw(&plan.dice, LEVELS - 2);
 
     memset(program, 0, sizeof *program);
     snprintf(program->name, sizeof program->name, "drawn %llu", (unsigned long long)seed);
-    draw_body(program, &plan, 1, 12);
+    draw_body(program, &plan, 1, 12, 0);
 }

@@ -13,7 +13,7 @@ struct program {
     size_t length;
 };
 
-enum { BUILT_IN = 14 };
+enum { BUILT_IN = 20 };
 
 /* One of those built in, by its number below BUILT_IN. */
 void program_built_in(struct program *program, int which);

@@ -10,7 +10,7 @@
 #include "keshtiwol.h"
 
 /* An item's first byte. */
-enum { END = 0, JOB = 1, ASYNC = 2, FINISH = 3, FORK = 4 };
+enum { END = 0, JOB = 1, ASYNC = 2, FINISH = 3, FORK = 4, FUTURE = 5, FORCE = 6 };
 
 enum {
     LEVELS = 32,
@@ -22,13 +22,14 @@ struct item {
     uint8_t branch;  /* 1 in the right body of a fork, else 0 */
     int above;       /* the item whose body this one stands in, -1 in the main body */
     uint32_t offset;
-    uint32_t number; /* of a job */
+    uint32_t number; /* of a job or a force */
+    int future;      /* of a force: the item of its future */
 };
 
 struct tree {
     struct item items[MOST_ITEMS];
     int item_count;
-    uint32_t job_count, asyncs, finishes, forks;
+    uint32_t job_count, asyncs, finishes, forks, futures, forces;
     int jobs[MOST_ITEMS];                /* the jobs' items, in the order of the text; a job is its place in this list */
     int job_at[KESHTIWOL_PROGRAM_BYTES]; /* the job at an offset, or -1 */
     uint16_t *ahead;                     /* from ahead[from[q]] to before ahead[from[q + 1]]: the jobs ahead of job q */

@@ -1,7 +1,7 @@
 """The task-graph engine from Python: which job of a program may start now.
 
-A program is bytes: numbered jobs with async, finish and fork. A job's number takes one to five bytes and reaches 4,294,967,295, so that a
-retune job can carry its frequency in hertz. `Machine` owns all that the engine needs:
+A program is bytes: numbered jobs with async, finish, fork, future and force. A job's number takes one to five bytes and reaches
+4,294,967,295, so that a retune job can carry its frequency in hertz. `Machine` owns all that the engine needs:
 
     >>> from keshtiwol import Job, Machine
     >>> machine = Machine(bytes.fromhex("04 01 01 00 01 02 00 01 03 00"))  # fork { job 1 } { job 2 }, then job 3
@@ -19,10 +19,10 @@ retune job can carry its frequency in hertz. `Machine` owns all that the engine 
 
 What the engine turns away is raised as a `Refusal`, and changed nothing:
 
-    >>> Machine(b"\\x05")
+    >>> Machine(b"\\x07")
     Traceback (most recent call last):
     ...
-    keshtiwol.Refusal: refused with 3 at byte 0: an item's first byte is above 4
+    keshtiwol.Refusal: refused with 3 at byte 0: an item's first byte is above 6
 
 `Bare` is the bare machine: a graph built by hand, with single commands.
 
@@ -30,7 +30,7 @@ THREADS. Python goes on with other threads during a call, so the bargain of incl
 time for the same machine, reading included (one lock around the engine is enough), and after a step says `Job` do not step its vertex again
 before the job has ended. Different machines may be used from different threads at once. receiver.py shows a host with four threads.
 
-THE LIBRARY is libkeshtiwol.so.1: from the folder in the environment variable KESHTIWOL_LIB where that is set, else from the repository's
+THE LIBRARY is libkeshtiwol.so.2: from the folder in the environment variable KESHTIWOL_LIB where that is set, else from the repository's
 target/hosts/lib where it is there, else from where the system's loader finds it. Importing fails with an ImportError where there is none,
 or where its major version is not the one that this module was written for.
 """
@@ -44,15 +44,16 @@ import os
 from dataclasses import astuple, dataclass, fields
 from typing import NamedTuple, Optional, Union
 
-VERSION_MAJOR = 1
+VERSION_MAJOR = 2
 
 # THE TABLES, of 32-bit words: how many a row has, and where in it each stands.
-VERTEX_WORDS = 7
+VERTEX_WORDS = 8
 STATUS = 0
 PLACE = 1
 SCOPE = 2
 PHASE = 3
 MADE = 4
+FUTURE = 7
 
 EDGE_WORDS = 2
 SOURCE = 0
@@ -75,6 +76,7 @@ BYTES_RUN_OUT = 5
 BYTES_AFTER_END = 6
 JOB_TOO_LARGE = 7
 TOO_MANY_VERTICES = 8
+NO_SUCH_FUTURE = 43
 # The lender.
 TOO_FEW_VERTEX_ROWS = 10
 TOO_FEW_EDGE_ROWS = 11
@@ -104,16 +106,17 @@ NO_SUCH_COMMAND = 99
 TEXTS = {
     LENGTH_OUTSIDE: "the program has no bytes or more than 4,096",
     NUMBER_MALFORMED: "a number is longer than five bytes or not in its shortest form",
-    BYTE_UNKNOWN: "an item's first byte is above 4",
+    BYTE_UNKNOWN: "an item's first byte is above 6",
     LEVEL_TOO_DEEP: "a body is at level 33",
     BYTES_RUN_OUT: "the bytes run out",
     BYTES_AFTER_END: "bytes come after the end",
-    JOB_TOO_LARGE: "a job's number is above 4,294,967,295",
+    JOB_TOO_LARGE: "a number is above 4,294,967,295",
     TOO_MANY_VERTICES: "the program makes more than 1,024 vertices",
+    NO_SUCH_FUTURE: "no such future is open",
     TOO_FEW_VERTEX_ROWS: "too few vertex rows are lent",
     TOO_FEW_EDGE_ROWS: "too few edge rows are lent",
     UNSOUND_TABLES: "tally and tables don't fit together, or 8,192 steps were taken",
-    NOTHING_STARTS: "no item can be read at the vertex's place, or its phase is past the item",
+    NOTHING_STARTS: "no item can be read at the vertex's place, its phase is past the item, or its words lead to no future",
     NO_SUCH_VERTEX: "there is no such vertex",
     EDGE_LEADS_IN: "something must finish before this vertex starts",
     VERTEX_IS_NEW: "the vertex is not released yet",
@@ -139,7 +142,7 @@ class Refusal(Exception):
     def __init__(self, number: int, place: int) -> None:
         super().__init__(number, place)
         self.number = number
-        self.place = place  # an offset in the program for the numbers 2 to 7, else 0
+        self.place = place  # an offset in the program for the numbers 2 to 7 and 43, else 0
 
     @property
     def text(self) -> str:
@@ -147,7 +150,8 @@ class Refusal(Exception):
         return TEXTS.get(self.number, "unknown")
 
     def __str__(self) -> str:
-        at = f" at byte {self.place}" if NUMBER_MALFORMED <= self.number <= JOB_TOO_LARGE else ""
+        has_place = NUMBER_MALFORMED <= self.number <= JOB_TOO_LARGE or self.number == NO_SUCH_FUTURE
+        at = f" at byte {self.place}" if has_place else ""
         return f"refused with {self.number}{at}: {self.text}"
 
 
@@ -239,13 +243,15 @@ class Status(enum.IntEnum):
 
 class Row(NamedTuple):
     """A vertex's row: its status, its place (a byte offset in the program), its scope (a vertex), its phase (commands already done of the
-    item at its place), and the three vertices that this item made, 0 where none."""
+    item at its place), the three vertices that this item made, 0 where none, and the latest open future, 0 where none: the vertex that
+    finishes when that future has ended, and whose own word names the next future out."""
 
     status: Status
     place: int
     scope: int
     phase: int
     made: tuple[int, int, int]
+    future: int
 
 
 # THE C INTERFACE, as include/keshtiwol.h declares it; the test holds it to that file.
@@ -418,7 +424,7 @@ class Graph:
         if not 0 <= vertex < self.made:
             raise IndexError(f"there is no vertex {vertex}")
         words = self._vertices[VERTEX_WORDS * vertex : VERTEX_WORDS * (vertex + 1)]
-        return Row(Status(words[STATUS]), words[PLACE], words[SCOPE], words[PHASE], tuple(words[MADE:]))
+        return Row(Status(words[STATUS]), words[PLACE], words[SCOPE], words[PHASE], tuple(words[MADE:FUTURE]), words[FUTURE])
 
     def status(self, vertex: int) -> Status:
         """The status of a vertex that was made."""
@@ -438,7 +444,7 @@ class Graph:
 
 
 class Machine(Graph):
-    """A loaded program. One that the engine turns away is refused here: 1 to 8."""
+    """A loaded program. One that the engine turns away is refused here: 1 to 8 and 43."""
 
     def __init__(self, program: Union[bytes, bytearray, memoryview]) -> None:
         super().__init__()
@@ -496,7 +502,7 @@ class Bare(Graph):
         return self._command(Do.START, vertex)
 
     def new(self, caller: int, place: int = 0, scope: int = 0) -> Answer:
-        """Makes the next vertex, which `New` names."""
+        """Makes the next vertex, which `New` names, with the caller's latest open future."""
         return self._command(Do.NEW, caller, place, scope)
 
     def edge(self, caller: int, source: int, target: int) -> Answer:

@@ -25,7 +25,7 @@ from dataclasses import FrozenInstanceError
 import keshtiwol
 import receiver
 from keshtiwol import (
-    EDGE_WORDS, PHASE, ROWS, SOURCE, STATUS, STEP_LIMIT, VERTEX_WORDS,
+    EDGE_WORDS, FUTURE, PHASE, ROWS, SOURCE, STATUS, STEP_LIMIT, VERTEX_WORDS,
     Bare, Do, Edge, Ending, Job, Machine, New, Refusal, Release, Reply, Row, Run, RunReply, Said, Start, Status, Stop, Tally, Transfer,
     library,
 )
@@ -87,7 +87,7 @@ class Case(unittest.TestCase):
 class Examples(Case):
     def test_step_counts(self):
         for program, count in [("00", 4), ("01 00 00", 5), ("02 01 01 00 01 02 00", 11), (FORK.hex(), 22), ("01 FF FF 03 00", 5),
-                               ("01 80 80 04 00", 5), (LISTED.hex(), 21)]:
+                               ("01 80 80 04 00", 5), (LISTED.hex(), 21), ("05 00 06 00 00", 19)]:
             machine = Machine(bytes.fromhex(program))
             self.assertEqual(machine.run(STEP_LIMIT), Run(Ending.DONE, Stop(), count), program)
             self.assertEqual((machine.steps, machine.held), (count, 0))
@@ -100,6 +100,17 @@ class Examples(Case):
         self.assertEqual(jobs(bytes.fromhex("01 FF FF 03 00")), [65_535])
         self.assertEqual(jobs(bytes.fromhex("01 80 80 04 00")), [65_536])
         self.assertEqual(jobs(bytes.fromhex("01 90 81 DB 06 01 FF FF FF FF 0F 00")), [14_074_000, LARGEST])
+
+    def test_futures(self):
+        self.assertEqual(jobs(bytes.fromhex("05 01 01 00 01 02 00")), [2, 1])
+        self.assertEqual(jobs(bytes.fromhex("05 01 01 00 01 02 06 00 01 03 00")), [2, 1, 3])
+        self.assertEqual(jobs(bytes.fromhex("05 01 01 00 05 01 02 00 06 01 01 03 00")), [1, 2, 3])
+        self.assertEqual(listing(bytes.fromhex("05 00 06 00 00")), [
+            "vertices 5 jobs 0 steps 19",
+            "0 start", "0 new 2", "0 new 3", "0 edge 3 2", "0 release 2", "0 release 3",
+            "0 new 4", "0 edge 2 4", "0 transfer 4", "0 release 4", "0 stop",
+            "3 start", "3 stop", "2 start", "2 stop", "4 start", "4 stop", "1 start", "1 stop",
+        ])
 
     def test_jobs_in_either_order(self):
         machine = Machine(bytes.fromhex("02 01 01 00 01 02 00"))
@@ -120,8 +131,9 @@ class Examples(Case):
 
     def test_refused_programs(self):
         for program, number, place in [
-            ("", 1, 0), ("00" * 4097, 1, 0), ("05", 3, 0), ("01 80 00 00", 2, 1), ("01 80 80 80 80 80 01 00", 2, 1), ("00 00", 6, 1),
-            ("03 00", 5, 2), ("01 80", 5, 2), ("01 80 80 80 80 10 00", 7, 1), ("02" * 32, 4, 31), ("02 00" * 1023 + "00", 8, 0),
+            ("", 1, 0), ("00" * 4097, 1, 0), ("07", 3, 0), ("05", 5, 1), ("06", 5, 1), ("06 00", 43, 1), ("05 00 06 01 00", 43, 3),
+            ("05 06 00 00 00", 43, 2), ("05 00 06 FF FF FF FF 7F 00", 7, 3), ("01 80 00 00", 2, 1), ("01 80 80 80 80 80 01 00", 2, 1),
+            ("00 00", 6, 1), ("03 00", 5, 2), ("01 80", 5, 2), ("01 80 80 80 80 10 00", 7, 1), ("02" * 32, 4, 31), ("02 00" * 1023 + "00", 8, 0),
         ]:
             with self.subTest(program[:20]):
                 self.assert_refused(number, Machine, bytes.fromhex(program), place=place)
@@ -218,20 +230,37 @@ class Programs(Case):
         machine._vertices[PHASE] = 9
         self.assert_refused(keshtiwol.NOTHING_STARTS, machine.try_step, 0)
 
+    def test_words_for_futures_that_lead_nowhere(self):
+        machine = Machine(bytes.fromhex("05 00 06 00 00"))
+        machine.run(7)
+        for word in (0, 5, LARGEST):
+            machine._vertices[FUTURE] = word
+            self.assert_refused(keshtiwol.NOTHING_STARTS, machine.step, 0)
+        machine._vertices[FUTURE] = 2
+        self.assertEqual(machine.step(0), Edge(2, 4))
+
     def test_rows(self):
         machine = Machine(LISTED)
         self.assertEqual(machine.program, LISTED)
-        self.assertEqual(machine.row(0), Row(Status.RELEASED, 0, 1, 0, (0, 0, 0)))
-        self.assertEqual(machine.row(1), Row(Status.RELEASED, 8, 1, 0, (0, 0, 0)))
+        self.assertEqual(machine.row(0), Row(Status.RELEASED, 0, 1, 0, (0, 0, 0), 0))
+        self.assertEqual(machine.row(1), Row(Status.RELEASED, 8, 1, 0, (0, 0, 0), 0))
         self.assertEqual(machine.edges(), [(0, 1)])
         machine.run(4)
-        self.assertEqual(machine.row(0), Row(Status.EXECUTING, 0, 1, 3, (2, 3, 0)))
-        self.assertEqual(machine.row(3), Row(Status.NEW, 1, 2, 0, (0, 0, 0)))
+        self.assertEqual(machine.row(0), Row(Status.EXECUTING, 0, 1, 3, (2, 3, 0), 0))
+        self.assertEqual(machine.row(3), Row(Status.NEW, 1, 2, 0, (0, 0, 0), 0))
         self.assertEqual(machine.edges(), [(0, 1), (3, 2)])
         self.assertEqual((machine.made, machine.held, machine.steps), (4, 2, 4))
         for vertex in (4, -1, -2, LARGEST):
             with self.assertRaises(IndexError):
                 machine.row(vertex)
+
+    def test_rows_of_futures(self):
+        machine = Machine(bytes.fromhex("05 00 06 00 00"))
+        machine.run(7)
+        self.assertEqual(machine.row(0), Row(Status.EXECUTING, 2, 1, 1, (4, 0, 0), 2))
+        self.assertEqual(machine.row(2), Row(Status.RELEASED, 4, 1, 0, (0, 0, 0), 0))
+        self.assertEqual(machine.row(3), Row(Status.RELEASED, 1, 2, 0, (0, 0, 0), 0))
+        self.assertEqual(machine.row(4), Row(Status.NEW, 4, 1, 0, (0, 0, 0), 2))
 
     def test_a_copy_is_another_machine(self):
         machine = Machine(LISTED)
@@ -267,11 +296,11 @@ class Commands(Case):
 
     def test_commands(self):
         bare = Bare()
-        self.assertEqual(bare.row(0), Row(Status.RELEASED, 0, 0, 0, (0, 0, 0)))
+        self.assertEqual(bare.row(0), Row(Status.RELEASED, 0, 0, 0, (0, 0, 0), 0))
         self.assert_refused(keshtiwol.CALLER_NOT_EXECUTING, bare.new, 0)
         bare.start(0)
         self.assertEqual(bare.new(0, 7, LARGEST), New(1))
-        self.assertEqual(bare.row(1), Row(Status.NEW, 7, LARGEST, 0, (0, 0, 0)))
+        self.assertEqual(bare.row(1), Row(Status.NEW, 7, LARGEST, 0, (0, 0, 0), 0))
         self.assertEqual([bare.new(0), bare.new(0)], [New(2), New(3)])
         self.assert_refused(keshtiwol.VERTEX_IS_NEW, bare.start, 1)
         self.assertEqual(bare.release(0, 1), Release(1))
@@ -411,6 +440,7 @@ class Values(Case):
             Machine(bytes.fromhex("00 00"))
         self.assertEqual(str(caught.exception), "refused with 6 at byte 1: bytes come after the end")
         self.assertEqual(str(Refusal(8, 0)), "refused with 8: the program makes more than 1,024 vertices")
+        self.assertEqual(str(Refusal(43, 1)), "refused with 43 at byte 1: no such future is open")
         self.assertEqual(caught.exception.text, "bytes come after the end")
         again = pickle.loads(pickle.dumps(caught.exception))
         self.assertEqual((again.number, again.place), (6, 1))
@@ -439,7 +469,7 @@ class OneList(unittest.TestCase):
             factors = value.strip().replace("KESHTIWOL_", "").split(" * ")
             in_header[name] = math.prod(in_header[factor] if factor in in_header else int(factor) for factor in factors)
         here = [(name, value) for name, value in vars(keshtiwol).items() if name.isupper() and type(value) is int]
-        here.remove(("VERSION_MAJOR", 1))
+        here.remove(("VERSION_MAJOR", 2))
         for prefix, names in [("", Said), ("", Ending), ("VERTEX_", Status), ("DO_", Do)]:
             here += [(prefix + name, int(value)) for name, value in names.__members__.items()]
         self.assertEqual(len(here), len(in_header))
@@ -451,7 +481,7 @@ class OneList(unittest.TestCase):
         numbers = dict(re.findall(r"KESHTIWOL_(\w+) = (\d+)", section[: section.index("};")]))
         wrapper = text_of("hosts", "rust", "keshtiwol", "src", "refusal.rs")
         words = dict(re.findall(r'^\s*([A-Z][A-Z_]*) => "(.*)",$', wrapper, re.MULTILINE))
-        self.assertEqual(len(keshtiwol.TEXTS), 28)
+        self.assertEqual(len(keshtiwol.TEXTS), 29)
         self.assertEqual(words.keys(), numbers.keys())
         self.assertEqual({int(number): words[name] for name, number in numbers.items()}, keshtiwol.TEXTS)
         self.assertEqual({name: getattr(keshtiwol, name) for name in numbers}, {name: int(number) for name, number in numbers.items()})
@@ -482,7 +512,7 @@ class OneList(unittest.TestCase):
 class TheLibrary(unittest.TestCase):
     """Where the module looks for the library, and what it says where there is none to use."""
 
-    FILE = "libkeshtiwol.so.1"
+    FILE = "libkeshtiwol.so.2"
 
     def setUp(self):
         # A repository of its own, and folders for other libraries beside it.
@@ -534,7 +564,7 @@ class TheLibrary(unittest.TestCase):
         self.copy_library(self.built)
         path = os.path.join(self.other, self.FILE)
         said = self.load(KESHTIWOL_LIB=self.other)
-        self.assertTrue(said.startswith(f"ImportError: no engine of version 1; looked for {path}: "), said)
+        self.assertTrue(said.startswith(f"ImportError: no engine of version 2; looked for {path}: "), said)
         self.assertIn("No such file", said)
 
     def test_none_anywhere(self):
@@ -543,22 +573,22 @@ class TheLibrary(unittest.TestCase):
             file.write("no library" * 100)
         built = os.path.join(self.built, self.FILE)
         said = self.load(LD_LIBRARY_PATH=self.other)
-        self.assertTrue(said.startswith(f"ImportError: no engine of version 1; looked for {built}, then for {self.FILE}: "), said)
+        self.assertTrue(said.startswith(f"ImportError: no engine of version 2; looked for {built}, then for {self.FILE}: "), said)
 
     def test_another_major_version(self):
-        for number, version in [(20304, "2.3.4"), (9999, "0.99.99")]:
+        for number, version in [(30405, "3.4.5"), (10203, "1.2.3"), (9999, "0.99.99")]:
             self.compile_library(self.other, f"unsigned keshtiwol_version(void) {{ return {number}; }}")
             path = os.path.join(self.other, self.FILE)
             said = self.load(KESHTIWOL_LIB=self.other)
-            self.assertEqual(said, f"ImportError: {path} is version {version} of the engine, and this module was written for version 1")
+            self.assertEqual(said, f"ImportError: {path} is version {version} of the engine, and this module was written for version 2")
 
     def test_a_library_without_a_call(self):
         path = os.path.join(self.other, self.FILE)
-        version = "unsigned keshtiwol_version(void) { return 10000; }"
+        version = "unsigned keshtiwol_version(void) { return 20000; }"
         for code, missing in [("int other;", "keshtiwol_version"), (version, "keshtiwol_load")]:
             self.compile_library(self.other, code)
             said = self.load(KESHTIWOL_LIB=self.other)
-            self.assertTrue(said.startswith(f"ImportError: no engine of version 1; looked for {path}: "), said)
+            self.assertTrue(said.startswith(f"ImportError: no engine of version 2; looked for {path}: "), said)
             self.assertTrue(said.endswith(f"undefined symbol: {missing}"), said)
 
 

@@ -32,6 +32,8 @@ pub fn summary(program: &[u8]) -> String {
         counted(counts.asyncs, "async", "asyncs"),
         counted(counts.finishes, "finish", "finishes"),
         counted(counts.forks, "fork", "forks"),
+        counted(counts.futures, "future", "futures"),
+        counted(counts.forces, "force", "forces"),
     ];
     format!(
         "accepted: {} with {}\nneeds {}, {} and {}\n",

@@ -12,15 +12,20 @@ use crate::number;
 /// Programs up to this length are shown whole, of longer ones as many bytes.
 const SHOWN: usize = 24;
 
-/// So many open bodies are told; of more, one less and how many there are besides.
+/// So many open bodies or futures are told; of more, one less and how many there are besides.
 const TOLD: usize = 6;
 
 const BYTES_OF_A_JOB: &str = "'keshtiwol job NUMBER' tells a job's bytes.";
 
+const BYTES_OF_A_FORCE: &str = "'keshtiwol job NUMBER' tells a job's bytes; a force's are the same behind its 06.";
+
+const WHERE_FUTURES_ARE_OPEN: &str =
+    "A future is open behind its item, to the end of the body in which the item stands, and not in its own body.";
+
 pub fn explain(program: &[u8], refusal: Refusal) -> String {
     let words = format!("the program is refused with {}: {}", refusal.number, refusal::text(refusal.number));
     let shown = match refusal.number {
-        refusal::NUMBER_MALFORMED..=refusal::JOB_TOO_LARGE => marked(program, refusal.place as usize),
+        refusal::NUMBER_MALFORMED..=refusal::JOB_TOO_LARGE | refusal::NO_SUCH_FUTURE => marked(program, refusal.place as usize),
         _ => "    This is about the whole program, and not about one of its bytes.\n".to_string(),
     };
     format!("{words}\n\n{shown}\n{}", advice(program, refusal))
@@ -55,7 +60,8 @@ fn advice(program: &[u8], refusal: Refusal) -> String {
         refusal::LENGTH_OUTSIDE => format!("It has at least {} bytes.", program.len().min(PROGRAM_BYTES + 1)),
         refusal::NUMBER_MALFORMED => malformed(program, place),
         refusal::BYTE_UNKNOWN => {
-            format!("{:02X} starts no item. 00 ends a body, 01 is a job, 02 an async, 03 a finish, 04 a fork.", program[place])
+            let kinds = "01 is a job, 02 an async, 03 a finish, 04 a fork, 05 a future, 06 a force";
+            format!("{:02X} starts no item. 00 ends a body, {kinds}.", program[place])
         }
         refusal::LEVEL_TOO_DEEP => {
             "The body that starts here is inside 32 others. The main body is level 1, and 32 levels are allowed.".to_string()
@@ -63,21 +69,50 @@ fn advice(program: &[u8], refusal: Refusal) -> String {
         refusal::BYTES_RUN_OUT => run_out(program),
         refusal::BYTES_AFTER_END => format!("The program ends with byte {}, the end byte of its main body.", place - 1),
         refusal::JOB_TOO_LARGE => {
-            let (number, _) = number::at(program, place).expect("a number that does not end is refused otherwise");
-            format!("The job's number is {number}.")
+            format!("The {}'s number is {}.", of_number(program, place - 1).0, whole_number(program, place))
         }
+        refusal::NO_SUCH_FUTURE => no_such_future(program, place),
         refusal::TOO_MANY_VERTICES => {
             let counts = Counts::of(program);
             format!(
-                "It would make {}: 2, and 1 for each of {} asyncs, 2 for each of {} finishes, 3 for each of {} forks.",
+                "It would make {}: 2, and 1 for each of {} asyncs, 2 for each of {} finishes, 3 for each of {} forks, \
+                2 for each of {} futures, 1 for each of {} forces.",
                 counts.vertices(),
                 counts.asyncs,
                 counts.finishes,
-                counts.forks
+                counts.forks,
+                counts.futures,
+                counts.forces
             )
         }
         _ => "The tables that this tool lends are large enough for every program, so this is a mistake of the tool.".to_string(),
     }
+}
+
+/// What the item is that starts at a place and has a number, and how to find its bytes.
+fn of_number(program: &[u8], place: usize) -> (&'static str, &'static str) {
+    match program[place] {
+        1 => ("job", BYTES_OF_A_JOB),
+        _ => ("force", BYTES_OF_A_FORCE),
+    }
+}
+
+/// The number at a place, which ends.
+fn whole_number(program: &[u8], place: usize) -> u64 {
+    number::at(program, place).expect("a number that does not end is refused otherwise").0
+}
+
+/// About the force whose number is at a place: the futures that are open there.
+fn no_such_future(program: &[u8], place: usize) -> String {
+    let force = place - 1;
+    let mut open = Open::new();
+    for (bytes, item) in items(&program[..force]) {
+        open.pass(bytes.start, item);
+    }
+    let futures: Vec<String> =
+        open.nearest_future_first().enumerate().map(|(number, place)| format!("{number}, the future at byte {place}")).collect();
+    let there = if futures.is_empty() { "No future is open there.".to_string() } else { format!("Open there: {}.", told(futures)) };
+    format!("The force at byte {force} has the number {}. {there}\n{WHERE_FUTURES_ARE_OPEN}", whole_number(program, place))
 }
 
 /// About the number at a place: it goes on too long, or ends in 00.
@@ -96,7 +131,7 @@ fn malformed(program: &[u8], place: usize) -> String {
             hex::text(&number::bytes(number))
         ),
     };
-    format!("{reason}\n{BYTES_OF_A_JOB}")
+    format!("{reason}\n{}", of_number(program, place - 1).1)
 }
 
 /// The number that goes on, if any, the bodies that are open, and what the last end byte ends, which may have been meant for another.
@@ -110,27 +145,29 @@ fn run_out(program: &[u8]) -> String {
         }
         read = bytes.end;
     }
-    let number = match program.len() - read {
-        0 => String::new(),
-        1 => format!("The number of the job at byte {read} is missing. {BYTES_OF_A_JOB}\n"),
-        _ => format!("The number of the job at byte {read} goes on: its last byte is below 80. {BYTES_OF_A_JOB}\n"),
+    let number = if read == program.len() {
+        String::new()
+    } else {
+        let (kind, bytes) = of_number(program, read);
+        let lacks = if program.len() - read == 1 { "is missing" } else { "goes on: its last byte is below 80" };
+        format!("The number of the {kind} at byte {read} {lacks}. {bytes}\n")
     };
     let missing = match open.ends_to_come() {
         1 => "1 end byte (00) is missing.".to_string(),
         ends if ends == open.level() => format!("{ends} end bytes (00) are missing."),
         ends => format!("{ends} end bytes (00) are missing: a fork has two bodies, and each has its own."),
     };
-    format!("{number}Still open: {}.\nAt least {missing}{last_end}", told(&open))
+    let bodies = open.innermost_first().map(|body| body.to_string()).collect();
+    format!("{number}Still open: {}.\nAt least {missing}{last_end}", told(bodies))
 }
 
-/// The open bodies in words.
-fn told(open: &Open) -> String {
-    let mut bodies: Vec<String> = open.innermost_first().map(|body| body.to_string()).collect();
-    if bodies.len() > TOLD {
-        let more = bodies.split_off(TOLD - 1).len();
-        bodies.push(format!("and {more} more"));
+/// What is open, as one list.
+fn told(mut open: Vec<String>) -> String {
+    if open.len() > TOLD {
+        let more = open.split_off(TOLD - 1).len();
+        open.push(format!("and {more} more"));
     }
-    bodies.join("; ")
+    open.join("; ")
 }
 
 #[cfg(test)]
@@ -193,7 +230,7 @@ mod tests {
     #[test]
     fn each_refusal_has_its_words() {
         let pairs = [[2, 0].repeat(1023), vec![0]].concat();
-        let cases: [(&[u8], &str, &str); 9] = [
+        let cases: [(&[u8], &str, &str); 11] = [
             (&[], "refused with 1: ", "It has no bytes. The shortest program is 00, an end byte alone."),
             (&[0; 4097], "refused with 1: ", "It has at least 4097 bytes."),
             (&[1, 0x80, 0x80, 0], "refused with 2: ", "The number 80 80 00 ends in 00"),
@@ -202,7 +239,9 @@ mod tests {
             (&[3, 0], "refused with 5: ", "Still open: the program."),
             (&[1, 5, 0, 0], "refused with 6: ", "The program ends with byte 2, the end byte of its main body."),
             (&[1, 0x80, 0x80, 0x80, 0x80, 0x10, 0], "refused with 7: ", "The job's number is 4294967296."),
+            (&[6, 0x80, 0x80, 0x80, 0x80, 0x10, 0], "refused with 7: ", "The force's number is 4294967296."),
             (&pairs, "refused with 8: ", "It would make 1025: 2, and 1 for each of 1023 asyncs, 2 for each of 0 finishes"),
+            (&[6, 0, 0], "refused with 43: ", "The force at byte 0 has the number 0. No future is open there."),
         ];
         for (program, words, advice) in cases {
             let text = explained(program);
@@ -210,6 +249,28 @@ mod tests {
             let has_place = !words.contains(" 1:") && !words.contains(" 8:");
             assert_eq!(text.contains("^^"), has_place, "{text}");
             assert_eq!(text.contains("not about one of its bytes"), !has_place, "{text}");
+        }
+    }
+
+    #[test]
+    fn futures_that_are_not_open() {
+        let cases: [(&[u8], &str); 6] = [
+            (&[5, 6, 0, 0, 0], "The force at byte 1 has the number 0. No future is open there."),
+            (&[2, 5, 0, 0, 6, 0, 0], "The force at byte 4 has the number 0. No future is open there."),
+            (&[5, 0, 6, 1, 0], "The force at byte 2 has the number 1. Open there: 0, the future at byte 0."),
+            (
+                &[5, 0, 3, 5, 0, 6, 9, 0, 0],
+                "The force at byte 5 has the number 9. Open there: 0, the future at byte 3; 1, the future at byte 0.",
+            ),
+            (
+                &[5, 0, 5, 0, 5, 0, 5, 0, 5, 0, 5, 0, 5, 0, 6, 7, 0],
+                "The force at byte 14 has the number 7. Open there: 0, the future at byte 12; 1, the future at byte 10; \
+                2, the future at byte 8; 3, the future at byte 6; 4, the future at byte 4; and 2 more.",
+            ),
+            (&[6, 0xFF, 0xFF, 0xFF, 0xFF, 0x0F, 0], "The force at byte 0 has the number 4294967295. No future is open there."),
+        ];
+        for (program, words) in cases {
+            assert_eq!(advised(program), format!("{words}\n{WHERE_FUTURES_ARE_OPEN}"), "{program:?}");
         }
     }
 
@@ -243,6 +304,7 @@ mod tests {
             assert!(advice.starts_with(&format!("The number's fifth byte, {fifth:02X}, says that another follows")), "{advice}");
             assert!(advice.contains("the largest, 4294967295, is FF FF FF FF 0F."), "{advice}");
         }
+        assert!(advised(&[6, 0x80, 0x80, 0x80, 0x80, 0x80, 0]).ends_with(BYTES_OF_A_FORCE));
         // The fifth is the program's last.
         assert!(advised(&[1, 0x80, 0x80, 0x80, 0x80, 0x80]).starts_with("The number's fifth byte, 80,"));
     }
@@ -304,5 +366,9 @@ mod tests {
             assert_eq!(advised(&program), format!("The number of the job at byte 3 goes on: its last byte is below 80. {tip}\n{open}"));
         }
         assert_eq!(advised(&[2, 1, 5, 1]), format!("The number of the job at byte 3 is missing. {tip}\n{open}"));
+        let tip = BYTES_OF_A_FORCE;
+        assert_eq!(advised(&[2, 1, 5, 6]), format!("The number of the force at byte 3 is missing. {tip}\n{open}"));
+        let goes_on = "The number of the force at byte 3 goes on: its last byte is below 80.";
+        assert_eq!(advised(&[2, 1, 5, 6, 0xC8]), format!("{goes_on} {tip}\n{open}"));
     }
 }

@@ -13,16 +13,22 @@ pub enum Item {
     Async,
     Finish,
     Fork,
+    Future,
+    /// With its number: 0 for the nearest future open there.
+    Force(u32),
 }
 
 impl Item {
     pub fn at(program: &[u8], place: usize) -> Item {
+        let number = || number::at(program, place + 1).expect("the engine refuses a number without a last byte").0 as u32;
         match program[place] {
             0 => Item::End,
-            1 => Item::Job(number::at(program, place + 1).expect("the engine refuses a number without a last byte").0 as u32),
+            1 => Item::Job(number()),
             2 => Item::Async,
             3 => Item::Finish,
-            _ => Item::Fork,
+            4 => Item::Fork,
+            5 => Item::Future,
+            _ => Item::Force(number()),
         }
     }
 
@@ -33,16 +39,18 @@ impl Item {
             Item::Async => 3,
             Item::Finish => 6,
             Item::Fork => 9,
+            Item::Future => 5,
+            Item::Force(_) => 4,
         }
     }
 }
 
-/// The items and end bytes in order, each with its offsets, up to a job whose number breaks off.
+/// The items and end bytes in order, each with its offsets, up to a job or force whose number breaks off.
 pub fn items(program: &[u8]) -> impl Iterator<Item = (Range<usize>, Item)> + '_ {
     let mut start = 0;
     std::iter::from_fn(move || {
         let end = match program.get(start)? {
-            1 => start + 1 + number::at(program, start + 1)?.1,
+            1 | 6 => start + 1 + number::at(program, start + 1)?.1,
             _ => start + 1,
         };
         let item = Item::at(program, start);
@@ -57,6 +65,8 @@ pub struct Counts {
     pub asyncs: u32,
     pub finishes: u32,
     pub forks: u32,
+    pub futures: u32,
+    pub forces: u32,
 }
 
 impl Counts {
@@ -69,6 +79,8 @@ impl Counts {
                 Item::Async => counts.asyncs += 1,
                 Item::Finish => counts.finishes += 1,
                 Item::Fork => counts.forks += 1,
+                Item::Future => counts.futures += 1,
+                Item::Force(_) => counts.forces += 1,
             }
         }
         counts
@@ -77,25 +89,25 @@ impl Counts {
     // The formulas are those of include/keshtiwol.h, "How much to lend".
 
     pub fn vertices(&self) -> u32 {
-        2 + self.asyncs + 2 * self.finishes + 3 * self.forks
+        2 + self.asyncs + 2 * self.finishes + 3 * self.forks + 2 * self.futures + self.forces
     }
 
     pub fn edge_rows(&self) -> u32 {
-        1 + self.asyncs + self.finishes + 2 * self.forks
+        1 + self.asyncs + self.finishes + 2 * self.forks + self.futures + self.forces
     }
 
     pub fn steps(&self) -> u32 {
-        4 + self.jobs + 5 * self.asyncs + 10 * self.finishes + 15 * self.forks
+        4 + self.jobs + 5 * self.asyncs + 10 * self.finishes + 15 * self.forks + 9 * self.futures + 6 * self.forces
     }
 }
 
 #[cfg(test)]
 mod tests {
     use super::*;
-    use keshtiwol::{Ending, Machine, STEP_LIMIT};
+    use keshtiwol::{Ending, Machine, EDGE_WORDS, STEP_LIMIT, VERTEX_WORDS};
 
-    // A job of five bytes, whose number's bytes look like items; a fork of an async and a finish; job 3.
-    const PROGRAM: [u8; 18] = [1, 0x84, 0x83, 0x82, 0x81, 4, 4, 2, 1, 2, 0, 0, 3, 0, 0, 1, 3, 0];
+    // A job of five bytes, whose number's bytes look like items; a fork of an async and a finish; a future of job 5 and a force of it; job 3.
+    const PROGRAM: [u8; 24] = [1, 0x84, 0x83, 0x82, 0x81, 4, 4, 2, 1, 2, 0, 0, 3, 0, 0, 5, 1, 5, 0, 6, 0, 1, 3, 0];
 
     #[test]
     fn items_at_their_places() {
@@ -111,8 +123,12 @@ mod tests {
             (12..13, Item::Finish),
             (13..14, Item::End),
             (14..15, Item::End),
-            (15..17, Item::Job(3)),
-            (17..18, Item::End),
+            (15..16, Item::Future),
+            (16..18, Item::Job(5)),
+            (18..19, Item::End),
+            (19..21, Item::Force(0)),
+            (21..23, Item::Job(3)),
+            (23..24, Item::End),
         ];
         for (bytes, item) in &expected {
             assert_eq!(Item::at(program, bytes.start), *item);
@@ -122,7 +138,8 @@ mod tests {
             assert_eq!(items(&program[..end]).next(), None);
         }
         assert!(items(&program[..9]).eq(expected[..3].iter().cloned()));
-        assert_eq!(Counts::of(program), Counts { jobs: 3, asyncs: 1, finishes: 1, forks: 1 });
+        assert!(items(&program[..20]).eq(expected[..12].iter().cloned()));
+        assert_eq!(Counts::of(program), Counts { jobs: 4, asyncs: 1, finishes: 1, forks: 1, futures: 1, forces: 1 });
     }
 
     /// Every item is met by the engine where this file says that it stands, and takes as many steps.
@@ -134,8 +151,8 @@ mod tests {
         let run = machine.run(STEP_LIMIT);
         assert_eq!((run.ending, run.taken, machine.tally().made), (Ending::Done, counts.steps(), counts.vertices()));
 
-        let (mut vertices, mut edges, mut tally) = ([0; 7 * 32], [0; 2 * 32], keshtiwol::Tally::default());
-        let rows = (7 * counts.vertices() as usize, 2 * counts.edge_rows() as usize);
+        let (mut vertices, mut edges, mut tally) = ([0; VERTEX_WORDS * 32], [0; EDGE_WORDS * 32], keshtiwol::Tally::default());
+        let rows = (VERTEX_WORDS * counts.vertices() as usize, EDGE_WORDS * counts.edge_rows() as usize);
         let mut load = |v: usize, e: usize| keshtiwol::load(program, &mut vertices[..v], &mut edges[..e], &mut tally);
         assert_eq!(load(rows.0, rows.1), keshtiwol::Answer::Ready);
         assert_eq!(load(rows.0 - 1, rows.1), keshtiwol::Answer::Refused { number: 10, place: 0 });
@@ -152,6 +169,8 @@ mod tests {
             (Item::Async, Counts { asyncs: 1, ..Counts::default() }),
             (Item::Finish, Counts { finishes: 1, ..Counts::default() }),
             (Item::Fork, Counts { forks: 1, ..Counts::default() }),
+            (Item::Future, Counts { futures: 1, ..Counts::default() }),
+            (Item::Force(0), Counts { forces: 1, ..Counts::default() }),
         ];
         for (item, counts) in one {
             let (steps, vertices) = only(counts);

@@ -2,7 +2,8 @@
 //! it, and the vertices that wait for the same one stand beneath each other, to the left of it. Vertices without an edge stand below.
 //!
 //! Each vertex is hung on one of those that wait for it, in the next column. What hangs together takes rows of its own, so no two boxes
-//! meet. The edges of a loaded program are all drawn that way, and then no two arrows cross.
+//! meet. Where one vertex at the most waits for each, as in a loaded program without forces, all edges are drawn that way, and no two
+//! arrows cross.
 
 use std::collections::VecDeque;
 

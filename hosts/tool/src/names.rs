@@ -14,5 +14,7 @@ pub fn words(item: Item, names: &Names) -> String {
         Item::Async => "async".to_string(),
         Item::Finish => "finish".to_string(),
         Item::Fork => "fork".to_string(),
+        Item::Future => "future".to_string(),
+        Item::Force(number) => format!("force {number}"),
     }
 }

@@ -1,10 +1,10 @@
-//! A job's number in bytes: groups of seven bits, lowest first, the top bit set on all but the last.
+//! A job's or a force's number in bytes: groups of seven bits, lowest first, the top bit set on all but the last.
 
 /// So many bytes a number has at most.
 const LONGEST: usize = 5;
 
 /// The number that starts at a place, and how many bytes it has. None where neither the program's bytes nor five bring its last one. Five
-/// groups hold more than a job's number may.
+/// groups hold more than a number may.
 pub fn at(program: &[u8], place: usize) -> Option<(u64, usize)> {
     let mut value = 0;
     for (group, &byte) in program[place..].iter().take(LONGEST).enumerate() {

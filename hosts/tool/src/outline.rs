@@ -2,7 +2,7 @@
 
 use crate::bodies::{Body, Open};
 use crate::hex;
-use crate::items::items;
+use crate::items::{items, Item};
 use crate::names::{words, Names};
 
 pub fn outline(program: &[u8], names: &Names) -> String {
@@ -14,7 +14,7 @@ pub fn outline(program: &[u8], names: &Names) -> String {
         // An end byte stands below what it ends.
         let (level, words) = match ended {
             Some(body) => (before.saturating_sub(2), end_of(body).to_string()),
-            None => (before - 1, words(item, names)),
+            None => (before - 1, words(item, names) + &future_of(item, &open)),
         };
         lines.push((bytes.start, hex::text(&program[bytes]), level, words));
     }
@@ -31,7 +31,15 @@ fn end_of(body: Body) -> &'static str {
         Body::Finish(_) => "end of the finish",
         Body::ForkFirst(_) => "end of the fork's first body; beside it:",
         Body::ForkSecond(_) => "end of the fork",
+        Body::Future(_) => "end of the future",
     }
+}
+
+/// Behind a force: which future it is of.
+fn future_of(item: Item, open: &Open) -> String {
+    let Item::Force(number) = item else { return String::new() };
+    let future = open.nearest_future_first().nth(number as usize);
+    future.map_or(String::new(), |place| format!(", the future at byte {place}"))
 }
 
 #[cfg(test)]
@@ -56,5 +64,25 @@ mod tests {
         ];
         assert_eq!(outline(&[4, 2, 1, 2, 0, 0, 3, 0, 0, 1, 0x80, 1, 0], &names), lines.join("\n"));
         assert_eq!(outline(&[0], &names), "0  00  end of the program\n");
+    }
+
+    #[test]
+    fn forces_and_their_futures() {
+        // future { job 1 } future { force 0 job 2 } async { force 1 } force 0
+        let lines = [
+            " 0  05     future",
+            " 1  01 01    job 1",
+            " 3  00     end of the future",
+            " 4  05     future",
+            " 5  06 00    force 0, the future at byte 0",
+            " 7  01 02    job 2",
+            " 9  00     end of the future",
+            "10  02     async",
+            "11  06 01    force 1, the future at byte 0",
+            "13  00     end of the async",
+            "14  06 00  force 0, the future at byte 4",
+            "16  00     end of the program\n",
+        ];
+        assert_eq!(outline(&[5, 1, 1, 0, 5, 6, 0, 1, 2, 0, 2, 6, 1, 0, 6, 0, 0], &Names::new()), lines.join("\n"));
     }
 }

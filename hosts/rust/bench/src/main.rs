@@ -165,6 +165,8 @@ fn main() {
     }
     // Jobs whose numbers have five bytes.
     programs.push(("682 retunes".into(), repeated(&[1, 0xA0, 0xD1, 0xA5, 0xD5, 0x0C], 682)));
+    // In turn a future with a job in its body, its force, and a job behind that.
+    programs.push(("200 futures".into(), repeated(&[5, 1, 5, 0, 6, 0, 1, 5], 200)));
     programs.push(("nesting 31 deep".into(), [[2].repeat(31), [0].repeat(32)].concat()));
     programs.push(("mixed".into(), compare::programs::mixed()));
 

@@ -13,7 +13,7 @@ pub const WORDS: [&str; 15] =
     ["refused", "ready", "start", "new", "edge", "release", "transfer", "job", "stop", "none", "vertex", "done", "stuck", "spent", "chain"];
 
 /// The numbers that a refusal can have through the safe functions.
-pub const REFUSALS: [u32; 27] = [1, 2, 3, 4, 5, 6, 7, 8, 10, 11, 12, 13, 20, 21, 22, 23, 30, 31, 32, 33, 35, 36, 37, 38, 39, 41, 42];
+pub const REFUSALS: [u32; 28] = [1, 2, 3, 4, 5, 6, 7, 8, 10, 11, 12, 13, 20, 21, 22, 23, 30, 31, 32, 33, 35, 36, 37, 38, 39, 41, 42, 43];
 
 #[derive(Clone, Default)]
 pub struct Counts {
@@ -37,6 +37,8 @@ pub struct Counts {
     repeats: [Repeats; 2],
     /// What stops dropped.
     gaps: Gaps,
+    /// What the words led to that forces followed.
+    forces: Forces,
 }
 
 /// How often an edge that was held already was taken.
@@ -83,6 +85,37 @@ impl Gaps {
         self.last += more.last;
         self.between += more.between;
         self.most = more.most.max(self.most);
+    }
+}
+
+/// How often a step was a force's newEdge, and what the words led to that it followed.
+#[derive(Clone, Copy, Debug, Default)]
+pub struct Forces {
+    /// The edge was said.
+    pub taken: u64,
+    /// Of these, from a finished future, so that none is held.
+    pub finished: u64,
+    /// The most words that one followed where its edge was said.
+    pub farthest: usize,
+    /// The words led to a future, and the command's own refusal was given.
+    pub refused: u64,
+    /// A word was 0.
+    pub none: u64,
+    /// A word named no vertex made.
+    pub not_made: u64,
+    /// Of these two, a word behind the first.
+    pub later: u64,
+}
+
+impl Forces {
+    fn add(&mut self, more: Forces) {
+        self.taken += more.taken;
+        self.finished += more.finished;
+        self.farthest = more.farthest.max(self.farthest);
+        self.refused += more.refused;
+        self.none += more.none;
+        self.not_made += more.not_made;
+        self.later += more.later;
     }
 }
 
@@ -177,6 +210,11 @@ impl Counts {
         } += 1;
     }
 
+    /// Notes a step that was a force's newEdge.
+    pub fn forced(&mut self, forces: Forces) {
+        self.forces.add(forces);
+    }
+
     fn enlarge(&mut self, by: [usize; 3]) {
         for (largest, number) in self.largest.iter_mut().zip(by) {
             *largest = number.max(*largest);
@@ -202,6 +240,7 @@ impl Counts {
             repeats.add(more);
         }
         self.gaps.add(other.gaps);
+        self.forces.add(other.forces);
     }
 
     pub fn calls(&self) -> u64 {
@@ -247,6 +286,11 @@ impl Counts {
     pub fn gaps(&self) -> Gaps {
         self.gaps
     }
+
+    /// What the words led to that forces followed.
+    pub fn forces(&self) -> Forces {
+        self.forces
+    }
 }
 
 impl fmt::Display for Counts {
@@ -279,6 +323,10 @@ impl fmt::Display for Counts {
         let Gaps { none, all, first, last, between, most } = self.gaps;
         write!(f, "stops dropped no row {none} times, all {all} times, only the last {last} times, the first and others {first} times, ")?;
         writeln!(f, "rows between others {between} times; {most} rows at most")?;
+        let Forces { taken, finished, farthest, refused, none, not_made, later } = self.forces;
+        write!(f, "forces said their edge {taken} times, {finished} of these from a finished future, over {farthest} words at most; ")?;
+        write!(f, "their newEdge was refused {refused} times, their words led to 0 {none} times, to no vertex made {not_made} times, ")?;
+        writeln!(f, "{later} of these behind the first word")?;
         write!(f, "refusals")?;
         for number in REFUSALS {
             write!(f, " {number}: {}", self.refusals(number))?;

@@ -64,7 +64,7 @@ impl Draw {
     /// A word from where things go wrong: the limits, and numbers whose multiples by a row's words leave 32 bits.
     pub fn wild(&mut self) -> u32 {
         const LIMITS: [u32; 20] =
-            [0, 1, 2, 3, 4, 5, 9, 10, 1022, 1023, 1024, 1025, 4095, 4096, 8191, 8192, 0x2492_4925, 0x8000_0000, u32::MAX - 1, u32::MAX];
+            [0, 1, 2, 3, 4, 5, 9, 10, 1022, 1023, 1024, 1025, 4095, 4096, 8191, 8192, 0x2000_0000, 0x8000_0000, u32::MAX - 1, u32::MAX];
         match self.below(4) {
             0 => self.bits() as u32,
             1 => self.below(2048),

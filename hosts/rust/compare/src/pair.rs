@@ -4,10 +4,10 @@ use std::fmt::Write;
 use std::ops::Range;
 
 use keshtiwol::{
-    refusal, Answer, Chain, Command, Ending, Lowest, Run, Tally, EDGE_WORDS, ROWS, SOURCE, STATUS, VERTEX_FINISHED, VERTEX_WORDS,
+    refusal, Answer, Chain, Command, Ending, Lowest, Run, Tally, EDGE_WORDS, FUTURE, ROWS, SOURCE, STATUS, VERTEX_FINISHED, VERTEX_WORDS,
 };
 
-use crate::counts::{Counts, Repeats};
+use crate::counts::{Counts, Forces, Repeats};
 
 #[derive(Clone, Copy, Debug, PartialEq)]
 pub enum Call {
@@ -200,6 +200,45 @@ impl Pair {
             self.counts.stopped(&own);
         }
         Ok(said)
+    }
+
+    /// A step on both sides of a vertex that stands at the newEdge of a force with this number, on sound tables and a program that loads.
+    /// Where a word that the force follows names no vertex made, or is 0, it is refused with 13; where none does, it says its edge or is
+    /// refused as a newEdge is.
+    pub fn force(&mut self, vertex: u32, number: u32) -> Result<Said, Difference> {
+        let followed = self.follow(vertex, number);
+        let said = self.step(vertex)?;
+        let mut forces = Forces::default();
+        match (followed, said) {
+            (Ok((future, words)), Said::Answer(Answer::Edge(source, _))) if source == future => {
+                let finished = self.state.vertices[VERTEX_WORDS * future as usize + STATUS] == VERTEX_FINISHED;
+                (forces.taken, forces.finished, forces.farthest) = (1, finished.into(), words);
+            }
+            (Ok(_), Said::Answer(Answer::Refused { number, .. })) if number != refusal::NOTHING_STARTS => forces.refused = 1,
+            (Err((word, words)), Said::Answer(Answer::Refused { number: refusal::NOTHING_STARTS, .. })) => {
+                *(if word == 0 { &mut forces.none } else { &mut forces.not_made }) = 1;
+                forces.later = u64::from(words > 1);
+            }
+            _ => return Err(self.disagreement("a force does not say what the words that it follows lead to")),
+        }
+        self.counts.forced(forces);
+        Ok(said)
+    }
+
+    /// The future that a force of a vertex made leads to, or the word that leads to none, and how many words were followed.
+    fn follow(&self, vertex: u32, number: u32) -> Result<(u32, usize), (u32, usize)> {
+        let mut at = vertex;
+        for words in 1.. {
+            let word = self.state.vertices[VERTEX_WORDS * at as usize + FUTURE];
+            if word == 0 || word >= self.state.tally.made {
+                return Err((word, words));
+            }
+            if words > number as usize {
+                return Ok((word, words));
+            }
+            at = word;
+        }
+        unreachable!("a number is below the futures of a program")
     }
 
     /// Whether an edge that was taken where so many were held is one of these. It is appended exactly where it is not, except from a

@@ -6,9 +6,14 @@ const JOB: u8 = 1;
 pub const ASYNC: u8 = 2;
 pub const FINISH: u8 = 3;
 pub const FORK: u8 = 4;
+pub const FUTURE: u8 = 5;
+pub const FORCE: u8 = 6;
 
 /// The least and the greatest number of one to five bytes.
 const NUMBERS: [(u32, u32); 5] = [(0, 127), (128, 16_383), (16_384, 2_097_151), (2_097_152, 268_435_455), (268_435_456, 4_294_967_295)];
+
+/// How often the six kinds of items come, in the order of their bytes.
+type Weights = [u32; 6];
 
 /// What a program may grow to.
 #[derive(Clone, Copy, Debug)]
@@ -16,8 +21,8 @@ pub struct Shape {
     pub bytes: usize,
     pub vertices: u32,
     pub levels: u32,
-    /// How often jobs, asyncs, finishes and forks come.
-    pub weights: [u32; 4],
+    /// How often jobs, asyncs, finishes, forks, futures and forces come.
+    pub weights: Weights,
     /// How often job numbers have one to five bytes.
     pub numbers: [u32; 5],
     /// An inner body ends after an item once in so many times.
@@ -29,7 +34,7 @@ pub struct Shape {
 /// A program within a shape. Within 4,096 bytes, 1,024 vertices and 32 levels it is valid.
 pub fn grow(draw: &mut Draw, shape: &Shape) -> Vec<u8> {
     let mut growth = Growth { shape, bytes: Vec::new(), owed: 1, vertices: 2 };
-    growth.body(draw, 1);
+    growth.body(draw, 1, 0);
     growth.bytes
 }
 
@@ -42,33 +47,43 @@ struct Growth<'a> {
 }
 
 impl Growth<'_> {
-    fn body(&mut self, draw: &mut Draw, level: u32) {
+    /// Adds a body where so many futures are open.
+    fn body(&mut self, draw: &mut Draw, level: u32, mut open: u32) {
         let goes_on = level == 1 && self.shape.full;
         while goes_on || !draw.one_in(self.shape.ends) {
-            if !self.item(draw, level) {
-                break;
+            match self.item(draw, level, open) {
+                None => break,
+                Some(FUTURE) => open += 1,
+                Some(_) => {}
             }
         }
         self.bytes.push(0);
         self.owed -= 1;
     }
 
-    /// Adds an item that fits, if there is one.
-    fn item(&mut self, draw: &mut Draw, level: u32) -> bool {
+    /// Adds an item that fits, if there is one, and answers its first byte.
+    fn item(&mut self, draw: &mut Draw, level: u32, open: u32) -> Option<u8> {
         let room = self.shape.bytes.saturating_sub(self.bytes.len() + self.owed);
         let vertices = self.shape.vertices.saturating_sub(self.vertices);
         let inner = level < self.shape.levels;
-        let fits =
-            [room >= 2, inner && room >= 2 && vertices >= 1, inner && room >= 2 && vertices >= 2, inner && room >= 3 && vertices >= 3];
+        let fits = [
+            room >= 2,
+            inner && room >= 2 && vertices >= 1,
+            inner && room >= 2 && vertices >= 2,
+            inner && room >= 3 && vertices >= 3,
+            inner && room >= 2 && vertices >= 2,
+            open > 0 && room >= 2 && vertices >= 1,
+        ];
         let mut weights = self.shape.weights;
         for (weight, fits) in weights.iter_mut().zip(fits) {
             *weight *= u32::from(fits);
         }
-        if weights == [0; 4] {
-            return false;
+        if weights == [0; 6] {
+            return None;
         }
-        match draw.weighted(&weights) {
-            0 => {
+        let first = 1 + draw.weighted(&weights) as u8;
+        match first {
+            JOB => {
                 let longest = (room - 1).min(NUMBERS.len());
                 let mut lengths = self.shape.numbers;
                 lengths[longest..].fill(0);
@@ -77,19 +92,27 @@ impl Growth<'_> {
                 self.bytes.push(JOB);
                 self.bytes.extend(number_bytes(draw.to_the_edges(least, greatest)));
             }
-            1 => self.open(draw, level, ASYNC, 1, 1),
-            2 => self.open(draw, level, FINISH, 1, 2),
-            _ => self.open(draw, level, FORK, 2, 3),
+            ASYNC => self.bodies(draw, level, open, first, 1, 1),
+            FINISH | FUTURE => self.bodies(draw, level, open, first, 1, 2),
+            FORK => self.bodies(draw, level, open, first, 2, 3),
+            _ => {
+                // The nearest future, the farthest, or any; where there is room for one byte, one that this can name.
+                let farthest = if room == 2 { (open - 1).min(127) } else { open - 1 };
+                self.bytes.push(FORCE);
+                self.bytes.extend(number_bytes(draw.to_the_edges(0, farthest)));
+                self.vertices += 1;
+            }
         }
-        true
+        Some(first)
     }
 
-    fn open(&mut self, draw: &mut Draw, level: u32, opener: u8, bodies: usize, vertices: u32) {
+    /// Adds an item with bodies, in which as many futures are open as at its place.
+    fn bodies(&mut self, draw: &mut Draw, level: u32, open: u32, opener: u8, bodies: usize, vertices: u32) {
         self.bytes.push(opener);
         self.owed += bodies;
         self.vertices += vertices;
         for _ in 0..bodies {
-            self.body(draw, level + 1);
+            self.body(draw, level + 1, open);
         }
     }
 }
@@ -105,6 +128,18 @@ pub fn number_bytes(mut number: u32) -> Vec<u8> {
     bytes
 }
 
+/// The number that stands at a place of a valid program.
+pub fn number_at(program: &[u8], at: usize) -> u32 {
+    let mut number = 0;
+    for (group, byte) in program[at..].iter().enumerate() {
+        number |= u32::from(byte & 0x7F) << (7 * group);
+        if *byte < 128 {
+            break;
+        }
+    }
+    number
+}
+
 /// How large programs are drawn. Large ones cost a thousand times a small one's time.
 #[derive(Clone, Copy, Debug, PartialEq)]
 pub enum Size {
@@ -115,21 +150,52 @@ pub enum Size {
 
 /// A valid program.
 pub fn valid(draw: &mut Draw, size: Size) -> Vec<u8> {
-    let shape = match size {
-        Size::Small => shape(draw, 3, 48, 16),
-        Size::Middle => shape(draw, 30, 500, 120),
-        Size::Large => large(draw),
-    };
+    let shape = shape_of(draw, size);
     grow(draw, &shape)
 }
 
+/// A valid program that mostly has futures and forces.
+pub fn with_futures(draw: &mut Draw, size: Size) -> Vec<u8> {
+    let shape = shape_of(draw, size);
+    let weights = draw.pick(&WITH_FUTURES);
+    grow(draw, &Shape { weights, vertices: shape.vertices.max(5), full: true, ..shape })
+}
+
+fn shape_of(draw: &mut Draw, size: Size) -> Shape {
+    match size {
+        Size::Small => shape(draw, 3, 48, 16),
+        Size::Middle => shape(draw, 30, 500, 120),
+        Size::Large => large(draw),
+    }
+}
+
+const WITHOUT_FUTURES: [Weights; 7] = [
+    [3, 2, 2, 2, 0, 0],
+    [1, 1, 1, 1, 0, 0],
+    [4, 1, 0, 0, 0, 0],
+    [1, 0, 4, 0, 0, 0],
+    [1, 0, 0, 4, 0, 0],
+    [0, 2, 3, 0, 0, 0],
+    [0, 1, 1, 2, 0, 0],
+];
+const WITH_FUTURES: [Weights; 9] = [
+    [3, 2, 2, 2, 3, 5],
+    [1, 1, 1, 1, 1, 1],
+    [2, 0, 0, 0, 2, 3],
+    [0, 0, 0, 0, 1, 2],
+    [1, 0, 0, 0, 6, 2],
+    [1, 2, 0, 0, 2, 4],
+    [1, 0, 2, 0, 2, 4],
+    [1, 0, 0, 2, 2, 4],
+    [0, 0, 0, 3, 3, 1],
+];
+
 fn shape(draw: &mut Draw, least_bytes: u32, most_bytes: u32, most_vertices: u32) -> Shape {
-    const WEIGHTS: [[u32; 4]; 7] = [[3, 2, 2, 2], [1, 1, 1, 1], [4, 1, 0, 0], [1, 0, 4, 0], [1, 0, 0, 4], [0, 2, 3, 0], [0, 1, 1, 2]];
     Shape {
         bytes: draw.between(least_bytes, most_bytes) as usize,
         vertices: draw.between(2, most_vertices),
         levels: draw.pick(&[2, 3, 5, 32, 32]),
-        weights: draw.pick(&WEIGHTS),
+        weights: if draw.one_in(2) { draw.pick(&WITH_FUTURES) } else { draw.pick(&WITHOUT_FUTURES) },
         numbers: draw.pick(&[[1, 0, 0, 0, 0], [3, 1, 1, 1, 1], [1, 1, 1, 1, 1], [0, 0, 0, 1, 2]]),
         ends: draw.pick(&[2, 3, 5]),
         full: !draw.one_in(4),
@@ -138,12 +204,14 @@ fn shape(draw: &mut Draw, least_bytes: u32, most_bytes: u32, most_vertices: u32)
 
 /// At one limit or more.
 fn large(draw: &mut Draw) -> Shape {
+    const DEEP: [Weights; 6] =
+        [[1, 1, 1, 1, 1, 1], [0, 1, 0, 0, 0, 0], [1, 0, 5, 0, 0, 0], [1, 0, 0, 5, 0, 0], [1, 0, 0, 0, 5, 0], [0, 0, 0, 0, 3, 1]];
     let mut shape = Shape { full: true, ..shape(draw, 1000, 4096, 1024) };
     match draw.below(4) {
         0 => shape.vertices = 1024,
         1 => shape.bytes = 4096,
         2 => (shape.vertices, shape.bytes) = (1024, 4096),
-        _ => (shape.levels, shape.ends, shape.weights) = (32, 40, draw.pick(&[[1, 1, 1, 1], [0, 1, 0, 0], [1, 0, 5, 0], [1, 0, 0, 5]])),
+        _ => (shape.levels, shape.ends, shape.weights) = (32, 40, draw.pick(&DEEP)),
     }
     shape
 }
@@ -166,9 +234,13 @@ pub fn needs(program: &[u8]) -> (u32, u32, usize) {
                 (vertices, edges) = (vertices + 1, edges + 1);
                 open.push(0);
             }
-            FINISH => {
+            FINISH | FUTURE => {
                 (vertices, edges) = (vertices + 2, edges + 1);
                 open.push(0);
+            }
+            FORCE => {
+                (vertices, edges) = (vertices + 1, edges + 1);
+                while bytes.next().is_some_and(|byte| *byte > 127) {}
             }
             _ => {
                 (vertices, edges) = (vertices + 3, edges + 2);
@@ -179,18 +251,21 @@ pub fn needs(program: &[u8]) -> (u32, u32, usize) {
     (vertices, edges, levels)
 }
 
-/// The mixed program of the benchmark, the same each time: 4,000 bytes, 1,000 vertices, 32 levels.
+/// The mixed program of the benchmark, the same each time: 4,000 bytes, 1,000 vertices, 32 levels, without futures.
 pub fn mixed() -> Vec<u8> {
-    let shape = Shape { bytes: 4000, vertices: 1000, levels: 32, weights: [8, 2, 1, 2], numbers: [1, 1, 1, 0, 0], ends: 3, full: true };
+    let shape =
+        Shape { bytes: 4000, vertices: 1000, levels: 32, weights: [8, 2, 1, 2, 0, 0], numbers: [1, 1, 1, 0, 0], ends: 3, full: true };
     grow(&mut Draw::new(8), &shape)
 }
 
-/// A program that loading refuses, mostly: just over a limit, with a number at the edge, changed here and there, or anything.
+/// A program that loading refuses, mostly: just over a limit, with a number at the edge, with a force of no such future, changed here and
+/// there, or anything.
 pub fn damaged(draw: &mut Draw, size: Size) -> Vec<u8> {
-    let mut program = match draw.below(10) {
+    let mut program = match draw.below(12) {
         0 => return just_over(draw),
         1 => return scribble(draw),
         2 | 3 => return misnumbered(draw, size),
+        4 | 5 => return misforced(draw, size),
         _ => valid(draw, size),
     };
     for _ in 0..draw.pick(&[1, 1, 1, 2, 3, 8]) {
@@ -200,17 +275,16 @@ pub fn damaged(draw: &mut Draw, size: Size) -> Vec<u8> {
 }
 
 fn just_over(draw: &mut Draw) -> Vec<u8> {
+    const MANY_VERTICES: [Weights; 5] =
+        [[0, 1, 0, 0, 0, 0], [0, 0, 1, 0, 0, 0], [0, 1, 1, 2, 0, 0], [0, 0, 0, 0, 1, 0], [0, 0, 0, 0, 1, 2]];
     let mut shape = large(draw);
     match draw.below(3) {
         0 => {
             (shape.bytes, shape.numbers) = (4097 + draw.index(5), [1, 0, 0, 0, 0]);
             shape.weights[0] += 1;
         }
-        1 => {
-            (shape.vertices, shape.bytes, shape.weights) =
-                (draw.between(1025, 1030), 4096, draw.pick(&[[0, 1, 0, 0], [0, 0, 1, 0], [0, 1, 1, 2]]))
-        }
-        _ => (shape.levels, shape.ends, shape.weights) = (draw.between(33, 40), 40, [1, 2, 2, 2]),
+        1 => (shape.vertices, shape.bytes, shape.weights) = (draw.between(1025, 1030), 4096, draw.pick(&MANY_VERTICES)),
+        _ => (shape.levels, shape.ends, shape.weights) = (draw.between(33, 40), 40, [1, 2, 2, 2, 2, 1]),
     }
     grow(draw, &shape)
 }
@@ -223,35 +297,73 @@ fn scribble(draw: &mut Draw) -> Vec<u8> {
 
 fn odd_byte(draw: &mut Draw) -> u8 {
     match draw.below(3) {
-        0 => draw.pick(&[5, 6, 0x7F, 0x80, 0x81, 0x83, 0x84, 0xFE, 0xFF]),
+        0 => draw.pick(&[7, 8, 0x7F, 0x80, 0x81, 0x83, 0x84, 0xFE, 0xFF]),
         1 => draw.bits() as u8,
-        _ => draw.below(5) as u8,
+        _ => draw.below(7) as u8,
     }
 }
 
-/// A valid program with one job more, whose number is at the edge of what numbers are, or past it. Once in four times the program ends inside that number.
+/// A valid program with one job or force more, whose number is at the edge of what numbers are, or past it. Once in four times the program
+/// ends inside that number.
 fn misnumbered(draw: &mut Draw, size: Size) -> Vec<u8> {
     let mut program = valid(draw, size);
-    let at = draw.pick(&starts(&program));
-    let mut job = vec![JOB];
-    job.extend(edge_number(draw));
+    let (at, _) = draw.pick(&starts(&program));
+    let mut item = vec![numbered(draw)];
+    item.extend(edge_number(draw));
     if draw.one_in(4) {
         program.truncate(at);
-        job.pop();
+        item.pop();
     }
-    program.splice(at..at, job);
+    program.splice(at..at, item);
     program
 }
 
-/// Where items and end bytes start in a valid program.
-fn starts(program: &[u8]) -> Vec<usize> {
+/// The first byte of an item with a number.
+fn numbered(draw: &mut Draw) -> u8 {
+    draw.pick(&[JOB, FORCE])
+}
+
+/// A valid program with one force more, mostly of no such future: the number is just past the futures open there, the last of them, or any.
+/// The forces behind it may then be meant for a future that is not open there.
+fn misforced(draw: &mut Draw, size: Size) -> Vec<u8> {
+    let mut program = with_futures(draw, size);
+    let (at, open) = draw.pick(&starts(&program));
+    let number = match draw.below(6) {
+        0 => open.saturating_sub(1),
+        1 => open + draw.below(130),
+        2 => draw.wild(),
+        _ => open,
+    };
+    let force = [vec![FORCE], number_bytes(number)].concat();
+    program.splice(at..at, force);
+    program
+}
+
+/// Where items and end bytes start in a valid program, and how many futures are open there.
+pub fn starts(program: &[u8]) -> Vec<(usize, u32)> {
     let mut starts = Vec::new();
-    let mut in_number = false;
+    // For each open body the item that it is in, how many of that item's bodies come after it, and the futures open at the item.
+    let mut bodies = Vec::new();
+    let (mut in_number, mut open) = (false, 0);
     for (at, &byte) in program.iter().enumerate() {
-        if !in_number {
-            starts.push(at);
+        if in_number {
+            in_number = byte > 127;
+            continue;
         }
-        in_number = if in_number { byte > 127 } else { byte == JOB };
+        starts.push((at, open));
+        match byte {
+            JOB | FORCE => in_number = true,
+            ASYNC | FINISH | FUTURE => bodies.push((byte, 0, open)),
+            FORK => bodies.push((byte, 1, open)),
+            _ => match bodies.pop() {
+                Some((FORK, 1, before)) => {
+                    open = before;
+                    bodies.push((FORK, 0, open));
+                }
+                Some((item, _, before)) => open = before + u32::from(item == FUTURE),
+                None => {}
+            },
+        }
     }
     starts
 }
@@ -267,7 +379,7 @@ fn edge_number(draw: &mut Draw) -> Vec<u8> {
     bytes
 }
 
-/// Flips, sets, puts in, takes out, cuts or appends bytes, or puts in a job with a number at the edge.
+/// Flips, sets, puts in, takes out, cuts or appends bytes, or puts in a job or a force with a number at the edge.
 fn damage(draw: &mut Draw, program: &mut Vec<u8>) {
     if program.is_empty() {
         program.push(odd_byte(draw));
@@ -289,12 +401,12 @@ fn damage(draw: &mut Draw, program: &mut Vec<u8>) {
         }
         6 => {
             program.splice(at..at, edge_number(draw));
-            program.insert(at, JOB);
+            program.insert(at, numbered(draw));
         }
         _ => {
             // Cut inside a number.
             program.truncate(at);
-            program.push(JOB);
+            program.push(numbered(draw));
             program.extend(edge_number(draw));
             program.pop();
         }

@@ -1,8 +1,8 @@
 //! The scenarios. All that one does follows from its seed.
 
 use keshtiwol::{
-    Answer, Chain, Command, Ending, Tally, EDGE_TABLE, EDGE_WORDS, MADE, PHASE, PLACE, ROWS, SCOPE, SOURCE, STATUS, TARGET,
-    VERTEX_EXECUTING, VERTEX_NEW, VERTEX_RELEASED, VERTEX_TABLE, VERTEX_WORDS,
+    Answer, Chain, Command, Ending, Tally, EDGE_TABLE, EDGE_WORDS, FUTURE, MADE, PHASE, PLACE, ROWS, SCOPE, SOURCE, STATUS, STEP_LIMIT,
+    TARGET, VERTEX_EXECUTING, VERTEX_NEW, VERTEX_RELEASED, VERTEX_TABLE, VERTEX_WORDS,
 };
 
 use crate::counts::Counts;
@@ -16,7 +16,7 @@ type Kind = fn(&mut Scene) -> Outcome;
 /// Plays the scenario of a seed: what was called and said, or the first difference.
 pub fn play(seed: u64) -> Result<Counts, Difference> {
     let mut draw = Draw::new(seed);
-    let kinds: [(&str, u32, Kind); 9] = [
+    let kinds: [(&str, u32, Kind); 10] = [
         ("a bare machine", 3, Scene::bare),
         ("random tables", 3, Scene::random_tables),
         ("a schedule", 4, Scene::schedule),
@@ -26,6 +26,7 @@ pub fn play(seed: u64) -> Result<Counts, Difference> {
         ("chains", 4, Scene::chains),
         ("the same edge twice", 4, Scene::repeats),
         ("gaps in the edge table", 3, Scene::gaps),
+        ("futures", 4, Scene::futures),
     ];
     let (name, _, kind) = kinds[draw.weighted(&kinds.map(|kind| kind.1))];
     let size = [Size::Small, Size::Middle, Size::Large][draw.weighted(&[80, 14, 6])];
@@ -286,7 +287,7 @@ impl Scene {
         for _ in 0..self.draw.between(2, 12) {
             let Some((vertex, ends)) = self.step_to_an_edge()? else { break };
             let sound = self.pair.state().clone();
-            self.hold_next_edge(vertex, ends);
+            self.hold_next_edge(ends);
             let call = if self.draw.one_in(6) { Call::Run(self.draw.between(1, 4)) } else { Call::Step(vertex) };
             self.call(call)?;
             for _ in 0..self.draw.below(4) {
@@ -300,7 +301,7 @@ impl Scene {
         Ok(())
     }
 
-    /// Steps vertices in any order until the next command of one is a newEdge, if that comes soon: the vertex, and where in its row the
+    /// Steps vertices in any order until the next command of one is a newEdge, if that comes soon: the vertex, and where in the table the
     /// edge's ends stand.
     fn step_to_an_edge(&mut self) -> Result<Option<(u32, [usize; 2])>, Difference> {
         for _ in 0..self.draw.between(1, 60) {
@@ -317,27 +318,37 @@ impl Scene {
         Ok(None)
     }
 
-    /// Where in a vertex's row the source and the target stand that its next step's newEdge names, if it is one.
+    /// Where in the vertex table the source and the target stand that a vertex's next step's newEdge names, if it is one.
     fn next_edge(&self, vertex: u32) -> Option<[usize; 2]> {
-        let row = &self.pair.state().vertices[VERTEX_WORDS * vertex as usize..][..VERTEX_WORDS];
-        match (*self.pair.program.get(row[PLACE] as usize)?, row[PHASE]) {
-            (programs::ASYNC, 1) => Some([MADE, SCOPE]),
-            (programs::FINISH, 2) => Some([MADE + 1, MADE]),
-            (programs::FORK, 3) => Some([MADE, MADE + 2]),
-            (programs::FORK, 4) => Some([MADE + 1, MADE + 2]),
+        let vertices = &self.pair.state().vertices;
+        let row = VERTEX_WORDS * vertex as usize;
+        let place = vertices[row + PLACE] as usize;
+        match (*self.pair.program.get(place)?, vertices[row + PHASE]) {
+            (programs::ASYNC, 1) => Some([row + MADE, row + SCOPE]),
+            (programs::FINISH | programs::FUTURE, 2) => Some([row + MADE + 1, row + MADE]),
+            (programs::FORK, 3) => Some([row + MADE, row + MADE + 2]),
+            (programs::FORK, 4) => Some([row + MADE + 1, row + MADE + 2]),
+            (programs::FORCE, 1) => {
+                let mut source = row + FUTURE;
+                for _ in 0..programs::number_at(&self.pair.program, place + 1) {
+                    source = VERTEX_WORDS * *vertices.get(source)? as usize + FUTURE;
+                }
+                // Words that an altered row leads to may lead nowhere.
+                (source < vertices.len()).then_some([source, row + MADE])
+            }
             _ => None,
         }
     }
 
     /// Puts that edge into the table, often so that no row is left or a way leads back. Now and then it is made one from a vertex to
     /// itself.
-    fn hold_next_edge(&mut self, vertex: u32, [source, target]: [usize; 2]) {
+    fn hold_next_edge(&mut self, [source, target]: [usize; 2]) {
         let mut state = self.pair.state().clone();
-        let row = &mut state.vertices[VERTEX_WORDS * vertex as usize..][..VERTEX_WORDS];
+        let words = &mut state.vertices;
         if self.draw.one_in(8) {
-            row[source] = row[target];
+            words[source] = words[target];
         }
-        let (source, target) = (row[source], row[target]);
+        let (source, target) = (words[source], words[target]);
         if self.draw.one_in(3) {
             self.hold_way_back(&mut state, source, target);
         }
@@ -357,6 +368,131 @@ impl Scene {
         } else {
             self.hold(state, target, source);
         }
+    }
+
+    /// Programs with futures and forces: on the way to the newEdge of a force, or on tables that no calls led to, the words that it
+    /// follows are altered.
+    fn futures(&mut self) -> Outcome {
+        self.pair.program = programs::with_futures(&mut self.draw, self.size);
+        if self.draw.one_in(4) {
+            self.forces_on_random_tables()
+        } else {
+            self.forces_of_a_schedule()
+        }
+    }
+
+    fn forces_of_a_schedule(&mut self) -> Outcome {
+        self.load()?;
+        for _ in 0..self.draw.between(4, 20) {
+            let Some((vertex, number)) = self.step_to_a_force()? else {
+                self.call(Call::Load)?;
+                continue;
+            };
+            let sound = self.pair.state().clone();
+            for _ in 0..self.draw.pick(&[0, 1, 1, 2, 4]) {
+                self.alter_future(vertex, number);
+            }
+            if self.draw.one_in(8) {
+                let target = self.name();
+                self.pair.set_vertex_word(VERTEX_WORDS * vertex as usize + MADE, target);
+            }
+            self.pair.force(vertex, number)?;
+            for _ in 0..self.draw.below(4) {
+                let call = if self.draw.one_in(2) { Call::Step(vertex) } else { self.any_call() };
+                self.call(call)?;
+            }
+            if !self.draw.one_in(3) {
+                self.pair.set(sound);
+                self.call(Call::Step(vertex))?;
+            }
+        }
+        Ok(())
+    }
+
+    fn forces_on_random_tables(&mut self) -> Outcome {
+        let starts = programs::starts(&self.pair.program);
+        let is_force = |&(at, _): &(usize, u32)| self.pair.program[at] == programs::FORCE;
+        let forces: Vec<u32> = starts.into_iter().filter(is_force).map(|(at, _)| at as u32).collect();
+        if forces.is_empty() {
+            return Ok(());
+        }
+        for _ in 0..self.draw.between(2, 10) {
+            let mut state = self.random_state();
+            let made = state.tally.made;
+            if made == 0 {
+                continue;
+            }
+            let vertex = self.draw.below(made);
+            let row = &mut state.vertices[VERTEX_WORDS * vertex as usize..][..VERTEX_WORDS];
+            (row[STATUS], row[PLACE], row[PHASE]) = (VERTEX_EXECUTING, self.draw.pick(&forces), self.draw.pick(&[0, 1, 1, 1, 1, 2, 3, 4]));
+            self.pair.set(state);
+            match self.force_due(vertex) {
+                Some(number) => self.pair.force(vertex, number)?,
+                None => self.call(Call::Step(vertex))?,
+            };
+            if self.draw.one_in(3) {
+                let call = self.any_call();
+                self.call(call)?;
+            }
+        }
+        Ok(())
+    }
+
+    /// Steps vertices in any order, runs among them, until the next command of one is a force's newEdge, if that comes soon: the vertex and
+    /// the force's number.
+    fn step_to_a_force(&mut self) -> Result<Option<(u32, u32)>, Difference> {
+        for _ in 0..self.draw.between(1, 80) {
+            if self.draw.one_in(10) {
+                let most = if self.size == Size::Small { 20 } else { 400 };
+                let budget = self.draw.below(most);
+                self.call(Call::Run(budget))?;
+            }
+            let able = self.able();
+            if able.is_empty() {
+                break;
+            }
+            let at_a_force: Vec<u32> = able.iter().copied().filter(|&vertex| self.at_a_force(vertex)).collect();
+            let vertex = if at_a_force.is_empty() || self.draw.one_in(4) { self.draw.pick(&able) } else { self.draw.pick(&at_a_force) };
+            self.call(Call::Step(vertex))?;
+            if let Some(number) = self.force_due(vertex) {
+                return Ok(Some((vertex, number)));
+            }
+        }
+        Ok(None)
+    }
+
+    /// Whether a vertex executes and the byte at its place is a force's.
+    fn at_a_force(&self, vertex: u32) -> bool {
+        let place = self.pair.state().vertices[VERTEX_WORDS * vertex as usize + PLACE] as usize;
+        self.status(vertex) == VERTEX_EXECUTING && self.pair.program.get(place) == Some(&programs::FORCE)
+    }
+
+    /// The number of the force whose newEdge is the next step of a vertex made, if it is one, on sound tables and a program that loads.
+    fn force_due(&self, vertex: u32) -> Option<u32> {
+        let State { vertices, tally, .. } = self.pair.state();
+        let row = &vertices[VERTEX_WORDS * vertex as usize..][..VERTEX_WORDS];
+        let program = &self.pair.program;
+        let at = row[PLACE] as usize;
+        let due = tally.steps < STEP_LIMIT
+            && self.at_a_force(vertex)
+            && row[PHASE] == 1
+            && programs::starts(program).iter().any(|&(start, _)| start == at);
+        due.then(|| programs::number_at(program, at + 1))
+    }
+
+    /// Alters one of the words for futures that a force of a vertex follows: its own or one behind it, or the first that is not followed.
+    fn alter_future(&mut self, vertex: u32, number: u32) {
+        let State { vertices, tally, .. } = self.pair.state();
+        let word = |vertex: u32| VERTEX_WORDS * vertex as usize + FUTURE;
+        let mut at = vertex;
+        for _ in 0..self.draw.below(number + 2) {
+            match vertices[word(at)] {
+                next if next < tally.made => at = next,
+                _ => break,
+            }
+        }
+        let altered = future_word(&mut self.draw, at, tally.made);
+        self.pair.set_vertex_word(word(at), altered);
     }
 
     /// Stops on tables that no calls led to, by commands and by steps, also where a word was altered. Small tables have few gaps, so most are
@@ -547,14 +683,15 @@ impl Scene {
         let junk = draw.one_in(2);
         let mut vertices: Vec<u32> = (0..vertex_words).map(|_| if junk { draw.wild() } else { 0 }).collect();
         let mut edges: Vec<u32> = (0..edge_words).map(|_| if junk { draw.wild() } else { 0 }).collect();
-        for row in vertices.chunks_exact_mut(VERTEX_WORDS).take(made as usize) {
+        for (vertex, row) in (0..made).zip(vertices.chunks_exact_mut(VERTEX_WORDS)) {
             row[STATUS] = 1 + draw.weighted(&[4, 3, 5, 2]) as u32;
             row[PLACE] = draw.below(bytes + 1);
             row[SCOPE] = draw.below(made);
             row[PHASE] = if draw.one_in(2) { 0 } else { draw.below(10) };
-            for word in &mut row[MADE..] {
+            for word in &mut row[MADE..FUTURE] {
                 *word = if draw.one_in(30) { draw.wild() } else { draw.below(made) };
             }
+            row[FUTURE] = future_word(draw, vertex, made);
         }
         let acyclic = draw.one_in(2);
         for row in edges.chunks_exact_mut(EDGE_WORDS).take(held as usize) {
@@ -639,13 +776,18 @@ impl Scene {
             2 => draw.pick(&[0, 1, 1024, 1025, 8190, 8191, 8192, u32::MAX]),
             _ => draw.wild(),
         };
-        match draw.below(12) {
+        match draw.below(14) {
             0 => self.pair.set_tally(Tally { made: near(draw, tally.made), ..tally }),
             1 => self.pair.set_tally(Tally { held: near(draw, tally.held), ..tally }),
             2 => self.pair.set_tally(Tally { steps: near(draw, tally.steps), ..tally }),
             3 | 4 if edge_words > 0 => {
                 let word = if draw.one_in(4) { draw.wild() } else { draw.below(tally.made.saturating_add(1)) };
                 self.pair.set_edge_word(edge_at, word);
+            }
+            5 | 6 if vertex_words >= VERTEX_WORDS => {
+                let vertex = (vertex_at / VERTEX_WORDS).min(vertex_words / VERTEX_WORDS - 1);
+                let word = future_word(draw, vertex as u32, tally.made);
+                self.pair.set_vertex_word(VERTEX_WORDS * vertex + FUTURE, word);
             }
             _ if vertex_words > 0 => {
                 let word = match vertex_at % VERTEX_WORDS {
@@ -748,6 +890,17 @@ impl Scene {
 
     fn status(&self, vertex: u32) -> u32 {
         self.pair.state().vertices[VERTEX_WORDS * vertex as usize + STATUS]
+    }
+}
+
+/// A word for the latest open future of a vertex: none, the vertex itself, one not made, or any, so that words lead round as well.
+fn future_word(draw: &mut Draw, vertex: u32, made: u32) -> u32 {
+    match draw.below(10) {
+        0 => 0,
+        1 => vertex,
+        2 => made,
+        3 => draw.wild(),
+        _ => draw.below(made),
     }
 }
 

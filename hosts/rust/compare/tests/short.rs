@@ -1,10 +1,10 @@
 //! A short comparison that yet sees every word, every refusal and programs at the limits.
 
-use compare::counts::{Gaps, Repeats, REFUSALS, WORDS};
+use compare::counts::{Forces, Gaps, Repeats, REFUSALS, WORDS};
 
 #[test]
 fn no_difference() {
-    let (counts, _) = match compare::compare(400_000, 1) {
+    let (counts, _) = match compare::compare(800_000, 1) {
         Ok(done) => done,
         Err(failure) => panic!("seed {}: {}", failure.seed, failure.difference.0),
     };
@@ -31,6 +31,11 @@ fn no_difference() {
     let gaps = counts.gaps();
     let Gaps { none, all, first, last, between, most } = gaps;
     assert!([none, all, first, last, between].iter().all(|&times| times > 200) && most == 1024, "rows that stops dropped: {gaps:?}");
+    let forces = counts.forces();
+    let Forces { taken, finished, farthest, refused, none, not_made, later } = forces;
+    assert!([taken, finished, refused, none, not_made, later].iter().all(|&times| times > 100), "what forces followed: {forces:?}");
+    assert!(farthest > 100, "what forces followed: {forces:?}");
+    assert!(counts.refusals(43) > 300);
 }
 
 /// The generator's valid programs do load, its damaged ones mostly don't, and the mixed one is what the benchmark says of it.

@@ -1,7 +1,7 @@
 //! Safe calls into the task-graph engine: which job of a program may start now.
 //!
-//! A program is bytes: numbered jobs with async, finish and fork. A job's number takes one to five bytes and reaches 4,294,967,295, so
-//! that a retune job can carry its frequency in hertz. [`Machine`] owns all that the engine needs:
+//! A program is bytes: numbered jobs with async, finish, fork, future and force. A job's number takes one to five bytes and reaches
+//! 4,294,967,295, so that a retune job can carry its frequency in hertz. [`Machine`] owns all that the engine needs:
 //!
 //! ```
 //! use keshtiwol::{Answer, Lowest, Machine};
@@ -37,7 +37,7 @@ pub use refusal::Refusal;
 use std::fmt;
 
 /// Words in a vertex row.
-pub const VERTEX_WORDS: usize = 7;
+pub const VERTEX_WORDS: usize = 8;
 /// Where in a vertex row its status stands: 1 new, 2 released, 3 executing, 4 finished.
 pub const STATUS: usize = 0;
 /// Where its place stands, a byte offset in the program.
@@ -48,6 +48,9 @@ pub const SCOPE: usize = 2;
 pub const PHASE: usize = 3;
 /// Where the three vertices that this item made begin, 0 where none.
 pub const MADE: usize = 4;
+/// Where the latest open future stands, 0 where none: the vertex that finishes when that future has ended, and whose own word names the next
+/// future out.
+pub const FUTURE: usize = 7;
 
 /// Words in an edge row.
 pub const EDGE_WORDS: usize = 2;
@@ -150,7 +153,7 @@ pub enum Chain {
 /// A single command of the dag-calculus. The caller must be executing.
 #[derive(Clone, Copy, Debug, PartialEq, Eq)]
 pub enum Command {
-    /// Makes the next vertex.
+    /// Makes the next vertex, with the caller's latest open future.
     NewTd {
         caller: u32,
         place: u32,

@@ -11,6 +11,7 @@ pub const BYTES_RUN_OUT: u32 = 5;
 pub const BYTES_AFTER_END: u32 = 6;
 pub const JOB_TOO_LARGE: u32 = 7;
 pub const TOO_MANY_VERTICES: u32 = 8;
+pub const NO_SUCH_FUTURE: u32 = 43;
 // The lender.
 pub const TOO_FEW_VERTEX_ROWS: u32 = 10;
 pub const TOO_FEW_EDGE_ROWS: u32 = 11;
@@ -41,7 +42,7 @@ pub const NO_SUCH_COMMAND: u32 = 99;
 #[derive(Clone, Copy, PartialEq, Eq)]
 pub struct Refusal {
     pub number: u32,
-    /// An offset in the program for the numbers 2 to 7, else 0.
+    /// An offset in the program for the numbers 2 to 7 and 43, else 0.
     pub place: u32,
 }
 
@@ -50,16 +51,17 @@ pub fn text(number: u32) -> &'static str {
     match number {
         LENGTH_OUTSIDE => "the program has no bytes or more than 4,096",
         NUMBER_MALFORMED => "a number is longer than five bytes or not in its shortest form",
-        BYTE_UNKNOWN => "an item's first byte is above 4",
+        BYTE_UNKNOWN => "an item's first byte is above 6",
         LEVEL_TOO_DEEP => "a body is at level 33",
         BYTES_RUN_OUT => "the bytes run out",
         BYTES_AFTER_END => "bytes come after the end",
-        JOB_TOO_LARGE => "a job's number is above 4,294,967,295",
+        JOB_TOO_LARGE => "a number is above 4,294,967,295",
         TOO_MANY_VERTICES => "the program makes more than 1,024 vertices",
+        NO_SUCH_FUTURE => "no such future is open",
         TOO_FEW_VERTEX_ROWS => "too few vertex rows are lent",
         TOO_FEW_EDGE_ROWS => "too few edge rows are lent",
         UNSOUND_TABLES => "tally and tables don't fit together, or 8,192 steps were taken",
-        NOTHING_STARTS => "no item can be read at the vertex's place, or its phase is past the item",
+        NOTHING_STARTS => "no item can be read at the vertex's place, its phase is past the item, or its words lead to no future",
         NO_SUCH_VERTEX => "there is no such vertex",
         EDGE_LEADS_IN => "something must finish before this vertex starts",
         VERTEX_IS_NEW => "the vertex is not released yet",
@@ -84,7 +86,7 @@ impl fmt::Display for Refusal {
     fn fmt(&self, f: &mut fmt::Formatter) -> fmt::Result {
         let Refusal { number, place } = *self;
         match number {
-            NUMBER_MALFORMED..=JOB_TOO_LARGE => write!(f, "refused with {number} at byte {place}: {}", text(number)),
+            NUMBER_MALFORMED..=JOB_TOO_LARGE | NO_SUCH_FUTURE => write!(f, "refused with {number} at byte {place}: {}", text(number)),
             _ => write!(f, "refused with {number}: {}", text(number)),
         }
     }

@@ -1,6 +1,6 @@
 //! The examples of docs/ENGINE.md, through the safe functions.
 
-use keshtiwol::{Answer, Ending, Lowest, Machine, Refusal, Run, STEP_LIMIT, VERTEX_WORDS};
+use keshtiwol::{Answer, Ending, Lowest, Machine, Refusal, Run, FUTURE, STEP_LIMIT, VERTEX_WORDS};
 
 /// Steps the lowest vertex until none can step: each step's vertex and answer.
 fn steps(machine: &mut Machine) -> Vec<(u32, Answer)> {
@@ -38,13 +38,15 @@ const LISTED: [u8; 9] = [3, 2, 1, 5, 0, 0, 1, 6, 0];
 
 #[test]
 fn step_counts() {
-    let counts: [(&[u8], u32); 6] = [
+    let counts: [(&[u8], u32); 8] = [
         (&[0], 4),
         (&[1, 0, 0], 5),
         (&[2, 1, 1, 0, 1, 2, 0], 11),
         (&[4, 1, 1, 0, 1, 2, 0, 1, 3, 0], 22),
         (&[1, 0xFF, 0xFF, 3, 0], 5),
         (&LISTED, 21),
+        (&[5, 0, 6, 0, 0], 19),
+        (&[5, 1, 1, 0, 1, 2, 0], 15),
     ];
     for (program, count) in counts {
         let mut machine = Machine::load(program).unwrap();
@@ -74,6 +76,45 @@ fn frequencies() {
         "vertices 2 jobs 3 steps 7\n0 start\n0 job 14074000\n0 job 268435456\n0 job 4294967295\n0 stop\n1 start\n1 stop\n"
     );
     assert_eq!(jobs(&[1, 0x80, 0x80, 4, 0]), [65_536]);
+}
+
+/// What follows a force waits for its future; what follows a future that is not forced does not, and vertex 1 stops before it.
+#[test]
+fn futures() {
+    assert_eq!(jobs(&[5, 1, 1, 0, 1, 2, 0]), [2, 1]);
+    assert_eq!(jobs(&[5, 1, 1, 0, 1, 2, 6, 0, 1, 3, 0]), [2, 1, 3]);
+    // Two futures, and force 1 waits for the first: job 3 behind it may come before job 2 of the second.
+    let mut machine = Machine::load(&[5, 1, 1, 0, 5, 1, 2, 0, 6, 1, 1, 3, 0]).unwrap();
+    assert_eq!(machine.run(16).last, Some(Answer::Stop));
+    assert_eq!(machine.step(6), Answer::Refused { number: 21, place: 0 });
+    let said: Vec<_> = [3, 3, 3, 2, 2, 6, 6].into_iter().map(|vertex| machine.step(vertex)).collect();
+    assert_eq!((said[1], said[6]), (Answer::Job { number: 1, offset: 1 }, Answer::Job { number: 3, offset: 10 }));
+    assert_eq!(machine.run(STEP_LIMIT).ending, Ending::Done);
+    assert_eq!(
+        listing(&[5, 0, 6, 0, 0]),
+        "vertices 5 jobs 0 steps 19\n0 start\n0 new 2\n0 new 3\n0 edge 3 2\n0 release 2\n0 release 3\n0 new 4\n0 edge 2 4\n\
+         0 transfer 4\n0 release 4\n0 stop\n3 start\n3 stop\n2 start\n2 stop\n4 start\n4 stop\n1 start\n1 stop\n"
+    );
+    let mut machine = Machine::load(&[5, 1, 7, 0, 0]).unwrap();
+    let stopped: Vec<_> = steps(&mut machine).into_iter().filter(|step| step.1 == Answer::Stop).map(|step| step.0).collect();
+    assert_eq!(stopped, [0, 1, 3, 2]);
+}
+
+/// The latest open future: set in the vertex that did the future, and copied to the vertices that it makes.
+#[test]
+fn words_for_futures() {
+    let mut machine = Machine::load(&[5, 0, 5, 0, 6, 1, 0]).unwrap();
+    let words = |machine: &Machine| machine.vertices().chunks(VERTEX_WORDS).map(|row| row[FUTURE]).collect::<Vec<_>>();
+    assert_eq!(words(&machine), [0, 0]);
+    machine.run(5);
+    assert_eq!(words(&machine), [0, 0, 0, 0]);
+    machine.run(1);
+    assert_eq!(words(&machine), [2, 0, 0, 0]);
+    machine.run(6);
+    assert_eq!(words(&machine), [4, 0, 0, 0, 2, 2, 4]);
+    assert_eq!(machine.run(1).last, Some(Answer::Edge(2, 6)));
+    machine.run(STEP_LIMIT);
+    assert_eq!(words(&machine), [4, 0, 0, 0, 2, 2, 4]);
 }
 
 /// The async's job ahead of the other, which the lowest first would not give.
@@ -112,10 +153,17 @@ fn a_refused_listing() {
 fn refused_programs() {
     let (deep, long) = ([2; 32], [0; 4097]);
     let pairs = [[2, 0].repeat(1023), vec![0]].concat();
-    let refused: [(&[u8], u32, u32); 16] = [
+    let refused: [(&[u8], u32, u32); 23] = [
         (&[], 1, 0),
         (&long, 1, 0),
-        (&[5], 3, 0),
+        (&[7], 3, 0),
+        (&[5], 5, 1),
+        (&[6], 5, 1),
+        (&[6, 0], 43, 1),
+        (&[5, 0, 6, 1, 0], 43, 3),
+        (&[5, 6, 0, 0, 0], 43, 2),
+        (&[5, 0, 6, 0x80, 0, 0], 2, 3),
+        (&[5, 0, 6, 0xFF, 0xFF, 0xFF, 0xFF, 0x7F, 0], 7, 3),
         (&[1, 0x80, 0, 0], 2, 1),
         (&[1, 0x80, 0x80, 0x80, 0x80, 0, 0], 2, 1),
         (&[1, 0x80, 0x80, 0x80, 0x80, 0x80, 0], 2, 1),
@@ -140,11 +188,21 @@ fn programs_at_the_limits() {
     let nested = [[2].repeat(31), [0].repeat(32)].concat();
     let pairs = [[2, 0].repeat(1022), vec![0]].concat();
     let forks = [[4, 0, 0].repeat(340), vec![2, 0, 2, 0, 0]].concat();
+    let futures = [[5, 0].repeat(511), vec![0]].concat();
+    let forces = [vec![5, 0], [6, 0].repeat(1020), vec![0]].concat();
     let jobs = [[1, 5].repeat(2047), vec![1, 0]].concat();
     assert_eq!(Machine::load(&jobs).unwrap_err(), Refusal { number: 5, place: 4096 });
     let jobs = [[1, 5].repeat(2046), vec![1, 0x80, 1, 0]].concat();
     let retunes = [[1, 0xFF, 0xFF, 0xFF, 0xFF, 0x0F].repeat(682), vec![1, 0x80, 1, 0]].concat();
-    for (program, made, count) in [(nested, 33, 159), (pairs, 1024, 5114), (forks, 1024, 5114), (jobs, 2, 2051), (retunes, 2, 687)] {
+    for (program, made, count) in [
+        (nested, 33, 159),
+        (pairs, 1024, 5114),
+        (forks, 1024, 5114),
+        (futures, 1024, 4603),
+        (forces, 1024, 6133),
+        (jobs, 2, 2051),
+        (retunes, 2, 687),
+    ] {
         let mut machine = Machine::load(&program).unwrap();
         assert_eq!(machine.run(u32::MAX), Run { ending: Ending::Done, last: Some(Answer::Stop), taken: count });
         assert_eq!(machine.tally().made, made);
@@ -182,9 +240,10 @@ fn chains_of_a_program() {
 
 #[test]
 fn a_refusal_reads_well() {
-    let refusal = Machine::load(&[5]).unwrap_err();
-    assert_eq!(refusal.to_string(), "refused with 3 at byte 0: an item's first byte is above 4");
+    let refusal = Machine::load(&[7]).unwrap_err();
+    assert_eq!(refusal.to_string(), "refused with 3 at byte 0: an item's first byte is above 6");
     assert_eq!(format!("{refusal:?}"), refusal.to_string());
-    // Only 2 to 7 have a place.
+    // Only 2 to 7 and 43 have a place.
+    assert_eq!(Machine::load(&[6, 0]).unwrap_err().to_string(), "refused with 43 at byte 1: no such future is open");
     assert_eq!(Machine::load(&[]).unwrap_err().to_string(), "refused with 1: the program has no bytes or more than 4,096");
 }

@@ -220,6 +220,46 @@ fn a_host_that_chooses_badly() {
     assert_eq!(lent.step(&program, 2), Answer::Job { number: 1, offset: 1 });
 }
 
+/// The words that a force follows, altered: 13 where one is 0 or names no vertex made, before what its newEdge is refused for.
+#[test]
+fn words_for_futures_that_lead_nowhere() {
+    let program = [5, 0, 5, 0, 6, 1, 0];
+    let mut lent = Lent::new(7 * VERTEX_WORDS, 4 * EDGE_WORDS);
+    assert_eq!(lent.load(&program), Answer::Ready);
+    for _ in 0..12 {
+        assert!(!matches!(lent.step(&program, 0), Answer::Refused { .. }));
+    }
+    assert_eq!((lent.vertices[PHASE], lent.vertices[MADE], lent.vertices[FUTURE]), (1, 6, 4));
+    for vertex in [0, 4] {
+        for word in [0, 7, 1024, u32::MAX] {
+            for target in [6, 7, 0] {
+                let mut lent = lent.clone();
+                lent.vertices[VERTEX_WORDS * vertex + FUTURE] = word;
+                lent.vertices[MADE] = target;
+                assert_eq!(lent.step(&program, 0), refused(refusal::NOTHING_STARTS));
+            }
+        }
+    }
+    for (target, answer) in [(7, refused(refusal::NO_SUCH_VERTEX)), (0, refused(refusal::TARGET_NOT_WAITING)), (6, Answer::Edge(2, 6))] {
+        lent.vertices[MADE] = target;
+        assert_eq!(lent.step(&program, 0), answer);
+    }
+    // The bytes of another program that loading refuses with 43.
+    assert_eq!(lent.step(&[5, 0, 5, 0, 6, 2, 0], 0), refused(refusal::NOTHING_STARTS));
+    assert_eq!(lent.step(&program, 0), Answer::Transfer(6));
+}
+
+/// A vertex made has its caller's latest open future, whatever that is.
+#[test]
+fn a_word_for_futures_is_copied() {
+    let mut lent = Lent::bare(4, 0);
+    for (vertex, word) in [(1, 0), (2, 1), (3, u32::MAX)] {
+        lent.vertices[FUTURE] = word;
+        assert_eq!(lent.new_vertex(), Answer::New(vertex));
+        assert_eq!(lent.vertices[VERTEX_WORDS * vertex as usize + FUTURE], word);
+    }
+}
+
 #[test]
 fn a_lender_that_lends_too_little() {
     let program = [2, 0, 0];

@@ -2,8 +2,9 @@
 
 use crate::{Answer, Command, Tally};
 
-/// "Vertex row, seven words: status; place [...]; scope [...]; phase [...]; three vertices".
-pub(crate) const VERTEX_WORDS: usize = 7;
+/// "Vertex row, seven words: status; place [...]; scope [...]; phase [...]; three vertices". "Vertex rows gain an eighth word: the
+/// latest open future [...]; 0 is none."
+pub(crate) const VERTEX_WORDS: usize = 8;
 pub(crate) type Row = [u32; VERTEX_WORDS];
 pub(crate) const STATUS: usize = 0;
 pub(crate) const PLACE: usize = 1;
@@ -11,6 +12,7 @@ pub(crate) const SCOPE: usize = 2;
 pub(crate) const PHASE: usize = 3;
 pub(crate) const MADE: usize = 4;
 pub(crate) const MADE_WORDS: usize = 3;
+pub(crate) const FUTURE: usize = 7;
 
 /// "Edge row, two words: source, target."
 pub(crate) const EDGE_WORDS: usize = 2;
@@ -275,10 +277,13 @@ impl<'a> Tables<'a> {
             Act::Say(answer) => return answer,
         };
         match command {
-            // "makes the next vertex, new, with the place and scope handed in and its other words 0"
-            Command::NewTd { place, scope, .. } => {
+            // "makes the next vertex, new, with the place and scope handed in and its other words 0", but for the latest open future,
+            // which is "copied from the maker by newTd"
+            Command::NewTd { caller, place, scope } => {
                 let vertex = self.tally.made;
-                self.rows[vertex as usize] = row(NEW, place, scope);
+                let mut made = row(NEW, place, scope);
+                made[FUTURE] = self.rows[caller as usize][FUTURE];
+                self.rows[vertex as usize] = made;
                 self.tally.made += 1;
                 Answer::New(vertex)
             }

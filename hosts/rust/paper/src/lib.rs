@@ -81,7 +81,7 @@ pub enum Chain {
     Refused { number: u32, place: u32 },
 }
 
-/// A refusal whose place is 0: all but 2 to 7.
+/// A refusal whose place is 0: all but 2 to 7 and 43.
 fn refused(number: u32) -> Answer {
     Answer::Refused { number, place: 0 }
 }
@@ -116,7 +116,7 @@ pub fn command(vertices: &mut [u32], edges: &mut [u32], tally: &mut Tally, comma
 /// "Loading clears the used rows and the tally, then sets vertex 0 (released, place 0, scope 1),
 /// vertex 1 (released, place of the last byte, scope 1) and the edge 0 to 1."
 pub fn load(program: &[u8], vertices: &mut [u32], edges: &mut [u32], tally: &mut Tally) -> Answer {
-    // Order: "1; the first of 2 to 7 by place [...]; 8; 10; 11".
+    // Order: "1; the first of 2 to 7 by place [...]; 8; 10; 11"; 43 stands "by place among 2 to 7".
     let counts = match read(program, |_, _| ()) {
         Ok(counts) => counts,
         Err((number, place)) => return Answer::Refused { number, place },

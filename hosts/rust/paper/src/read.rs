@@ -8,49 +8,56 @@ const OPENERS: usize = 31;
 const MOST_VERTICES: u32 = 1024;
 
 /// What starts at a place: an item, or the end byte of a body. The first body of an item starts
-/// one byte after its place. Offsets are at most 4,096.
+/// one byte after its place. Offsets are at most 4,096. A force's number is below the futures open
+/// at its place, so it fits as well.
 #[derive(Clone, Copy, PartialEq, Eq, Debug)]
 pub(crate) enum Item {
     Job { number: u32, past: u16 },
     Async { past: u16 },
     Finish { past: u16 },
     Fork { right: u16, past: u16 },
+    Future { past: u16 },
+    Force { number: u16, past: u16 },
     End,
 }
 
-/// The letters w, a, f and k.
+/// The letters w, a, f and k, and the futures and forces.
 #[derive(Clone, Copy, PartialEq, Eq, Debug, Default)]
 pub(crate) struct Counts {
     pub jobs: u32,
     pub asyncs: u32,
     pub finishes: u32,
     pub forks: u32,
+    pub futures: u32,
+    pub forces: u32,
 }
 
 impl Counts {
-    /// "V = 2 + a + 2f + 3k"
+    /// "V = 2 + a + 2f + 3k", and "A future adds 2 vertices, 1 edge and 9 steps; a force 1, 1 and 6."
     pub fn vertices(&self) -> u32 {
-        2 + self.asyncs + 2 * self.finishes + 3 * self.forks
+        2 + self.asyncs + 2 * self.finishes + 3 * self.forks + 2 * self.futures + self.forces
     }
 
-    /// "Edge rows needed: 1 + a + f + 2k."
+    /// "Edge rows needed: 1 + a + f + 2k.", with one for each future and each force.
     pub fn edge_rows(&self) -> u32 {
-        1 + self.asyncs + self.finishes + 2 * self.forks
+        1 + self.asyncs + self.finishes + 2 * self.forks + self.futures + self.forces
     }
 }
 
 /// A number and a place of "Refusals by who causes them".
 type Refusal = (u32, u32);
 
-/// An item whose body is being read; `right` is 0 until the right body of a fork starts.
+/// An item whose body is being read; `right` is 0 until the right body of a fork starts. `futures` are those open at its place, and so
+/// where each of its bodies starts: a future is open "in bodies inside later items", and not in its own.
 #[derive(Clone, Copy, Default)]
 struct Opener {
     place: usize,
     right: usize,
+    futures: u32,
 }
 
 /// Reads the whole program and hands each item and end byte with its place to `found`, each when
-/// it has been read to its end. Answers the counts, or the refusal of 1 to 8 that is due.
+/// it has been read to its end. Answers the counts, or the refusal of 1 to 8 or 43 that is due.
 pub(crate) fn read(program: &[u8], mut found: impl FnMut(usize, Item)) -> Result<Counts, Refusal> {
     if program.is_empty() || program.len() > LONGEST {
         return Err((1, 0));
@@ -58,6 +65,8 @@ pub(crate) fn read(program: &[u8], mut found: impl FnMut(usize, Item)) -> Result
     let mut counts = Counts::default();
     let mut openers = [Opener::default(); OPENERS];
     let mut depth = 0;
+    // The futures open where reading is.
+    let mut open = 0;
     let mut at = 0;
     loop {
         // "5 bytes run out [...] (place: the length)"
@@ -73,15 +82,22 @@ pub(crate) fn read(program: &[u8], mut found: impl FnMut(usize, Item)) -> Result
                     break;
                 }
                 let opener = &mut openers[depth - 1];
+                // The futures of a body are open "to the end of its body".
+                open = opener.futures;
                 let past = at as u16;
                 let item = match program[opener.place] {
                     2 => Item::Async { past },
                     3 => Item::Finish { past },
-                    _ if opener.right == 0 => {
+                    4 if opener.right == 0 => {
                         opener.right = at;
                         continue;
                     }
-                    _ => Item::Fork { right: opener.right as u16, past },
+                    4 => Item::Fork { right: opener.right as u16, past },
+                    // "A future is open after its item".
+                    _ => {
+                        open += 1;
+                        Item::Future { past }
+                    }
                 };
                 found(opener.place, item);
                 depth -= 1;
@@ -92,7 +108,7 @@ pub(crate) fn read(program: &[u8], mut found: impl FnMut(usize, Item)) -> Result
                 counts.jobs += 1;
                 at = past;
             }
-            2..=4 => {
+            2..=5 => {
                 // "4 a body at level 33 (place: its opener)"
                 if depth == OPENERS {
                     return Err((4, at as u32));
@@ -100,13 +116,25 @@ pub(crate) fn read(program: &[u8], mut found: impl FnMut(usize, Item)) -> Result
                 match first {
                     2 => counts.asyncs += 1,
                     3 => counts.finishes += 1,
-                    _ => counts.forks += 1,
+                    4 => counts.forks += 1,
+                    _ => counts.futures += 1,
                 }
-                openers[depth] = Opener { place: at, right: 0 };
+                openers[depth] = Opener { place: at, right: 0, futures: open };
                 depth += 1;
                 at += 1;
             }
-            // "3 first byte above 4"
+            // "byte 6 is a force with a number, 0 for the nearest future open there"
+            6 => {
+                let (number, past) = read_number(program, at + 1)?;
+                // "43 a force with no such future open, at its number's first byte, [...] after 7, which holds for that number too"
+                if number >= open {
+                    return Err((43, at as u32 + 1));
+                }
+                found(at, Item::Force { number: number as u16, past: past as u16 });
+                counts.forces += 1;
+                at = past;
+            }
+            // "Refusal 3 begins above 6"
             _ => return Err((3, at as u32)),
         }
     }

@@ -3,7 +3,8 @@
 use std::cell::OnceCell;
 
 use crate::graph::{
-    Act, Marks, Row, Tables, View, EXECUTING, FINISHED, MADE, MADE_WORDS, MOST_ROWS, MOST_STEPS, NEW, PHASE, PLACE, RELEASED, STATUS,
+    Act, Marks, Row, Tables, View, EXECUTING, FINISHED, FUTURE, MADE, MADE_WORDS, MOST_ROWS, MOST_STEPS, NEW, PHASE, PLACE, RELEASED,
+    STATUS,
 };
 use crate::read::{read, Item};
 use crate::{Answer, Command};
@@ -23,8 +24,11 @@ enum Then {
     Next,
     /// The same after a newTd: this made word gets the new vertex.
     Keep(usize),
-    /// "An item's last command sets phase and made vertices to 0", and the place moves.
+    /// The item's last command is done, and the place moves.
     Move(u32),
+    /// The same at a future: the latest open future is "set to t in the vertex that did the future, at that item's last command", t
+    /// being the first vertex that the item made.
+    Open(u32),
 }
 
 /// The items of a program by place, read at most once, when first asked for.
@@ -38,7 +42,7 @@ impl<'p> Book<'p> {
         Book { program, items: OnceCell::new() }
     }
 
-    /// What starts at a place; nothing anywhere in a program that loading refuses by 1 to 8.
+    /// What starts at a place; nothing anywhere in a program that loading refuses by 1 to 8 or 43.
     fn item(&self, place: u32) -> Option<Item> {
         let items = self.items.get_or_init(|| {
             // A program longer than 4,096 bytes is refused before anything is found in it.
@@ -60,8 +64,9 @@ pub(crate) enum Seek {
 }
 
 /// The next command of the item at an executing vertex's place, or nothing where the phase is "not
-/// below that item's commands". `end` is the program's last byte.
-fn next_command(caller: u32, row: &Row, item: Item, end: u32) -> Option<Due> {
+/// below that item's commands" or the words that a force follows lead to no future. `end` is the
+/// program's last byte.
+fn next_command(view: &View, caller: u32, row: &Row, item: Item, end: u32) -> Option<Due> {
     let [_, place, scope, phase, first, second, third, ..] = *row;
     let new = |word, place: u32, scope| (Act::Do(Command::NewTd { caller, place, scope }), Then::Keep(word));
     let edge = |source, target| (Act::Do(Command::NewEdge { caller, source, target }), Then::Next);
@@ -96,6 +101,19 @@ fn next_command(caller: u32, row: &Row, item: Item, end: u32) -> Option<Due> {
         (Item::Fork { .. }, 6) => (release(third), Then::Next),
         (Item::Fork { .. }, 7) => (release(first), Then::Next),
         (Item::Fork { .. }, 8) => (release(second), Then::Move(end)),
+        // "newTd t (last byte, own scope), newTd t' (the future's body, scope t), newEdge t' to t, release t, release t'"; then past
+        // the item.
+        (Item::Future { .. }, 0) => new(0, end, scope),
+        (Item::Future { .. }, 1) => new(1, body, first),
+        (Item::Future { .. }, 2) => edge(second, first),
+        (Item::Future { .. }, 3) => (release(first), Then::Next),
+        (Item::Future { past }, 4) => (release(second), Then::Open(past.into())),
+        // "newTd (past the item, own scope), newEdge from t to it, transfer to it, release it; the forcing vertex goes to the last
+        // byte."
+        (Item::Force { past, .. }, 0) => new(0, past.into(), scope),
+        (Item::Force { number, .. }, 1) => edge(view.forced(row, number)?, first),
+        (Item::Force { .. }, 2) => transfer(first),
+        (Item::Force { .. }, 3) => (release(first), Then::Move(end)),
         // "end byte: stop."
         (Item::End, 0) => (Act::Do(Command::Stop { caller }), Then::Stay),
         _ => return None,
@@ -110,11 +128,22 @@ impl View<'_> {
         let item = item.ok_or(13u32)?;
         // The program reads, so it has 1 to 4,096 bytes.
         let end = program.len() as u32 - 1;
-        let mut due = next_command(vertex, row, item, end).ok_or(13u32)?;
+        let mut due = next_command(self, vertex, row, item, end).ok_or(13u32)?;
         if let Act::Do(command) = due.act {
             due.act = self.check(command)?;
         }
         Ok(due)
+    }
+
+    /// The future that a force means: "The word of a future's t names the next future out, so a force follows its number of such
+    /// words." Nothing, and so 13, "where the words followed come to 0 or to no made vertex".
+    fn forced(&self, row: &Row, number: u16) -> Option<u32> {
+        let made = self.made();
+        let mut future = row[FUTURE];
+        for _ in 0..number {
+            future = made_future(made, future)?[FUTURE];
+        }
+        made_future(made, future).map(|_| future)
     }
 
     /// The step that names a vertex, or its refusal, on tables that 12 does not refuse: "Step: 12,
@@ -184,6 +213,14 @@ impl View<'_> {
     }
 }
 
+/// The row of the vertex that a word for a future names: none where the word is 0 or "no made vertex".
+fn made_future(made: &[Row], word: u32) -> Option<&Row> {
+    match word {
+        0 => None,
+        vertex => made.get(vertex as usize),
+    }
+}
+
 /// "A released one is started."
 fn start(vertex: u32) -> Due {
     Due { act: Act::Do(Command::Start { vertex }), then: Then::Stay }
@@ -201,13 +238,20 @@ impl Tables<'_> {
                 row[PHASE] += 1;
                 row[MADE + word] = self.tally.made - 1;
             }
-            Then::Move(place) => {
-                row[PLACE] = place;
-                row[PHASE] = 0;
-                row[MADE..MADE + MADE_WORDS].fill(0);
+            Then::Move(place) => move_on(row, place),
+            Then::Open(place) => {
+                row[FUTURE] = row[MADE];
+                move_on(row, place);
             }
         }
         self.tally.steps += 1;
         answer
     }
+}
+
+/// "An item's last command sets phase and made vertices to 0", and the place moves.
+fn move_on(row: &mut Row, place: u32) {
+    row[PLACE] = place;
+    row[PHASE] = 0;
+    row[MADE..MADE + MADE_WORDS].fill(0);
 }

@@ -1,6 +1,9 @@
-use crate::graph::{Edge, Row, EDGE_WORDS, FINISHED, MOST_ROWS, NEW, PHASE, PLACE, SCOPE, VERTEX_WORDS};
+use crate::graph::{Edge, Row, EDGE_WORDS, FINISHED, FUTURE, MOST_ROWS, NEW, PHASE, PLACE, SCOPE, VERTEX_WORDS};
 use crate::read::{read, Counts, Item};
 use crate::*;
+
+mod futures;
+mod order;
 
 // --- Helpers -----------------------------------------------------------------------------------
 
@@ -106,10 +109,10 @@ fn counts(program: &[u8]) -> Counts {
     read(program, |_, _| ()).unwrap()
 }
 
-/// 4 + w + 5a + 10f + 15k
+/// 4 + w + 5a + 10f + 15k, with 9 for each future and 6 for each force
 fn full_count(program: &[u8]) -> u32 {
     let c = counts(program);
-    4 + c.jobs + 5 * c.asyncs + 10 * c.finishes + 15 * c.forks
+    4 + c.jobs + 5 * c.asyncs + 10 * c.finishes + 15 * c.forks + 9 * c.futures + 6 * c.forces
 }
 
 fn loaded(program: &[u8]) -> Lent {
@@ -161,37 +164,53 @@ fn listing(program: &[u8]) -> String {
     out
 }
 
-/// A body of random items at a level.
-fn random_body(dice: &mut Dice, level: usize, room: &mut usize, out: &mut Vec<u8>) {
+/// The bytes of a number in its shortest form.
+fn number_bytes(mut number: u32) -> Vec<u8> {
+    let mut bytes = Vec::new();
+    while number > 127 {
+        bytes.push(number as u8 | 0x80);
+        number >>= 7;
+    }
+    bytes.push(number as u8);
+    bytes
+}
+
+/// A body of random items at a level, where so many futures are open.
+fn random_body(dice: &mut Dice, level: usize, mut open: usize, room: &mut usize, out: &mut Vec<u8>) {
     for _ in 0..dice.below(5) {
         if *room == 0 {
             break;
         }
         *room -= 1;
-        match if level < 5 { dice.below(5) } else { 0 } {
-            0 | 1 => {
-                out.push(1);
-                // "one to five bytes and reach 4,294,967,295"
-                let bits = [7, 14, 21, 28, 32][dice.below(5)];
-                let mut number = if dice.one_in(8) { (1 << bits) - 1 } else { dice.below(1 << bits) };
-                while number > 127 {
-                    out.push(number as u8 | 0x80);
-                    number >>= 7;
-                }
-                out.push(number as u8);
-            }
+        match if level < 5 { dice.below(9) } else { 0 } {
             2 => {
                 out.push(2);
-                random_body(dice, level + 1, room, out);
+                random_body(dice, level + 1, open, room, out);
             }
             3 => {
                 out.push(3);
-                random_body(dice, level + 1, room, out);
+                random_body(dice, level + 1, open, room, out);
+            }
+            4 => {
+                out.push(4);
+                random_body(dice, level + 1, open, room, out);
+                random_body(dice, level + 1, open, room, out);
+            }
+            5 | 6 => {
+                out.push(5);
+                random_body(dice, level + 1, open, room, out);
+                open += 1;
+            }
+            7 | 8 if open > 0 => {
+                out.push(6);
+                out.extend(number_bytes(dice.below(open) as u32));
             }
             _ => {
-                out.push(4);
-                random_body(dice, level + 1, room, out);
-                random_body(dice, level + 1, room, out);
+                out.push(1);
+                // "one to five bytes and reach 4,294,967,295"
+                let bits = [7, 14, 21, 28, 32][dice.below(5)];
+                let number = if dice.one_in(8) { (1 << bits) - 1 } else { dice.below(1 << bits) };
+                out.extend(number_bytes(number as u32));
             }
         }
     }
@@ -201,7 +220,7 @@ fn random_body(dice: &mut Dice, level: usize, room: &mut usize, out: &mut Vec<u8
 fn random_program(dice: &mut Dice) -> Vec<u8> {
     let mut out = Vec::new();
     let mut room = 1 + dice.below(20);
-    random_body(dice, 1, &mut room, &mut out);
+    random_body(dice, 1, 0, &mut room, &mut out);
     out
 }
 
@@ -279,7 +298,7 @@ fn bench_examples_order_their_jobs() {
 #[test]
 fn bench_examples_are_refused() {
     assert_eq!(load_refusal(&[]), refusal(1, 0));
-    assert_eq!(load_refusal(&[5]), refusal(3, 0));
+    assert_eq!(load_refusal(&[7]), refusal(3, 0));
     assert_eq!(load_refusal(&[1, 0x80, 0, 0]), refusal(2, 1));
     assert_eq!(load_refusal(&[0, 0]), refusal(6, 1));
     assert_eq!(load_refusal(&[3, 0]), refusal(5, 2));
@@ -377,7 +396,7 @@ fn levels() {
     program.extend([0; 32]);
     assert_eq!(full_count(&program), 4 + 5 * 31);
     assert_eq!(loaded(&program).run(&program, 10_000).taken, 4 + 5 * 31);
-    for opener in [2, 3, 4] {
+    for opener in [2, 3, 4, 5] {
         let mut program = vec![opener; 32];
         assert_eq!(load_refusal(&program), refusal(4, 31));
         program.extend([0; 65]);
@@ -1111,6 +1130,7 @@ fn any_words_are_answered() {
             *w = match i % VERTEX_WORDS {
                 STATUS if dice.one_in(300) => dice.roll() as u32,
                 STATUS => 1 + dice.below(4) as u32,
+                FUTURE if dice.one_in(3) => 0,
                 PLACE if dice.one_in(20) => word(&mut dice, program.len()),
                 PLACE => places[dice.below(places.len())],
                 PHASE => word(&mut dice, 9),
@@ -1203,7 +1223,7 @@ fn any_bytes_are_answered() {
     let mut taken = 0;
     for _ in 0..20_000 {
         let program: Vec<u8> =
-            (0..dice.below(14)).map(|_| if dice.one_in(12) { dice.roll() as u8 } else { dice.below(9).saturating_sub(4) as u8 }).collect();
+            (0..dice.below(14)).map(|_| if dice.one_in(12) { dice.roll() as u8 } else { dice.below(11).saturating_sub(4) as u8 }).collect();
         let mut lent = Lent::rows(60, 60);
         if lent.load(&program) == Answer::Ready {
             taken += 1;

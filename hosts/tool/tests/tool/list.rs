@@ -49,8 +49,13 @@ fn the_largest_program() {
 
 #[test]
 fn what_a_program_holds_and_needs() {
-    let sample = "accepted: 9 bytes with 2 jobs, 1 async, 1 finish, 0 forks\nneeds 5 vertex rows, 3 edge rows and 21 steps\n";
+    let sample = "accepted: 9 bytes with 2 jobs, 1 async, 1 finish, 0 forks, 0 futures, 0 forces\n\
+                  needs 5 vertex rows, 3 edge rows and 21 steps\n";
     assert_eq!(written(&["check", "03 02 01 05 00 00 01 06 00"], b""), sample);
-    let shortest = "accepted: 1 byte with 0 jobs, 0 asyncs, 0 finishes, 0 forks\nneeds 2 vertex rows, 1 edge row and 4 steps\n";
+    let forced = "accepted: 5 bytes with 0 jobs, 0 asyncs, 0 finishes, 0 forks, 1 future, 1 force\n\
+                  needs 5 vertex rows, 3 edge rows and 19 steps\n";
+    assert_eq!(written(&["check", "05 00 06 00 00"], b""), forced);
+    let shortest = "accepted: 1 byte with 0 jobs, 0 asyncs, 0 finishes, 0 forks, 0 futures, 0 forces\n\
+                    needs 2 vertex rows, 1 edge row and 4 steps\n";
     assert_eq!(written(&["check", "00"], b""), shortest);
 }

@@ -9,6 +9,9 @@ use crate::{scratch, written};
 /// fork { finish { async { job 1 } async { job 2 } } job 3 } { fork { job 4 } { job 5 } async { job 6 } } job 7
 const NESTED: &str = "04 03 02 01 01 00 02 01 02 00 00 01 03 00 04 01 04 00 01 05 00 02 01 06 00 00 01 07 00";
 
+/// future { job 1 } future { force 0 job 2 } async { force 1 job 3 } force 0 job 4 force 1 job 5
+const FORCED: &str = "05 01 01 00 05 06 00 01 02 00 02 06 01 01 03 00 06 00 01 04 06 01 01 05 00";
+
 #[test]
 fn a_small_graph_for_graphviz() {
     let text = written(&["dot", "--steps", "4", "03 02 01 05 00 00 01 06 00"], b"");
@@ -48,6 +51,7 @@ fn told(lines: &[&str]) -> (Vec<&'static str>, Vec<(usize, usize)>) {
         match words[1] {
             "start" => statuses[vertex] = "executing",
             "new" => statuses.push("new"),
+            "edge" if statuses[number(2)] == "finished" => {}
             "edge" => edges.push((number(2), number(3))),
             "release" => statuses[number(2)] = "released",
             "transfer" => edges.iter_mut().filter(|edge| edge.0 == vertex).for_each(|edge| edge.0 = number(2)),
@@ -64,16 +68,22 @@ fn told(lines: &[&str]) -> (Vec<&'static str>, Vec<(usize, usize)>) {
 /// After every number of steps both forms are well formed and show the graph that the listing tells.
 #[test]
 fn every_moment() {
-    let listing = written(&["list", NESTED], b"");
+    for program in [NESTED, FORCED] {
+        every_moment_of(program);
+    }
+}
+
+fn every_moment_of(program: &str) {
+    let listing = written(&["list", program], b"");
     let lines: Vec<&str> = listing.lines().skip(1).collect();
     for steps in 0..=lines.len() {
         let (statuses, edges) = told(&lines[..steps]);
         let steps = steps.to_string();
         let title = format!("After {steps} of {} steps", lines.len());
 
-        let dot = written(&["dot", "--steps", &steps, NESTED], b"");
+        let dot = written(&["dot", "--steps", &steps, program], b"");
         assert_eq!(graphviz(&dot), edges);
-        let svg = written(&["svg", "--steps", &steps, NESTED], b"");
+        let svg = written(&["svg", "--steps", &steps, program], b"");
         let drawn = drawn(&svg);
         assert_eq!(drawn.edges(), edges);
         assert_eq!(drawn.boxes.len(), statuses.len());

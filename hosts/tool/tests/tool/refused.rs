@@ -11,11 +11,11 @@ fn every_command_explains_and_ends_with_1() {
         assert_eq!((said.status, said.out.as_str()), (1, ""));
         assert_eq!(
             said.error,
-            "keshtiwol: the program is refused with 3: an item's first byte is above 4\n\n    \
+            "keshtiwol: the program is refused with 3: an item's first byte is above 6\n\n    \
             bytes 0 to 8 of 9, counted from 0:\n    \
             03 02 07 05 00 00 01 06 00\n          \
             ^^ byte 2\n\n\
-            07 starts no item. 00 ends a body, 01 is a job, 02 an async, 03 a finish, 04 a fork.\n"
+            07 starts no item. 00 ends a body, 01 is a job, 02 an async, 03 a finish, 04 a fork, 05 a future, 06 a force.\n"
         );
     }
 }
@@ -50,6 +50,21 @@ fn a_body_without_its_end() {
         Still open: the fork at byte 5, in its second body; the program.\n\
         At least 2 end bytes (00) are missing.\n\
         The last end byte, byte 8, is that of the fork at byte 5, in its first body.\n"
+    );
+}
+
+#[test]
+fn a_force_of_no_future() {
+    let said = keshtiwol(&["check", "05 01 01 00 06 01 00"], b"");
+    assert_eq!((said.status, said.out.as_str()), (1, ""));
+    assert_eq!(
+        said.error,
+        "keshtiwol: the program is refused with 43: no such future is open\n\n    \
+        bytes 0 to 6 of 7, counted from 0:\n    \
+        05 01 01 00 06 01 00\n                   \
+        ^^ byte 5\n\n\
+        The force at byte 4 has the number 1. Open there: 0, the future at byte 0.\n\
+        A future is open behind its item, to the end of the body in which the item stands, and not in its own body.\n"
     );
 }
 

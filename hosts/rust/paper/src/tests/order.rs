@@ -1,0 +1,455 @@
+//! "Which job comes ahead", with futures: what the machine does in all orders of steps, against the note's words.
+
+use super::*;
+use std::collections::{BTreeSet, HashSet};
+use std::fmt::Write;
+use std::rc::Rc;
+
+/// Pairs of job numbers, which tell the jobs of these programs apart: the first comes ahead of the second.
+type Pairs = BTreeSet<(u32, u32)>;
+
+// --- What the note says ------------------------------------------------------------------------
+
+type Body = Rc<Vec<Tree>>;
+
+enum Tree {
+    Job(u32),
+    Async(Body),
+    Finish(Body),
+    Fork(Body, Body),
+    Future(Body),
+    /// The number, and the body of the future that it names.
+    Force(usize, Body),
+}
+
+/// The body at the front of a valid program's bytes, where these futures are open, the nearest last; the bytes are moved past it.
+fn body(bytes: &mut &[u8], open: &[Body]) -> Body {
+    let mut open = open.to_vec();
+    let mut trees = Vec::new();
+    loop {
+        let first = bytes[0];
+        *bytes = &bytes[1..];
+        trees.push(match first {
+            0 => return Rc::new(trees),
+            1 => Tree::Job(small_number(bytes).into()),
+            2 => Tree::Async(body(bytes, &open)),
+            3 => Tree::Finish(body(bytes, &open)),
+            4 => Tree::Fork(body(bytes, &open), body(bytes, &open)),
+            5 => {
+                // "A future is open after its item, to the end of its body and in bodies inside later items."
+                let future = body(bytes, &open);
+                open.push(future.clone());
+                Tree::Future(future)
+            }
+            _ => {
+                // "0 for the nearest future open there"
+                let number = small_number(bytes).into();
+                Tree::Force(number, open[open.len() - 1 - number].clone())
+            }
+        });
+    }
+}
+
+/// A number of one byte.
+fn small_number(bytes: &mut &[u8]) -> u8 {
+    let number = bytes[0];
+    assert!(number < 128);
+    *bytes = &bytes[1..];
+    number
+}
+
+fn tree(program: &[u8]) -> Body {
+    let mut bytes = program;
+    let tree = body(&mut bytes, &[]);
+    assert!(bytes.is_empty());
+    tree
+}
+
+/// A body in words.
+fn words(body: &[Tree]) -> String {
+    let mut text = String::new();
+    for tree in body {
+        let _ = match tree {
+            Tree::Job(number) => write!(text, "job {number} "),
+            Tree::Async(body) => write!(text, "async {{ {}}} ", words(body)),
+            Tree::Finish(body) => write!(text, "finish {{ {}}} ", words(body)),
+            Tree::Fork(left, right) => write!(text, "fork {{ {}}} {{ {}}} ", words(left), words(right)),
+            Tree::Future(body) => write!(text, "future {{ {}}} ", words(body)),
+            Tree::Force(number, _) => write!(text, "force {number} "),
+        };
+    }
+    text
+}
+
+/// An item on the way down to a job.
+#[derive(Clone, Copy, PartialEq)]
+enum On {
+    Job,
+    Async,
+    /// A finish, or a force, which "is read as a finish around its future's body".
+    Finish,
+    Fork,
+    /// "a future on the way counts as an async that no finish closes"
+    Future,
+}
+
+/// One item of a way: its number in its body, and the number of the body in it that the way takes.
+type Turn = (usize, usize, On);
+
+/// A place where a job stands: its own, or one in a reading of forces.
+struct Road {
+    job: u32,
+    own: bool,
+    way: Vec<Turn>,
+}
+
+/// All roads to jobs of a body, "forces inside it likewise".
+fn roads(body: &[Tree], own: bool, way: &mut Vec<Turn>, found: &mut Vec<Road>) {
+    for (at, tree) in body.iter().enumerate() {
+        let mut down = |branch, on, body: &Body, own| {
+            way.push((at, branch, on));
+            roads(body, own, way, found);
+            way.pop();
+        };
+        match tree {
+            Tree::Job(job) => {
+                let way = [&way[..], &[(at, 0, On::Job)]].concat();
+                found.push(Road { job: *job, own, way });
+            }
+            Tree::Async(body) => down(0, On::Async, body, own),
+            Tree::Finish(body) => down(0, On::Finish, body, own),
+            Tree::Fork(left, right) => {
+                down(0, On::Fork, left, own);
+                down(1, On::Fork, right, own);
+            }
+            Tree::Future(body) => down(0, On::Future, body, own),
+            Tree::Force(_, body) => down(0, On::Finish, body, false),
+        }
+    }
+}
+
+/// "Take the innermost body with both jobs in different items, p in the earlier. p is ahead of q if each async on the way from that
+/// earlier item (itself counted) down to p has a finish above it on that way."
+fn old_rule(p: &Road, q: &Road) -> bool {
+    let Some(parting) = p.way.iter().zip(&q.way).position(|(p, q)| (p.0, p.1) != (q.0, q.1)) else {
+        return false;
+    };
+    // "two branches of a fork aren't" ordered: they are in the same item.
+    if p.way[parting].0 >= q.way[parting].0 {
+        return false;
+    }
+    let mut finish_above = false;
+    for &(_, _, on) in &p.way[parting..] {
+        match on {
+            On::Future => return false,
+            On::Async if !finish_above => return false,
+            On::Finish => finish_above = true,
+            _ => {}
+        }
+    }
+    true
+}
+
+/// "Then p is ahead of q if the old rule says so with q at its own place and p at its own or in such a reading."
+fn ahead(program: &[u8]) -> Pairs {
+    let mut found = Vec::new();
+    roads(&tree(program), true, &mut Vec::new(), &mut found);
+    let mut pairs = Pairs::new();
+    for q in found.iter().filter(|q| q.own) {
+        pairs.extend(found.iter().filter(|p| old_rule(p, q)).map(|p| (p.job, q.job)));
+    }
+    pairs
+}
+
+// --- What the machine does ---------------------------------------------------------------------
+
+/// What was seen in all orders of a program's steps.
+struct Orders {
+    /// The pairs of jobs of which the first was answered before the second in each order.
+    before: Pairs,
+    /// Whether vertex 1 finished after all jobs in each order.
+    jobs_before_vertex_1: bool,
+    states: usize,
+}
+
+/// Takes every step that is accepted in every state that steps lead to from loading, with no more rows than are needed. Each order ends
+/// at the full count, and meets no refusal but 21 to 23 and no cycle.
+fn all_orders(program: &[u8]) -> Orders {
+    let c = counts(program);
+    let mut first = Lent::rows(c.vertices() as usize, c.edge_rows() as usize);
+    assert_eq!(first.load(program), Answer::Ready);
+    let mut jobs = Vec::new();
+    let _ = read(program, |_, item| {
+        if let Item::Job { number, .. } = item {
+            assert!(!jobs.contains(&number), "the jobs of these programs have numbers of their own");
+            jobs.push(number);
+        }
+    });
+    let bit = |job| 1u32 << jobs.iter().position(|&number| number == job).unwrap();
+    let mut before: Pairs = jobs.iter().flat_map(|&p| jobs.iter().map(move |&q| (p, q))).filter(|(p, q)| p != q).collect();
+    let mut jobs_before_vertex_1 = true;
+    // A state is what is lent, and which jobs were answered.
+    let mut seen = HashSet::from([state(&first, 0)]);
+    let mut waiting = vec![(first, 0u32)];
+    while let Some((lent, answered)) = waiting.pop() {
+        let finished = |vertex| lent.row(vertex)[STATUS] == FINISHED;
+        let all_finished = (0..lent.tally.made as usize).all(finished);
+        jobs_before_vertex_1 &= answered.count_ones() == c.jobs || !finished(1);
+        let mut steps = 0;
+        for vertex in 0..lent.tally.made {
+            let mut after = lent.clone();
+            let mut now = answered;
+            match after.step(program, vertex) {
+                Answer::Refused { number, .. } => {
+                    assert!([21, 22, 23].contains(&number), "{number}: {program:02x?}");
+                    continue;
+                }
+                Answer::Job { number, .. } => {
+                    assert_eq!(answered & bit(number), 0);
+                    now |= bit(number);
+                    before.retain(|&(p, q)| q != number || answered & bit(p) != 0);
+                }
+                _ => {}
+            }
+            steps += 1;
+            if seen.insert(state(&after, now)) {
+                assert!(!has_cycle(&after.held()));
+                waiting.push((after, now));
+            }
+        }
+        assert_eq!(steps == 0, all_finished, "{program:02x?}");
+        if all_finished {
+            assert_eq!((lent.tally.steps, lent.tally.held), (full_count(program), 0));
+            assert_eq!((lent.tally.made, answered.count_ones()), (c.vertices(), c.jobs));
+        }
+    }
+    Orders { before, jobs_before_vertex_1, states: seen.len() }
+}
+
+/// All words of a small program's state, in bytes.
+fn state(lent: &Lent, answered: u32) -> Vec<u8> {
+    let Tally { made, held, steps } = lent.tally;
+    let words = lent.vertices.iter().chain(&lent.edges).chain([&made, &held, &steps, &answered]);
+    words.map(|&word| u8::try_from(word).unwrap()).collect()
+}
+
+// --- One against the other ---------------------------------------------------------------------
+
+/// Programs in hexadecimal and in words, and their ordered pairs of jobs.
+const TABLE: [(&str, &str, &[(u32, u32)]); 38] = [
+    // A future never forced.
+    ("05 01 01 00 01 02 00", "future { job 1 } job 2", &[]),
+    ("01 01 05 01 02 00 01 03 00", "job 1 future { job 2 } job 3", &[(1, 2), (1, 3)]),
+    ("05 01 01 00 05 01 02 00 00", "future { job 1 } future { job 2 }", &[]),
+    ("05 01 01 01 02 00 01 03 00", "future { job 1 job 2 } job 3", &[(1, 2)]),
+    ("05 02 01 01 00 01 02 00 01 03 00", "future { async { job 1 } job 2 } job 3", &[]),
+    ("05 03 02 01 01 00 00 01 02 00 01 03 00", "future { finish { async { job 1 } } job 2 } job 3", &[(1, 2)]),
+    // Forced once.
+    ("05 01 01 00 06 00 01 02 00", "future { job 1 } force 0 job 2", &[(1, 2)]),
+    ("05 01 01 00 01 02 06 00 01 03 00", "future { job 1 } job 2 force 0 job 3", &[(1, 3), (2, 3)]),
+    ("05 02 01 01 00 01 02 00 06 00 01 03 00", "future { async { job 1 } job 2 } force 0 job 3", &[(1, 3), (2, 3)]),
+    (
+        "05 04 01 01 00 01 02 00 01 03 00 06 00 01 04 00",
+        "future { fork { job 1 } { job 2 } job 3 } force 0 job 4",
+        &[(1, 3), (1, 4), (2, 3), (2, 4), (3, 4)],
+    ),
+    ("02 05 01 01 00 06 00 01 02 00 01 03 00", "async { future { job 1 } force 0 job 2 } job 3", &[(1, 2)]),
+    // Forced twice.
+    ("05 01 01 00 06 00 01 02 06 00 01 03 00", "future { job 1 } force 0 job 2 force 0 job 3", &[(1, 2), (1, 3), (2, 3)]),
+    ("05 01 01 00 02 06 00 01 02 00 06 00 01 03 00", "future { job 1 } async { force 0 job 2 } force 0 job 3", &[(1, 2), (1, 3)]),
+    // A force in an async, a finish, a fork's branch.
+    ("05 01 01 00 02 06 00 01 02 00 01 03 00", "future { job 1 } async { force 0 job 2 } job 3", &[(1, 2)]),
+    ("05 01 01 00 03 06 00 01 02 00 01 03 00", "future { job 1 } finish { force 0 job 2 } job 3", &[(1, 2), (1, 3), (2, 3)]),
+    (
+        "05 01 01 00 03 02 06 00 01 02 00 00 01 03 00",
+        "future { job 1 } finish { async { force 0 job 2 } } job 3",
+        &[(1, 2), (1, 3), (2, 3)],
+    ),
+    (
+        "05 01 01 00 04 06 00 01 02 00 01 03 00 01 04 00",
+        "future { job 1 } fork { force 0 job 2 } { job 3 } job 4",
+        &[(1, 2), (1, 4), (2, 4), (3, 4)],
+    ),
+    (
+        "05 01 01 00 04 01 02 00 06 00 01 03 00 01 04 00",
+        "future { job 1 } fork { job 2 } { force 0 job 3 } job 4",
+        &[(1, 3), (1, 4), (2, 4), (3, 4)],
+    ),
+    ("05 01 01 00 04 02 06 00 00 00 00 01 02 00", "future { job 1 } fork { async { force 0 } } { } job 2", &[]),
+    ("05 01 01 00 04 06 00 00 06 00 00 01 02 00", "future { job 1 } fork { force 0 } { force 0 } job 2", &[(1, 2)]),
+    // Two futures, force 1 and force 0.
+    ("05 01 01 00 05 01 02 00 06 00 01 03 00", "future { job 1 } future { job 2 } force 0 job 3", &[(2, 3)]),
+    ("05 01 01 00 05 01 02 00 06 01 01 03 00", "future { job 1 } future { job 2 } force 1 job 3", &[(1, 3)]),
+    (
+        "05 01 01 00 05 01 02 00 06 01 01 03 06 00 01 04 00",
+        "future { job 1 } future { job 2 } force 1 job 3 force 0 job 4",
+        &[(1, 3), (1, 4), (2, 4), (3, 4)],
+    ),
+    (
+        "05 01 01 00 02 05 01 02 00 06 01 01 03 00 06 00 01 04 00",
+        "future { job 1 } async { future { job 2 } force 1 job 3 } force 0 job 4",
+        &[(1, 3), (1, 4)],
+    ),
+    // A future in a future's body.
+    ("05 05 01 01 00 01 02 00 06 00 01 03 00", "future { future { job 1 } job 2 } force 0 job 3", &[(2, 3)]),
+    ("05 05 01 01 00 06 00 01 02 00 06 00 01 03 00", "future { future { job 1 } force 0 job 2 } force 0 job 3", &[(1, 2), (1, 3), (2, 3)]),
+    ("05 05 01 01 00 01 02 06 00 00 06 00 01 03 00", "future { future { job 1 } job 2 force 0 } force 0 job 3", &[(1, 3), (2, 3)]),
+    // A future that forces an earlier one.
+    ("05 01 01 00 05 06 00 01 02 00 01 03 00", "future { job 1 } future { force 0 job 2 } job 3", &[(1, 2)]),
+    ("05 01 01 00 05 06 00 01 02 00 06 00 01 03 00", "future { job 1 } future { force 0 job 2 } force 0 job 3", &[(1, 2), (1, 3), (2, 3)]),
+    ("05 01 01 00 05 02 06 00 00 00 06 00 01 02 00", "future { job 1 } future { async { force 0 } } force 0 job 2", &[(1, 2)]),
+    ("05 01 01 00 05 06 00 00 06 01 01 02 00", "future { job 1 } future { force 0 } force 1 job 2", &[(1, 2)]),
+    (
+        "05 01 01 00 05 06 00 06 00 00 05 06 00 06 00 00 06 00 01 02 00",
+        "future { job 1 } future { force 0 force 0 } future { force 0 force 0 } force 0 job 2",
+        &[(1, 2)],
+    ),
+    // A finish around a future does not wait for it.
+    ("03 05 01 01 00 00 01 02 00", "finish { future { job 1 } } job 2", &[]),
+    ("03 05 01 01 00 01 02 00 01 03 00", "finish { future { job 1 } job 2 } job 3", &[(2, 3)]),
+    ("03 05 01 01 00 06 00 00 01 02 00", "finish { future { job 1 } force 0 } job 2", &[(1, 2)]),
+    ("03 05 01 01 00 02 06 00 00 00 01 02 00", "finish { future { job 1 } async { force 0 } } job 2", &[(1, 2)]),
+    ("05 03 05 01 01 00 00 00 06 00 01 02 00", "future { finish { future { job 1 } } } force 0 job 2", &[]),
+    ("04 05 01 01 00 00 00 01 02 00", "fork { future { job 1 } } { } job 2", &[]),
+];
+
+fn bytes(hexadecimal: &str) -> Vec<u8> {
+    hexadecimal.split(' ').map(|byte| u8::from_str_radix(byte, 16).unwrap()).collect()
+}
+
+#[test]
+fn orders_of_the_table() {
+    for (hexadecimal, in_words, pairs) in TABLE {
+        let program = bytes(hexadecimal);
+        assert_eq!(words(&tree(&program)).trim_end(), in_words, "{hexadecimal}");
+        let pairs: Pairs = pairs.iter().copied().collect();
+        assert_eq!(ahead(&program), pairs, "{in_words}");
+        assert_eq!(all_orders(&program).before, pairs, "{in_words}");
+    }
+}
+
+/// A body of few items, whose jobs have numbers of their own. Most bodies in items begin with a job.
+fn small_body(dice: &mut Dice, level: usize, mut open: usize, room: &mut usize, jobs: &mut u8, out: &mut Vec<u8>) {
+    if level > 1 && !dice.one_in(4) {
+        *jobs += 1;
+        out.extend([1, *jobs]);
+    }
+    while *room > 0 && !(level > 1 && dice.one_in(2)) {
+        *room -= 1;
+        let mut inner = |dice: &mut Dice, opener: &[u8], bodies, open| {
+            out.extend(opener);
+            for _ in 0..bodies {
+                small_body(dice, level + 1, open, room, jobs, out);
+            }
+        };
+        match dice.below(12) {
+            0 => inner(dice, &[2], 1, open),
+            1 => inner(dice, &[3], 1, open),
+            2 if level < 3 => inner(dice, &[4], 2, open),
+            3..=5 if level < 4 => {
+                inner(dice, &[5], 1, open);
+                open += 1;
+            }
+            6..=8 if open > 0 => out.extend([6, dice.below(open) as u8]),
+            _ => {
+                *jobs += 1;
+                out.extend([1, *jobs]);
+            }
+        }
+    }
+    out.push(0);
+}
+
+/// A small program with a future, with three to six jobs, and mostly with a force.
+fn small_program(dice: &mut Dice, most_steps: u32) -> Vec<u8> {
+    loop {
+        let (mut room, mut jobs, mut program) = (4 + dice.below(4), 0, Vec::new());
+        small_body(dice, 1, 0, &mut room, &mut jobs, &mut program);
+        let c = counts(&program);
+        let forced = c.forces > 0 || dice.one_in(10);
+        if c.futures > 0 && forced && (3..=6).contains(&c.jobs) && full_count(&program) <= most_steps {
+            return program;
+        }
+    }
+}
+
+#[test]
+fn orders_of_random_programs() {
+    let mut dice = Dice(505);
+    let (mut states, mut ordered, mut unordered) = (0, 0, 0);
+    let mut tried = HashSet::new();
+    while tried.len() < 400 {
+        let program = small_program(&mut dice, 48);
+        if !tried.insert(program.clone()) {
+            continue;
+        }
+        let pairs = ahead(&program);
+        let orders = all_orders(&program);
+        assert_eq!(orders.before, pairs, "{program:02x?}: {}", words(&tree(&program)));
+        let jobs = counts(&program).jobs as usize;
+        states += orders.states;
+        ordered += pairs.len();
+        unordered += jobs * (jobs - 1) / 2 - pairs.len();
+    }
+    println!("{states} states of {} programs; {ordered} pairs ordered, {unordered} not", tried.len());
+    assert!(ordered > 500 && unordered > 500, "{ordered} {unordered}");
+}
+
+/// "An unforced future still ends, but vertex 1 need not finish last."
+#[test]
+fn vertex_1_need_not_finish_last() {
+    for (program, last) in [
+        ("02 01 01 00 01 02 00", true),
+        ("03 02 01 01 00 00 01 02 00", true),
+        ("05 01 01 00 06 00 00", true),
+        ("05 01 01 00 02 06 00 00 00", true),
+        ("05 01 01 00 05 06 00 00 06 00 00", true),
+        ("05 01 01 00 00", false),
+        ("03 05 01 01 00 00 00", false),
+        ("05 05 01 01 00 00 06 00 00", false),
+        ("05 01 01 00 05 06 00 00 00", false),
+    ] {
+        assert_eq!(all_orders(&bytes(program)).jobs_before_vertex_1, last, "{program}");
+    }
+    // Lowest first, vertex 1 stops before the future's body starts; the run is done when all vertices are finished.
+    let program = bytes("05 01 07 00 00");
+    let mut lent = loaded(&program);
+    let (mut jobs, mut stopped) = (Vec::new(), Vec::new());
+    while let Lowest::Vertex(vertex) = lent.lowest(&program) {
+        match lent.step(&program, vertex) {
+            Answer::Stop => stopped.push(vertex),
+            Answer::Job { number, .. } => jobs.push((number, stopped.len())),
+            _ => {}
+        }
+    }
+    assert_eq!((jobs, stopped), (vec![(7, 2)], vec![0, 1, 3, 2]));
+    let mut lent = loaded(&program);
+    assert_eq!(lent.run(&program, 9).ending, Ending::Spent);
+    assert_eq!((lent.row(1)[STATUS], lent.row(3)[STATUS]), (FINISHED, 2));
+    assert_eq!(lent.run(&program, 5), Run { ending: Ending::Done, last: Some(Answer::Stop), taken: 5 });
+}
+
+/// Larger programs, in any order: each job is answered after all that come ahead of it.
+#[test]
+fn larger_programs_keep_the_order() {
+    let mut dice = Dice(77);
+    let mut ordered = 0;
+    for _ in 0..300 {
+        let (mut room, mut jobs, mut program) = (20 + dice.below(20), 0, Vec::new());
+        small_body(&mut dice, 1, 0, &mut room, &mut jobs, &mut program);
+        // The roads of forces in futures can double again and again.
+        if counts(&program).forces > 8 {
+            continue;
+        }
+        let pairs = ahead(&program);
+        for _ in 0..4 {
+            let order = jobs_at_random(&program, &mut dice);
+            let at = |job: u32| order.iter().position(|&answered| answered == job).unwrap();
+            for &(p, q) in &pairs {
+                ordered += 1;
+                assert!(at(p) < at(q), "{p} {q} {program:02x?}");
+            }
+        }
+    }
+    assert!(ordered > 10_000, "{ordered}");
+}
