@@ -9,14 +9,15 @@ use Rattle.graph.specs.declared.Command.{Command}
 use Rattle.graph.specs.declared.Command.the-variants.{NewTd, NewEdge, Release, Transfer, Start, Stop}
 use Rattle.graph.specs.Tables.{Lent, NEW, RELEASED, EXECUTING, FINISHED, status}
 use Rattle.graph.specs.Sound.{sound}
-use Rattle.graph.specs.Paths.{Leads, CycleFree, holds, reaches}
+use Rattle.graph.specs.Paths.{Leads, CycleFree, holds, leadsInto, reaches}
 use Rattle.graph.specs.Rules.{Graph, X, NEWEDGE, TRANSFER, Printed}
 use Rattle.graph.specs.Commands.{withVertex, addsNothing, stopped}
+use Rattle.graph.specs.InCounts.{ReadsTrue}
 use Rattle.graph.specs.Demand2.{graph, RowFree}
 use Rattle.graph.proofs.TestLaws.{not-so, true-false, decide}
 use Rattle.graph.proofs.PathLaws.{Stays, path-reaches, reaches-path}
-use Rattle.graph.proofs.EdgeLaws.{none-into, none-out-of, Is, OneMore, Moved, without-is}
-use Rattle.graph.proofs.SoundLaws.{sound-fits}
+use Rattle.graph.proofs.EdgeLaws.{none-into, none-out-of, into-counted, Is, OneMore, Moved, without-is}
+use Rattle.graph.proofs.SoundLaws.{sound-tally, sound-fits}
 use Rattle.graph.proofs.TakenLaws.{leaves, Runs, Adds, TakenNewEdge, TakenTransfer, Taken, adds-nothing, adds-one}
 use Rattle.graph.proofs.RuleLaws.{added-is, transferred-is}
 use Rattle.graph.proofs.GraphLaws.{shown-some, domain-shown, shown-live}
@@ -114,14 +115,15 @@ transfer-taken s t t' G' known r =
         let runs = ap (λ (x : ℕ). status (s .vertices) x) (sym q) ∙ shown-some (s .vertices) (s .made) t EXECUTING (r .caller) .1 in
         omega arith
 
-pub rule-taken : (c : Command) (s : Lent) (G' : Graph) → sound s ≡ true → Printed c (graph s) G' → RowFree c s → Taken c s
-rule-taken (NewTd t place scope) s G' known r row = (shown-runs s t known (r .1 .caller), row)
-rule-taken (NewEdge t t1 t2) s G' known r row = (shown-runs s t known (r .caller), newEdge-taken s t t1 t2 G' known r row)
-rule-taken (Release t t') s G' known r row =
+pub rule-taken : (c : Command) (s : Lent) (G' : Graph) → sound s ≡ true → ReadsTrue c s → Printed c (graph s) G' → RowFree c s → Taken c s
+rule-taken (NewTd t place scope) s G' known reads r row = (shown-runs s t known (r .1 .caller), row)
+rule-taken (NewEdge t t1 t2) s G' known reads r row = (shown-runs s t known (r .caller), newEdge-taken s t t1 t2 G' known r row)
+rule-taken (Release t t') s G' known reads r row =
     let (made, new) = shown-some (s .vertices) (s .made) t' NEW (r .is-new) in
     (shown-runs s t known (r .caller), made, new)
-rule-taken (Transfer t t') s G' known r row = (shown-runs s t known (r .caller), transfer-taken s t t' G' known r)
-rule-taken (Start t) s G' known r row =
+rule-taken (Transfer t t') s G' known reads r row = (shown-runs s t known (r .caller), transfer-taken s t t' G' known r)
+rule-taken (Start t) s G' known reads r row =
     let (made, released) = shown-some (s .vertices) (s .made) t RELEASED (r .is-released) in
-    (known, made, released, none-into (s .edges) (s .held) t .1 (r .no-edge-in))
-rule-taken (Stop t) s G' known r row = shown-runs s t known (r .caller)
+    let none : leadsInto (s .edges) (s .held) t ≡ false = none-into (s .edges) (s .held) t .1 (r .no-edge-in) in
+    (sound-tally s known, made, released, reads ∙ into-counted (s .edges) (s .held) t .1 none)
+rule-taken (Stop t) s G' known reads r row = shown-runs s t known (r .caller)

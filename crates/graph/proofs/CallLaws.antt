@@ -11,16 +11,21 @@ use Rattle.graph.specs.declared.Command.{Command}
 use Rattle.graph.specs.declared.Command.the-variants.{NewTd, Release, Transfer, Start, Stop}
 use Rattle.graph.specs.declared.Done.{Done}
 use Rattle.graph.specs.declared.Tally.{Tally}
+use Rattle.graph.specs.Tests.{either}
 use Rattle.graph.specs.Tables.{Lent, lent, usableLimit, vertexWords, statusWord, edgeWords, vertexRows, edgeRows, RELEASED}
-use Rattle.graph.specs.Tables.{setStatus, clear}
+use Rattle.graph.specs.Tables.{inCountWord, target, setStatus, clear}
 use Rattle.refusal.specs.Refusals.{too-few-vertex-rows, unsound-tables}
 use Rattle.graph.specs.Answers.{CommandSaid, said, Outcome, outcome, opened, opening-refused, unless, decided}
-use Rattle.graph.specs.Sound.{sound}
+use Rattle.graph.specs.Sound.{tallyFits, sound}
+use Rattle.graph.specs.Internal.Checks.{isStart}
+use Rattle.graph.specs.Internal.Gather.{TargetsFit}
 use Rattle.graph.specs.Internal.Search.{Searchable}
 use Rattle.graph.specs.Commands.{openedTables, opening, callerRefusal, newTdRefusal, endsRefusal, appendRefusal, releaseRefusal}
 use Rattle.graph.specs.Commands.{transferRefusal, startRefusal, stopRefusal, command}
-use Rattle.graph.proofs.SoundChecks.{sound-rows, searchable}
-use Rattle.graph.proofs.TestLaws.{both-true, both-false-left, both-false-right, not-of-true, not-of-false}
+use Rattle.graph.proofs.PathLaws.{holds-at}
+use Rattle.graph.proofs.SoundLaws.{sound-fits}
+use Rattle.graph.proofs.SoundChecks.{fits-rows, sound-rows, searchable}
+use Rattle.graph.proofs.TestLaws.{either-skip, both-true, both-false-left, both-false-right, not-of-true, not-of-false}
 use Rattle.graph.proofs.TakenLaws.{Runs, taken, taken-caller, taken-ends, taken-append, unsound}
 use Rattle.graph.proofs.RefusalLaws.{unless-pass, unless-stop, decided-is}
 
@@ -74,11 +79,26 @@ pub answered-free : {r n m : ℕ} → r ≡ n → m < r → ltb m n ≡ true
 answered-free {n = n} {m = m} p h = lt-ltb m n (omega arith)
 
 -- what can be read of sound tables
+pub row-room : (s : Lent) (t : ℕ) → sound s ≡ true → t < s .made → vertexWords * t + vertexWords ≤ length (s .vertices)
+row-room s t h lt = omega (arith, sound-rows s h)
+
 pub status-there : (v e : List ℕ) (t : Tally) (k : ℕ) → sound (lent v e t) ≡ true → k < t .made → vertexWords * k + statusWord < length v
 status-there v e t k p lt = omega (arith, sound-rows (lent v e t) p)
 
 pub edges-there : (v e : List ℕ) (t : Tally) → sound (lent v e t) ≡ true → edgeWords * t .held ≤ length e
 edges-there v e t p = sound-rows (lent v e t) p .1 .0
+
+-- and of tables that the tally fits
+counted-room : (v e : List ℕ) (made held k : ℕ) → tallyFits v e made held ≡ true → k < made → vertexWords * k + vertexWords ≤ length v
+counted-room v e made held k h lt = omega (arith, fits-rows v e made held h)
+
+pub status-fits :
+    (v e : List ℕ) (made held k : ℕ) {r : Bool} → r ≡ tallyFits v e made held → not r ≡ false → k < made → vertexWords * k + statusWord < length v
+status-fits v e made held k p q lt = omega (arith, counted-room v e made held k (answered-yes p q) lt)
+
+pub in-count-fits :
+    (v e : List ℕ) (made held k : ℕ) {r : Bool} → r ≡ tallyFits v e made held → not r ≡ false → k < made → vertexWords * k + inCountWord < length v
+in-count-fits v e made held k p q lt = omega (arith, counted-room v e made held k (answered-yes p q) lt)
 
 -- One link more at the front of a chain: a number that is due is due whatever follows the chain, and with none due what follows is due.
 due-behind :
@@ -133,6 +153,9 @@ module _ (v e : List ℕ) (s : Tally) (t a b : ℕ) {m : ℕ} (p : m ≡ endsRef
   pub source-made : a < s .made
   source-made = taken-ends (lent v e s) t a b 0 .0 (sym p ∙ q) .1
 
+  pub target-room : vertexWords * b + vertexWords ≤ length v
+  target-room = let k = taken-ends (lent v e s) t a b 0 .0 (sym p ∙ q) in row-room (lent v e s) b (k .0 .known) (k .2)
+
   pub path-back : Searchable e (s .held) b a
   path-back = let k = taken-ends (lent v e s) t a b 0 .0 (sym p ∙ q) in searchable (lent v e s) b a (k .0 .known) (k .2) (k .1)
 
@@ -167,13 +190,12 @@ pub ruleset chain = (
   path-back,
   status-there,
   edges-there,
+  status-fits,
+  in-count-fits,
   refl,
 )
 
 -- the room that an accepted command has for what it stores
-pub row-room : (s : Lent) (t : ℕ) → sound s ≡ true → t < s .made → vertexWords * t + vertexWords ≤ length (s .vertices)
-row-room s t h lt = omega (arith, sound-rows s h)
-
 pub newTd-room : (s : Lent) (t : ℕ) → newTdRefusal s t ≡ 0 → (vertexWords * s .made + vertexWords ≤ length (s .vertices)) × (s .made < usableLimit)
 newTd-room s t h =
     let free : s .made < vertexRows (s .vertices) = taken (NewTd t 0 0) s .0 h .1 in
@@ -195,14 +217,23 @@ pub release-room : (s : Lent) (t t' : ℕ) → releaseRefusal s t t' ≡ 0 → v
 release-room s t t' h = let k = taken (Release t t') s .0 h in row-room s t' (k .0 .known) (k .1)
 
 pub start-room : (s : Lent) (t : ℕ) → startRefusal s t ≡ 0 → vertexWords * t + vertexWords ≤ length (s .vertices)
-start-room s t h = let k = taken (Start t) s .0 h in row-room s t (k .0) (k .1)
+start-room s t h = let k = taken (Start t) s .0 h in counted-room (s .vertices) (s .edges) (s .made) (s .held) t (k .0) (k .1)
 
 pub stop-room :
     (s : Lent) (t : ℕ) → stopRefusal s t ≡ 0
-    → (vertexWords * t + vertexWords ≤ length (s .vertices)) × ((edgeWords * s .held ≤ length (s .edges)) × (s .held ≤ usableLimit))
+    → (vertexWords * t + vertexWords ≤ length (s .vertices)) × (edgeWords * s .held ≤ length (s .edges)) × (s .held ≤ usableLimit)
 stop-room s t h =
     let k = taken (Stop t) s .0 h in
-    (row-room s t (k .known) (k .is-made), let r = sound-rows s (k .known) in (r .1 .0, r .1 .1 .1))
+    let r = sound-rows s (k .known) in
+    (row-room s t (k .known) (k .is-made), r .1 .0, r .1 .1 .1)
+
+-- the rows of the targets too, when the status is set
+pub stop-targets : (s : Lent) (t : ℕ) (v : List ℕ) → stopRefusal s t ≡ 0 → length v ≡ length (s .vertices) → TargetsFit v (s .edges) (s .held)
+stop-targets s t v h p i lt =
+    let known = taken (Stop t) s .0 h .known in
+    let made : target (s .edges) i < s .made = sound-fits s known .ends-made _ _ (holds-at (s .edges) (s .held) i lt) .1 in
+    let room : vertexWords * target (s .edges) i + vertexWords ≤ length (s .vertices) = row-room s _ known made in
+    omega arith
 
 -- the opening
 pub opening-stops :
@@ -228,8 +259,12 @@ opened-is s p q h h' k = rw (h', h, k, p, q) refl
 pub command-case : {o : Outcome CommandSaid} (s : Lent) {given c : Command} → given ≡ c → o ≡ command c s → o ≡ command given s
 command-case s p h = h ∙ ap (λ (x : Command). command x s) (sym p)
 
--- a command that is refused at the door
+-- what is given is sound for any command but start
+pub sound-given : {given c : Command} (s : Lent) → given ≡ c → isStart c ≡ false → either (isStart given) (sound s) ≡ true → sound s ≡ true
+sound-given s p q h = either-skip _ (ap isStart p ∙ q) ∙ h
+
+-- a command other than start that is refused at the door
 pub unsound-outcome :
-    (r : Done) (v e : List ℕ) (t : Tally) (c : Command) → sound (lent v e t) ≡ false
+    (r : Done) (v e : List ℕ) (t : Tally) (c : Command) → isStart c ≡ false → sound (lent v e t) ≡ false
     → (said (r .answer) ≡ CommandSaid.refused unsound-tables 0) × (r .tally ≡ t) → outcome r v e ≡ command c (lent v e t)
-unsound-outcome r v e t c p h = (λ i. record { answer = h .0 i; after = lent v e (h .1 i) }) ∙ sym (unsound c (lent v e t) p)
+unsound-outcome r v e t c q p h = (λ i. record { answer = h .0 i; after = lent v e (h .1 i) }) ∙ sym (unsound c (lent v e t) q p)

@@ -2,7 +2,7 @@
 -- what its definition says (`leaves`); the laws of these two give each theorem. Where each refusal is given, on any tables, is said in
 -- Reasons.
 use Prim.Native.Nat.{ℕ, _<_}
-use mathlib.Core.Path.{_≡_, sym, _∙_, ap, subst}
+use mathlib.Core.Path.{_≡_, refl, sym, _∙_, ap, subst}
 use mathlib.Core.Logic.{_⊎_, inl, inr, _↔_}
 use mathlib.Core.Bool.{Bool, true, false}
 use mathlib.Core.List.{List}
@@ -13,13 +13,14 @@ use Rattle.graph.specs.Tables.{Lent, NEW, RELEASED, EXECUTING}
 use Rattle.graph.specs.Answers.{CommandSaid, accepted}
 use Rattle.graph.specs.Sound.{sound}
 use Rattle.graph.specs.Paths.{CycleFree, reaches}
-use Rattle.graph.specs.Rules.{Graph, TRANSFER, Printed, outOf, resourced, _∖_}
+use Rattle.graph.specs.Rules.{Graph, TRANSFER, Printed, Unguarded, outOf, resourced, _∖_}
 use Rattle.graph.specs.Commands.{command, targetReaches}
-use Rattle.graph.specs.Demand2.{graph, HasStatus, EdgeHeld, RowFree, NoneTwice, Effect}
+use Rattle.graph.specs.InCounts.{ReadsTrue}
+use Rattle.graph.specs.Demand2.{graph, HasStatus, EdgeHeld, RowFree, VertexWordOf, EdgeWordOf, SameBut, NewRowOf, NoneTwice, Effect}
 use Rattle.graph.proofs.SoundLaws.{sound-fits, fits-sound}
 use Rattle.graph.proofs.TakenLaws.{leaves, Taken, taken, not-refused, taken-is, is-accepted, after-is, after-refused, after-either}
-use Rattle.graph.proofs.TakenLaws.{row-free-of, taken-sound}
-use Rattle.graph.proofs.WordLaws.{vertex-words-of, edge-words-of, new-row-of, steps-kept-of}
+use Rattle.graph.proofs.TakenLaws.{row-free-of, taken-rows}
+use Rattle.graph.proofs.WordLaws.{same-all, vertex-words-of, edge-words-of, new-row-of, steps-kept-of}
 use Rattle.graph.proofs.EdgeLaws.{held-decides}
 use Rattle.graph.proofs.RuleLaws.{transferred-disjoint}
 use Rattle.graph.proofs.EffectLaws.{rule-of, leaves-all}
@@ -34,38 +35,57 @@ taken-of c s h = taken c s .0 (not-refused c s h)
 pub refused-keeps : (c : Command) (s : Lent) → accepted (command c s .answer) ≡ false → command c s .after ≡ s
 refused-keeps = after-refused
 
+-- "A command changes no other word of a row"; "single commands change the tally's first two numbers only": on any tables, whatever the word
+-- that start reads holds, and refused or not.
+pub words-stay :
+    (c : Command) (s : Lent)
+    → SameBut (VertexWordOf c s) (s .vertices) (command c s .after .vertices)
+    × SameBut (EdgeWordOf c s) (s .edges) (command c s .after .edges)
+    × (command c s .after .steps ≡ s .steps)
+words-stay c s =
+    after-either
+    (λ s'. SameBut (VertexWordOf c s) (s .vertices) (s' .vertices) × SameBut (EdgeWordOf c s) (s .edges) (s' .edges) × (s' .steps ≡ s .steps))
+    c s
+    (same-all (VertexWordOf c s) (s .vertices), same-all (EdgeWordOf c s) (s .edges), refl)
+    (λ h. (vertex-words-of c s, edge-words-of c s (taken-rows c s (taken c s .0 h) .1), steps-kept-of c s))
+
 -- "Each command changes vertices, statuses and edges exactly by its published dag-calculus rule", and no other word, on any tables
--- that 12 spares, those that hold a cycle too: there the rule is without its premise "E' cycle-free".
-pub effect : (c : Command) (s : Lent) → accepted (command c s .answer) ≡ true → Effect c s (command c s .after)
-effect c s h =
-    subst (λ (s' : Lent). Effect c s s') (sym (after-is c s (not-refused c s h)))
-    (record {
-      rule = rule-of (λ E. Unit {0}) c s (taken-of c s h) tt;
-      vertex-words = vertex-words-of c s;
-      edge-words = edge-words-of c s (sound-fits s (taken-sound c s (taken-of c s h)) .edges-fit);
-      new-row = new-row-of c s (taken-of c s h);
-      steps-kept = steps-kept-of c s;
-    })
+-- that 12 spares, those that hold a cycle too: there the rule is without its premise "E' cycle-free". "Start reads that word" (note 6), the
+-- number of edges into its vertex: of start, this and the two theorems behind it have the premise that the word is true (`ReadsTrue`), as it is
+-- from an opening on (InCounts). No other command reads it.
+pub effect : (c : Command) (s : Lent) → ReadsTrue c s → accepted (command c s .answer) ≡ true → Effect c s (command c s .after)
+effect c s reads h =
+    let t = taken-of c s h in
+    let left = sym (after-is c s (not-refused c s h)) in
+    let (vertex-words, edge-words, steps) = words-stay c s in
+    record {
+      rule = subst (λ (s' : Lent). Unguarded c (graph s) (graph s')) left (rule-of (λ E. Unit {0}) c s reads t tt);
+      vertex-words = vertex-words;
+      edge-words = edge-words;
+      new-row = subst (λ (s' : Lent). NewRowOf c s s') left (new-row-of c s t);
+      steps-kept = steps;
+    }
 
 -- On a graph without a cycle a command is accepted exactly where its rule, as it is printed, has a step and any row that it needs is
--- free.
+-- free. "Start reads that word" (note 6): of start, where the word is true.
 pub acceptance :
-    (c : Command) (s : Lent) → sound s ≡ true → CycleFree (graph s .edge)
+    (c : Command) (s : Lent) → sound s ≡ true → ReadsTrue c s → CycleFree (graph s .edge)
     → (accepted (command c s .answer) ≡ true) ↔ (((G' : Graph) × Printed c (graph s) G') × RowFree c s)
-acceptance c s known free = (
+acceptance c s known reads free = (
   λ h.
       let t = taken-of c s h in
-      ((graph (leaves c s), rule-of CycleFree c s t (leaves-acyclic c s t free)), row-free-of c s t),
-  λ h. is-accepted c s (taken c s .1 (rule-taken c s (h .0 .0) known (h .0 .1) (h .1))),
+      ((graph (leaves c s), rule-of CycleFree c s reads t (leaves-acyclic c s t free)), row-free-of c s t),
+  λ h. is-accepted c s (taken c s .1 (rule-taken c s (h .0 .0) known reads (h .0 .1) (h .1))),
 )
 
--- There the accepted command's step is the rule's.
+-- There the accepted command's step is the rule's; of start likewise.
 pub by-the-rule :
-    (c : Command) (s : Lent) → CycleFree (graph s .edge) → accepted (command c s .answer) ≡ true → Printed c (graph s) (graph (command c s .after))
-by-the-rule c s free h =
+    (c : Command) (s : Lent) → ReadsTrue c s → CycleFree (graph s .edge) → accepted (command c s .answer) ≡ true
+    → Printed c (graph s) (graph (command c s .after))
+by-the-rule c s reads free h =
     let t = taken-of c s h in
     subst (λ (s' : Lent). Printed c (graph s) (graph s')) (sym (after-is c s (not-refused c s h)))
-    (rule-of CycleFree c s t (leaves-acyclic c s t free))
+    (rule-of CycleFree c s reads t (leaves-acyclic c s t free))
 
 -- "An edge held already is now accepted and changes nothing, tested before 35" (note 3): on a full table, on tables with a
 -- cycle, and where the edge leads from a vertex to itself.
@@ -97,7 +117,7 @@ none-held-twice c s none =
 -- Sound tables stay sound.
 pub stays-sound : (c : Command) (s : Lent) → sound s ≡ true → sound (command c s .after) ≡ true
 stays-sound c s known =
-    after-either (λ s'. sound s' ≡ true) c s known (λ h. fits-sound (leaves c s) (leaves-fits c s (taken c s .0 h)))
+    after-either (λ s'. sound s' ≡ true) c s known (λ h. fits-sound (leaves c s) (leaves-fits c s (sound-fits s known) (taken c s .0 h)))
 
 -- The slides' ⊎ is read as a plain union. In TRANSFER its two sets are disjoint by the other premises, so that rule is the same however it
 -- is read.

@@ -9,10 +9,10 @@ use native.Mathlib.Omega.{arith}
 use native.Mathlib.Numerals.{add-one}
 use borrow.Author.Tests.{eq-eqb, ne-eqb}
 use Rattle.graph.specs.Tables.{Lent, edgeWords, sourceWord, targetWord, edgeRows, edgeWord, source, target}
-use Rattle.graph.specs.Paths.{holds, leadsInto, leadsOutOf}
+use Rattle.graph.specs.Paths.{holds, leadsInto, leadsOutOf, edgesInto}
 use Rattle.graph.specs.Commands.{appended, moved, keptRows, kept, withoutEdgesOf}
 use Rattle.graph.specs.Demand2.{EdgeHeld, NoneTwice}
-use Rattle.graph.proofs.TestLaws.{true-false, not-so, same, equal?, below-suc, any-at, any-none}
+use Rattle.graph.proofs.TestLaws.{true-false, not-so, same, equal?, below-suc, any-at, any-none, how-many-none}
 use Rattle.graph.proofs.PathLaws.{holds-at, held-row, holds-less, holds-more}
 use Rattle.graph.proofs.TableLaws.{keptRows-le, appended-other, appended-source, appended-target, moved-from, moved-rest}
 use Rattle.graph.proofs.TableLaws.{moved-target, keptRows-drop, keptRows-keep, kept-front, kept-source, kept-target, without-kept}
@@ -59,6 +59,11 @@ none-out-of e n t = (
   λ h b. not-so _ (λ p. let (i, lt, q, r) = held-row e n t b p in true-false (any-at _ n i lt (eq-eqb _ _ q)) h),
   λ h. any-none _ n (λ i lt. ne-eqb _ _ (λ q. true-false (row-holds e n t (target e i) i lt q refl) (h (target e i)))),
 )
+
+-- no edge leads into t exactly if their number is 0
+pub into-counted : (e : List ℕ) (n t : ℕ) → (edgesInto e n t ≡ 0) ↔ (leadsInto e n t ≡ false)
+unfolding edgesInto leadsInto
+into-counted e n t = how-many-none _ n
 
 -- the first n rows of e' are those of e
 abbrev pub SameRows : List ℕ → List ℕ → ℕ → Type 0

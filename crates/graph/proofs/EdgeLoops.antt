@@ -1,4 +1,5 @@
--- What a loop over the held edges has done after each row: looked for an edge, moved sources, gathered the rows that a stop keeps.
+-- What a loop over the held edges has done after each row: looked for an edge, moved sources, gathered the rows that a stop keeps, and
+-- lowered the in-counts of the others' targets.
 use Prim.Native.Nat.{ℕ, suc, _+_, _-_, _*_, _<_, _≤_}
 use mathlib.Core.Path.{_≡_, refl, sym, _∙_, ap, subst}
 use mathlib.Core.Bool.{true, false}
@@ -8,11 +9,11 @@ use native.Mathlib.Omega.{arith}
 use lib.ListN.{length, getD, take, drop, set, replicate, length-set}
 use lib.Seq.{take-suc-set, take-set-le, drop-set-lt, drop-drop, getD-drop}
 use borrow.Author.Tests.{eq-eqb, ne-eqb}
-use Rattle.graph.specs.Tables.{usableLimit, edgeWords, sourceWord, targetWord, source, target, setEdgeWord, clear}
+use Rattle.graph.specs.Tables.{usableLimit, vertexWords, edgeWords, sourceWord, targetWord, source, target, setEdgeWord, clear}
 use Rattle.graph.specs.Paths.{holds}
-use Rattle.graph.specs.Commands.{movedRow, moved, kept, keptRows, withoutEdgesOf}
-use Rattle.graph.specs.Internal.Gather.{Gathered}
-use Rattle.graph.proofs.TableLaws.{keptRows-drop, keptRows-keep, keptRows-le, kept-drop, kept-keep}
+use Rattle.graph.specs.Commands.{movedRow, moved, kept, keptRows, withoutEdgesOf, lessInto, lowered}
+use Rattle.graph.specs.Internal.Gather.{Gathered, TargetsFit}
+use Rattle.graph.proofs.TableLaws.{keptRows-drop, keptRows-keep, keptRows-le, kept-drop, kept-keep, lowered-drop, lowered-keep}
 use Rattle.graph.proofs.ClearLaws.{clear-is}
 use Rattle.graph.proofs.TestLaws.{any-empty, any-more, any-at, at-end, both-true, both-false-left, both-false-right}
 
@@ -149,6 +150,33 @@ gathered-keeps t e {e'} {k} i r h room p =
 pub gathered-all :
     (t : ℕ) (e : List ℕ) {e' : List ℕ} {k : ℕ} (n i : ℕ) → i ≤ n → n ≤ i → (k ≡ keptRows t e i) × Gathered t e e' i → (k ≡ keptRows t e n) × Gathered t e e' n
 gathered-all t e {e'} {k} n i p q h = at-end (λ j. (k ≡ keptRows t e j) × Gathered t e e' j) p q h
+
+-- lowering in-counts, while the rows are gathered
+pub lowered-none : (t : ℕ) (e v : List ℕ) → v ≡ lowered t e v 0
+unfolding lowered
+lowered-none t e v = refl
+
+pub lowered-skips :
+    (t : ℕ) (e v : List ℕ) {e' v' : List ℕ} (i : ℕ) → v' ≡ lowered t e v i → Gathered t e e' i → (source e' i ≡ t → ⊥) → v' ≡ lowered t e v (i + 1)
+lowered-skips t e v i h g p =
+    h ∙ sym (ap (lowered t e v) (add-one i) ∙ lowered-keep t e v i (λ q. p (row-kept t e i sourceWord g ∙ q)))
+
+pub lowered-less :
+    (t : ℕ) (e v : List ℕ) {e' v' v'' : List ℕ} (i : ℕ) → v' ≡ lowered t e v i → Gathered t e e' i → source e' i ≡ t → v'' ≡ lessInto v' (target e' i)
+    → v'' ≡ lowered t e v (i + 1)
+lowered-less t e v {e'} {v'} i h g p less =
+    less
+    ∙ ap (λ (l : List ℕ). lessInto l (target e' i)) h
+    ∙ ap (lessInto (lowered t e v i)) (row-kept t e i targetWord g)
+    ∙ sym (ap (lowered t e v) (add-one i) ∙ lowered-drop t e v i (sym (row-kept t e i sourceWord g) ∙ p))
+
+pub lowered-all : (t : ℕ) (e v : List ℕ) {v' : List ℕ} (n i : ℕ) → i ≤ n → n ≤ i → v' ≡ lowered t e v i → v' ≡ lowered t e v n
+lowered-all t e v {v'} n i p q h = at-end (λ j. v' ≡ lowered t e v j) p q h
+
+-- the target of row i has its row
+pub target-fits :
+    (t : ℕ) (e v : List ℕ) {e' : List ℕ} (n i : ℕ) → TargetsFit v e n → i < n → Gathered t e e' i → vertexWords * target e' i + vertexWords ≤ length v
+target-fits t e v n i fit lt g = rw (row-kept t e i targetWord g) (fit i lt)
 
 -- with the freed rows cleared, the gathered table is what a stop leaves
 pub gathered-cleared :

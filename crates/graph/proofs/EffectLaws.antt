@@ -6,15 +6,17 @@ use mathlib.Core.Bool.{Bool, true, cond}
 use native.Mathlib.Omega.{arith}
 use Rattle.graph.specs.declared.Command.{Command}
 use Rattle.graph.specs.declared.Command.the-variants.{NewTd, NewEdge, Release, Transfer, Start, Stop}
-use Rattle.graph.specs.Tables.{Lent, NEW, RELEASED, EXECUTING, FINISHED, edgeRows, status}
+use Rattle.graph.specs.Tables.{Lent, NEW, RELEASED, EXECUTING, FINISHED, edgeRows, status, setStatus}
 use Rattle.graph.specs.Rules.{X, NEWTD, RELEASE, START, STOP, NEWEDGE, TRANSFER, Rule, isFinished, added, _∪_}
 use Rattle.graph.specs.Commands.{withStatus, withVertex, withEdge, withMoved, stopped}
+use Rattle.graph.specs.InCounts.{CountTrue, ReadsTrue}
 use Rattle.graph.specs.Demand2.{graph, AddsNothing}
-use Rattle.graph.proofs.EdgeLaws.{Is, OneMore, Moved, held-decides, none-into, none-out-of, is-same, appended-is, moved-is, without-is}
+use Rattle.graph.proofs.EdgeLaws.{Is, OneMore, Moved, held-decides, none-into, none-out-of, into-counted, is-same, appended-is, moved-is}
+use Rattle.graph.proofs.EdgeLaws.{without-is}
 use Rattle.graph.proofs.SoundLaws.{Fits, sound-fits}
-use Rattle.graph.proofs.TakenLaws.{leaves, Runs, Adds, TakenNewEdge, Taken, adds-nothing, adds-one}
+use Rattle.graph.proofs.TakenLaws.{leaves, Runs, Adds, TakenNewEdge, Taken, adds-nothing, adds-one, taken-rows}
 use Rattle.graph.proofs.RuleLaws.{same-graph, Inside, added-none, added-is, minus-is, transferred-is}
-use Rattle.graph.proofs.GraphLaws.{shown-as, shown-not, shown-domain, shown-over, shown-live, shown-set, shown-new}
+use Rattle.graph.proofs.GraphLaws.{shown-as, shown-not, shown-domain, shown-over, shown-live, shown-more, shown-lowered, shown-set, shown-new}
 
 -- the caller's status in the graph
 runs-shown : (s : Lent) (t : ℕ) → Runs s t → graph s .status t ≡ X
@@ -41,12 +43,13 @@ release-rule s t t' h =
       after = same-graph (shown-set (s .vertices) (s .made) t' RELEASED (h .1) (sound-fits s (h .0 .known) .vertices-fit)) (λ a b. refl);
     }
 
-start-rule : (s : Lent) (t : ℕ) → Taken (Start t) s → START (graph s) t (graph (withStatus s t EXECUTING))
-start-rule s t h =
+-- a word that is true and 0 says that no edge leads in
+start-rule : (s : Lent) (t : ℕ) → CountTrue s t → Taken (Start t) s → START (graph s) t (graph (withStatus s t EXECUTING))
+start-rule s t counted h =
     record {
       is-released = shown-as (s .vertices) (s .made) t RELEASED (h .1) (h .2);
-      no-edge-in = none-into (s .edges) (s .held) t .0 (h .3);
-      after = same-graph (shown-set (s .vertices) (s .made) t EXECUTING (h .1) (sound-fits s (h .0) .vertices-fit)) (λ a b. refl);
+      no-edge-in = none-into (s .edges) (s .held) t .0 (into-counted (s .edges) (s .held) t .0 (sym counted ∙ h .3));
+      after = same-graph (shown-set (s .vertices) (s .made) t EXECUTING (h .1) (taken-rows (Start t) s h .0)) (λ a b. refl);
     }
 
 stop-rule : (s : Lent) (t : ℕ) → Taken (Stop t) s → STOP (graph s) t (graph (stopped s t))
@@ -56,7 +59,10 @@ stop-rule s t h =
     record {
       caller = runs-shown s t h;
       after =
-          same-graph (shown-set (s .vertices) (s .made) t FINISHED (h .is-made) (f .vertices-fit))
+          same-graph
+          (λ x.
+          shown-lowered (setStatus (s .vertices) t FINISHED) (s .made) t (s .edges) (s .held) x
+          ∙ shown-set (s .vertices) (s .made) t FINISHED (h .is-made) (f .vertices-fit) x)
           (is-same (without-is t (s .edges) (s .held)) (minus-is (graph s) t (inside s t f)));
     }
 
@@ -85,7 +91,7 @@ newEdge-after s t t1 t2 h =
     (λ p. ap graph (leaves-all s t t1 t2 p) ∙ same-graph (λ x. refl) (λ a b. sym (added-none (graph s) t1 t2 (nothing p) a b)))
     (λ p.
     ap graph (leaves-edge s t t1 t2 p)
-    ∙ same-graph (λ x. refl)
+    ∙ same-graph (shown-more (s .vertices) (s .made) t2)
     (is-same (withEdge-is s t1 t2 (p .row-free)) (added-is (graph s) t1 t2 (shown-live (s .vertices) (s .made) t1 (h .source-made) (p .not-finished)))))
     (h .adds)
   where
@@ -127,10 +133,10 @@ module _ (Free : (ℕ → ℕ → Bool) → Type 0) where
       }
 
   -- the rule of a command that is taken, with "cycle-free" left open
-  pub rule-of : (c : Command) (s : Lent) → Taken c s → Free (graph (leaves c s) .edge) → Rule Free c (graph s) (graph (leaves c s))
-  rule-of (NewTd t place scope) s h free = (s .made, newTd-rule s t place scope h)
-  rule-of (NewEdge t t1 t2) s h free = newEdge-rule s t t1 t2 h free
-  rule-of (Release t t') s h free = release-rule s t t' h
-  rule-of (Transfer t t') s h free = transfer-rule s t t' h free
-  rule-of (Start t) s h free = start-rule s t h
-  rule-of (Stop t) s h free = stop-rule s t h
+  pub rule-of : (c : Command) (s : Lent) → ReadsTrue c s → Taken c s → Free (graph (leaves c s) .edge) → Rule Free c (graph s) (graph (leaves c s))
+  rule-of (NewTd t place scope) s reads h free = (s .made, newTd-rule s t place scope h)
+  rule-of (NewEdge t t1 t2) s reads h free = newEdge-rule s t t1 t2 h free
+  rule-of (Release t t') s reads h free = release-rule s t t' h
+  rule-of (Transfer t t') s reads h free = transfer-rule s t t' h free
+  rule-of (Start t) s reads h free = start-rule s t reads h
+  rule-of (Stop t) s reads h free = stop-rule s t h

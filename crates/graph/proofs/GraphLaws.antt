@@ -10,9 +10,9 @@ use lib.Dec.{ltb}
 use borrow.Author.Tests.{lt-ltb, le-ltb, ltb-true, ltb-false, eq-eqb, ne-eqb}
 use Rattle.graph.specs.Tables.{NEW, FINISHED, statusWord, vertexRows, status, setStatus}
 use Rattle.graph.specs.Rules.{N, put, isSome, isFinished}
-use Rattle.graph.specs.Commands.{newRow}
+use Rattle.graph.specs.Commands.{newRow, moreInto, lowered}
 use Rattle.graph.proofs.TestLaws.{decide, equal?, true-false}
-use Rattle.graph.proofs.TableLaws.{status-same, status-other, newRow-status, newRow-other}
+use Rattle.graph.proofs.TableLaws.{status-same, status-other, newRow-status, newRow-other, more-status, lowered-status}
 
 -- the status that the graph of a table with n vertices shows
 abbrev pub shown : List ℕ → ℕ → ℕ → Option ℕ
@@ -52,6 +52,13 @@ shown-over v n x lt q = ap isFinished (shown-made v n x lt) ∙ eq-eqb (status v
 
 pub shown-live : (v : List ℕ) (n x : ℕ) → x < n → (status v x ≡ FINISHED → ⊥) → isFinished (shown v n x) ≡ false
 shown-live v n x lt ne = ap isFinished (shown-made v n x lt) ∙ ne-eqb (status v x) FINISHED ne
+
+-- it does not follow the in-counts
+pub shown-more : (v : List ℕ) (n t x : ℕ) → shown (moreInto v t) n x ≡ shown v n x
+shown-more v n t x = ap (λ (y : ℕ). cond (ltb x n) (some y) none) (more-status v t x)
+
+pub shown-lowered : (v : List ℕ) (n t : ℕ) (e : List ℕ) (m x : ℕ) → shown (lowered t e v m) n x ≡ shown v n x
+shown-lowered v n t e m x = ap (λ (y : ℕ). cond (ltb x n) (some y) none) (lowered-status t e v m x)
 
 -- V[k ↦ o], at k and elsewhere
 put-same : (σ : ℕ → Option ℕ) (o : Option ℕ) (k : ℕ) → put σ k o k ≡ o

@@ -11,8 +11,8 @@ use Rattle.graph.specs.Tables.{Lent, RELEASED, EXECUTING, FINISHED, stat
 use Rattle.graph.specs.Commands.{withStatus, withVertex, withEdge, withMoved, stopped, newRow}
 use Rattle.graph.specs.Demand2.{NoneTwice}
 use Rattle.graph.proofs.TestLaws.{equal?, true-false}
-use Rattle.graph.proofs.TableLaws.{status-same, status-other, length-newRow, newRow-status, newRow-other, length-appended}
-use Rattle.graph.proofs.TableLaws.{length-moved, keptRows-le, length-without}
+use Rattle.graph.proofs.TableLaws.{status-same, status-other, length-newRow, newRow-status, newRow-other, length-appended, length-more}
+use Rattle.graph.proofs.TableLaws.{more-status, length-moved, keptRows-le, length-without, length-lowered, lowered-status}
 use Rattle.graph.proofs.EdgeLaws.{none-out-of, appended-is, moved-is, without-is, appended-once, moved-once, without-once}
 use Rattle.graph.proofs.SoundLaws.{Known, Fits, sound-fits}
 use Rattle.graph.proofs.TakenLaws.{leaves, Taken}
@@ -60,9 +60,9 @@ withEdge-fits : (s : Lent) (t1 t2 : ℕ) → t1 < s .made → t2 < s .made → s
 unfolding withEdge
 withEdge-fits s t1 t2 l1 l2 lt f =
     record {
-      vertices-fit = f .vertices-fit;
+      vertices-fit = rw length-more (f .vertices-fit);
       edges-fit = rw length-appended (omega arith);
-      statuses-known = f .statuses-known;
+      statuses-known = λ k lk. rw more-status (f .statuses-known k lk);
       ends-made =
           λ a b h.
           ⊎-elim
@@ -90,25 +90,25 @@ stopped-fits : (s : Lent) (t : ℕ) → t < s .made → Fits s → Fits (stopped
 unfolding stopped
 stopped-fits s t lt f =
     record {
-      vertices-fit = rw length-set (f .vertices-fit);
+      vertices-fit = rw (length-lowered, length-set) (f .vertices-fit);
       edges-fit = rw (length-without t (s .edges) (s .held) (f .edges-fit)) (omega (arith, keptRows-le t (s .edges) (s .held), f .edges-fit));
-      statuses-known = set-known (s .vertices) (s .made) t FINISHED lt (f .vertices-fit) (omega arith) (f .statuses-known);
+      statuses-known =
+          λ k lk. rw lowered-status (set-known (s .vertices) (s .made) t FINISHED lt (f .vertices-fit) (omega arith) (f .statuses-known) k lk);
       ends-made = λ a b h. f .ends-made a b (without-is t (s .edges) (s .held) a b .0 h .0);
     }
 
 -- sound tables stay sound
-pub leaves-fits : (c : Command) (s : Lent) → Taken c s → Fits (leaves c s)
-leaves-fits (NewTd t place scope) s h = withVertex-fits s t place scope (h .1) (sound-fits s (h .0 .known))
-leaves-fits (NewEdge t t1 t2) s h =
+pub leaves-fits : (c : Command) (s : Lent) → Fits s → Taken c s → Fits (leaves c s)
+leaves-fits (NewTd t place scope) s f h = withVertex-fits s t place scope (h .1) f
+leaves-fits (NewEdge t t1 t2) s f h =
     ⊎-elim
-    (λ p. rw (leaves-all s t t1 t2 p) (sound-fits s (h .0 .known)))
-    (λ p. rw (leaves-edge s t t1 t2 p)
-    (withEdge-fits s t1 t2 (h .1 .source-made) (h .1 .target-made) (p .row-free) (sound-fits s (h .0 .known))))
+    (λ p. rw (leaves-all s t t1 t2 p) f)
+    (λ p. rw (leaves-edge s t t1 t2 p) (withEdge-fits s t1 t2 (h .1 .source-made) (h .1 .target-made) (p .row-free) f))
     (h .1 .adds)
-leaves-fits (Release t t') s h = withStatus-fits s t' RELEASED (h .1) (omega arith) (sound-fits s (h .0 .known))
-leaves-fits (Transfer t t') s h = withMoved-fits s t t' (h .1 .is-made) (sound-fits s (h .0 .known))
-leaves-fits (Start t) s h = withStatus-fits s t EXECUTING (h .1) (omega arith) (sound-fits s (h .0))
-leaves-fits (Stop t) s h = stopped-fits s t (h .is-made) (sound-fits s (h .known))
+leaves-fits (Release t t') s f h = withStatus-fits s t' RELEASED (h .1) (omega arith) f
+leaves-fits (Transfer t t') s f h = withMoved-fits s t t' (h .1 .is-made) f
+leaves-fits (Start t) s f h = withStatus-fits s t EXECUTING (h .1) (omega arith) f
+leaves-fits (Stop t) s f h = stopped-fits s t (h .is-made) f
 
 -- no edge comes to be held twice
 pub leaves-once : (c : Command) (s : Lent) → Taken c s → NoneTwice (s .edges) (s .held) → NoneTwice (leaves c s .edges) (leaves c s .held)

@@ -5,6 +5,7 @@
 --     RefusalLaws  chains of refusals, and the outcome that they decide
 --     TableLaws    what stands at a place of a table after an update
 --     EdgeLaws     the set of the held edges after an update, and edges held twice
+--     CountLaws    how many edges lead into a vertex after an update, and its in-count
 --     SoundLaws    sound tables, in words of numbers
 --     TakenLaws    when a command is taken: what its chain of tests finds
 --     RuleLaws     the sets of edges that the rules write down
@@ -18,6 +19,7 @@
 --     Demand2      demand 2 of a single command
 --     Reasons      each refusal of a command: given exactly where its reason holds and none before it does
 --     OpeningLaws    the opening: where it is refused, and what it leaves alone
+--     InCounts     every command keeps the in-counts true, and start answers by them as the full search would
 -- What the proofs of the code use besides:
 --     ClearLaws    clearing words one by one
 --     SoundChecks  what each look at the tables tells of refusal 12
@@ -33,6 +35,7 @@ pub mod PathLaws
 pub mod RefusalLaws
 pub mod TableLaws
 pub mod EdgeLaws
+pub mod CountLaws
 pub mod SoundLaws
 pub mod TakenLaws
 pub mod RuleLaws
@@ -45,6 +48,7 @@ pub mod AcceptLaws
 pub mod Demand2
 pub mod Reasons
 pub mod OpeningLaws
+pub mod InCounts
 pub mod ClearLaws
 pub mod SoundChecks
 pub mod EdgeLoops

@@ -7,6 +7,7 @@
 --     command-accepted   accepted: no refusal is due
 --     newEdge-cycle      35 of newEdge: nothing before it holds, and t1 is t2 or a path leads from t2 to t1
 --     transfer-cycle     35 of transfer: nothing before it holds, and some target of t is t' or a path leads from it to t'
+--     start-edge-in      21 of start, where its word is true: nothing before it holds, and an edge leads into t
 use Prim.Native.Nat.{ℕ, suc, _<_, _≤_}
 use mathlib.Core.Path.{_≡_, refl, sym, _∙_, subst}
 use mathlib.Core.Logic.{_⊎_, inl, inr, ⊎-elim, _↔_}
@@ -17,19 +18,21 @@ use borrow.Author.Tests.{ltb-true, ltb-false, le-ltb, leb-false, lt-leb, eqb-tru
 use Rattle.graph.specs.declared.Command.{Command}
 use Rattle.graph.specs.declared.Command.the-variants.{NewTd, NewEdge, Release, Transfer, Start, Stop}
 use Rattle.graph.specs.Tests.{both, either, any, every}
-use Rattle.graph.specs.Tables.{Lent, NEW, RELEASED, EXECUTING, FINISHED, status}
-use Rattle.refusal.specs.Refusals.{closes-cycle, unsound-tables, no-such-vertex, caller-not-executing}
+use Rattle.graph.specs.Tables.{Lent, NEW, RELEASED, EXECUTING, FINISHED, status, inCount}
+use Rattle.refusal.specs.Refusals.{edge-leads-in, closes-cycle, unsound-tables, no-such-vertex, caller-not-executing}
 use Rattle.graph.specs.Answers.{CommandSaid, accepted, unless}
 use Rattle.graph.specs.Sound.{tallyFits, statusKnown, statusesKnown, endsMade, edgesMade, sound}
 use Rattle.graph.specs.Paths.{leadsInto, leadsOutOf, reaches}
 use Rattle.graph.specs.Commands.{isMade, targetReaches, callerRefusal, newTdRefusal, endsRefusal, appendRefusal, newEdgeRefusal}
 use Rattle.graph.specs.Commands.{releaseRefusal, transferRefusal, startRefusal, stopRefusal, command}
+use Rattle.graph.specs.InCounts.{CountTrue}
 use Rattle.graph.specs.Demand2.{Reasons, no-more, refused-where, accepted-where, RefusalDue, NoneDue, NoneBefore, reasons}
-use Rattle.graph.specs.Demand2.{Unsound, HasStatus, EdgeOutOf, EdgeInto, NewEdgeCycle, TransferCycle}
-use Rattle.graph.proofs.TestLaws.{true-false, equal?, not-of-true, both-true, both-left, both-right, either-left, either-right}
+use Rattle.graph.specs.Demand2.{TallyOver, OutsideAt, Unsound, HasStatus, EdgeOutOf, EdgeInto, NewEdgeCycle, TransferCycle}
+use Rattle.graph.proofs.TestLaws.{true-false, decide, equal?, not-of-true, both-true, both-left, both-right, either-left, either-right}
 use Rattle.graph.proofs.TestLaws.{either-cases, either-false, either-false-left, either-false-right}
 use Rattle.graph.proofs.TestLaws.{any-found, any-at, every-found, every-stop}
 use Rattle.graph.proofs.PathLaws.{reaches-decides}
+use Rattle.graph.proofs.EdgeLaws.{into-counted}
 use Rattle.graph.proofs.SoundLaws.{Known, sound-fits}
 use Rattle.graph.proofs.TakenLaws.{refusal, not-refused, is-accepted, answer-refused, adds-nothing}
 
@@ -129,12 +132,20 @@ every-fails {p} n d = (
 pub over-decides : (a b : ℕ) → (leb a b ≡ false) ↔ (b < a)
 over-decides a b = (leb-false a b, lt-leb a b)
 
+tally-decides : (s : Lent) → (tallyFits (s .vertices) (s .edges) (s .made) (s .held) ≡ false) ↔ TallyOver s
+unfolding tallyFits
+tally-decides s = both-fails (over-decides _ _) (over-decides _ _)
+
+outside-decides : (s : Lent) (x : ℕ) → (statusKnown (s .vertices) x ≡ false) ↔ OutsideAt s x
+unfolding statusKnown
+outside-decides s x = both-fails (over-decides NEW _) (over-decides _ FINISHED)
+
 pub unsound-decides : (s : Lent) → (sound s ≡ false) ↔ Unsound s
-unfolding sound tallyFits statusKnown statusesKnown endsMade edgesMade
+unfolding sound statusesKnown endsMade edgesMade
 unsound-decides s =
-    both-fails (both-fails (over-decides _ _) (over-decides _ _))
+    both-fails (tally-decides s)
     (both-fails
-    (every-fails (s .made) (λ x. both-fails (over-decides NEW _) (over-decides _ FINISHED)))
+    (every-fails (s .made) (outside-decides s))
     (every-fails (s .held) (λ i. both-fails (full-decides _ _) (full-decides _ _))))
 
 -- a known status that is neither new nor released is executing or finished
@@ -212,13 +223,14 @@ refusal-tells (Transfer t t') s =
     refuses (negated (transfer-decides s t t')) (λ no-path.
     ends))))
 refusal-tells (Start t) s =
-    refuses (unsound-decides s) (λ known.
+    refuses (tally-decides s) (λ fits.
     refuses (full-decides t _) (λ made.
+    refuses (outside-decides s t) (λ known.
     refuses (negated (eq-decides _ NEW)) (λ not-new.
     refuses (negated (eq-decides _ EXECUTING)) (λ not-executing.
     refuses (negated (eq-decides _ FINISHED)) (λ not-finished.
-    refuses (negated (into-decides s t)) (λ none-in.
-    ends))))))
+    refuses (ne-decides _ 0) (λ none-in.
+    ends)))))))
 refusal-tells (Stop t) s =
     let made = full-decides t (s .made) in
     caller-tells s t t t (both-same made (both-same made made)) (λ known. ends)
@@ -270,7 +282,7 @@ never-34 c s p h = never-due 34 (reasons c s) (without c) (command-refused c s 3
     without (NewEdge t t1 t2) = (omega arith, (omega arith, (omega arith, (omega arith, (omega arith, (omega arith, tt))))))
     without (Release t t') = (omega arith, (omega arith, (omega arith, (omega arith, tt))))
     without (Transfer t t') = (omega arith, (omega arith, (omega arith, (omega arith, (omega arith, (omega arith, tt))))))
-    without (Start t) = (omega arith, (omega arith, (omega arith, (omega arith, (omega arith, (omega arith, tt))))))
+    without (Start t) = (omega arith, (omega arith, (omega arith, (omega arith, (omega arith, (omega arith, (omega arith, tt)))))))
     without (Stop t) = (omega arith, (omega arith, (omega arith, tt)))
 
 -- A command is accepted exactly where no refusal is due.
@@ -332,3 +344,31 @@ pub transfer-cycle :
 transfer-cycle s t t' =
     refused-only (Transfer t t') s closes-cycle
     (behind (omega arith) (behind (omega arith) (behind (omega arith) (behind (omega arith) (behind (omega arith) (here (λ q. q)))))))
+
+-- where the word is true, it is 0 exactly if no edge leads in
+counted-decides : (s : Lent) (t : ℕ) → CountTrue s t → (inCount (s .vertices) t ≡ 0 → ⊥) ↔ EdgeInto s t
+counted-decides s t counted = (
+  λ h.
+      ⊎-elim
+      (into-decides s t .0)
+      (λ q. absurd (h (counted ∙ into-counted (s .edges) (s .held) t .1 q)))
+      (decide (leadsInto (s .edges) (s .held) t)),
+  λ h z. true-false (into-decides s t .1 h) (into-counted (s .edges) (s .held) t .0 (sym counted ∙ z)),
+)
+
+-- "Start reads that word and answers as the full search would" (note 6).
+pub start-edge-in :
+    (s : Lent) (t : ℕ) → CountTrue s t
+    → (command (Start t) s .answer ≡ CommandSaid.refused edge-leads-in 0)
+    ↔ (NoneBefore edge-leads-in (reasons (Start t) s) × EdgeInto s t)
+start-edge-in s t counted =
+    let into = counted-decides s t counted in
+    (λ h. let (before, q) = by-word .0 h in (before, into .0 q), λ h. by-word .1 (h .0, into .1 (h .1)))
+  where
+    by-word :
+        (command (Start t) s .answer ≡ CommandSaid.refused edge-leads-in 0)
+        ↔ (NoneBefore edge-leads-in (reasons (Start t) s) × (inCount (s .vertices) t ≡ 0 → ⊥))
+    by-word =
+        refused-only (Start t) s edge-leads-in
+        (behind (omega arith)
+        (behind (omega arith) (behind (omega arith) (behind (omega arith) (behind (omega arith) (behind (omega arith) (here (λ q. q))))))))

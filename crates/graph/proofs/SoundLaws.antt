@@ -18,6 +18,11 @@ pub record Fits (s : Lent) : Type 0 where
   pub statuses-known : (k : ℕ) → k < s .made → Known (status (s .vertices) k)
   pub ends-made : (a b : ℕ) → holds (s .edges) (s .held) a b ≡ true → (a < s .made) × (b < s .made)
 
+-- the part of it that start looks at
+pub sound-tally : (s : Lent) → sound s ≡ true → tallyFits (s .vertices) (s .edges) (s .made) (s .held) ≡ true
+unfolding sound
+sound-tally s h = both-left _ _ h
+
 pub sound-fits : (s : Lent) → sound s ≡ true → Fits s
 unfolding sound tallyFits statusKnown statusesKnown endsMade edgesMade
 sound-fits s h =

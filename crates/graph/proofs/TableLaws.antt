@@ -10,9 +10,11 @@ use lib.ListN.{length, getD, set, drop, replicate, length-set, length-append, le
 use lib.Seq.{getD-set-same, getD-set-other, getD-append-add, getD-drop}
 use lib.Dec.{eqb, ltb}
 use borrow.Author.Tests.{eq-eqb, ne-eqb, ltb-true, ltb-false}
-use Rattle.graph.specs.Tables.{NEW, vertexWords, edgeWords, statusWord, placeWord, scopeWord, futureWord, sourceWord, targetWord}
-use Rattle.graph.specs.Tables.{vertexRows, edgeRows, vertexWord, edgeWord, status, setStatus, setVertexWord, setEdgeWord, source, target, clear}
-use Rattle.graph.specs.Commands.{newRow, appended, movedRow, moved, keptRows, kept, withoutEdgesOf}
+use Rattle.graph.specs.Tables.{NEW, vertexWords, edgeWords, statusWord, placeWord, scopeWord, futureWord, inCountWord, sourceWord, targetWord}
+use Rattle.graph.specs.Tables.{vertexRows, edgeRows, vertexWord, edgeWord, status, inCount, setStatus, setVertexWord, setEdgeWord}
+use Rattle.graph.specs.Tables.{source, target, clear}
+use Rattle.graph.specs.Commands.{newRow, appended, oneMore, moreInto, lessInto, movedRow, moved, keptRows, kept, withoutEdgesOf}
+use Rattle.graph.specs.Commands.{loweredRow, lowered}
 use Rattle.graph.proofs.TestLaws.{decide, equal?}
 
 -- a word of a usable row is a word of the table
@@ -36,6 +38,11 @@ status-same v k x lt = getD-set-same v (vertexWords * k + statusWord) x 0 (verte
 pub status-other : (v : List ℕ) (k x y : ℕ) → (y ≡ k → ⊥) → status (setStatus v k x) y ≡ status v y
 status-other v k x y ne =
     getD-set-other v (vertexWords * k + statusWord) (vertexWords * y + statusWord) x 0 (vertex-apart y k statusWord statusWord (omega arith) (omega arith) ne)
+
+-- where a word of a row is set, the other words of every row stay
+pub word-other :
+    (v : List ℕ) (k u x y w : ℕ) → u < vertexWords → w < vertexWords → (w ≡ u → ⊥) → vertexWord (setVertexWord v k u x) y w ≡ vertexWord v y w
+word-other v k u x y w lu lw ne = getD-set-other v (vertexWords * k + u) (vertexWords * y + w) x 0 (λ q. ne (omega arith))
 
 -- clearing
 pub length-clear : (l : List ℕ) (from n : ℕ) → length (clear l from n) ≡ length l
@@ -140,6 +147,59 @@ module _ (v : List ℕ) (k place scope future : ℕ) where
   newRow-zero w lw ns np nc nf =
       newRow-word (vertexWords * k + w) (λ q. ns (omega arith)) (λ q. np (omega arith)) (λ q. nc (omega arith)) (λ q. nf (omega arith))
       ∙ clear-in v (vertexWords * k) vertexWords (vertexWords * k + w) (omega arith) (omega arith)
+
+-- the in-count of t set to x
+module _ (v : List ℕ) (t x : ℕ) where
+  count-same : vertexWords * t + vertexWords ≤ length v → inCount (setVertexWord v t inCountWord x) t ≡ x
+  count-same room = getD-set-same v (vertexWords * t + inCountWord) x 0 (omega arith)
+
+  count-other : (k : ℕ) → (k ≡ t → ⊥) → inCount (setVertexWord v t inCountWord x) k ≡ inCount v k
+  count-other k ne =
+      getD-set-other v (vertexWords * t + inCountWord) (vertexWords * k + inCountWord) x 0
+      (vertex-apart k t inCountWord inCountWord (omega arith) (omega arith) ne)
+
+-- one edge more into t
+module _ (v : List ℕ) (t : ℕ) where
+  pub length-more : length (moreInto v t) ≡ length v
+  unfolding moreInto
+  length-more = length-set v (vertexWords * t + inCountWord) (oneMore (inCount v t))
+
+  pub more-out : (i : ℕ) → (i ≡ vertexWords * t + inCountWord → ⊥) → getD (moreInto v t) i 0 ≡ getD v i 0
+  unfolding moreInto
+  more-out i ne = getD-set-other v (vertexWords * t + inCountWord) i (oneMore (inCount v t)) 0 ne
+
+  pub more-word : (k w : ℕ) → w < vertexWords → (w ≡ inCountWord → ⊥) → vertexWord (moreInto v t) k w ≡ vertexWord v k w
+  unfolding moreInto
+  more-word k w lw ne = word-other v t inCountWord (oneMore (inCount v t)) k w (omega arith) lw ne
+
+  pub more-status : (k : ℕ) → status (moreInto v t) k ≡ status v k
+  more-status k = more-word k statusWord (omega arith) (omega arith)
+
+  pub more-same : vertexWords * t + vertexWords ≤ length v → inCount (moreInto v t) t ≡ oneMore (inCount v t)
+  unfolding moreInto
+  more-same = count-same v t (oneMore (inCount v t))
+
+  pub more-other : (k : ℕ) → (k ≡ t → ⊥) → inCount (moreInto v t) k ≡ inCount v k
+  unfolding moreInto
+  more-other = count-other v t (oneMore (inCount v t))
+
+-- one edge less
+module _ (v : List ℕ) (t : ℕ) where
+  pub length-less : length (lessInto v t) ≡ length v
+  unfolding lessInto
+  length-less = length-set v (vertexWords * t + inCountWord) (inCount v t - 1)
+
+  pub less-out : (i : ℕ) → (i ≡ vertexWords * t + inCountWord → ⊥) → getD (lessInto v t) i 0 ≡ getD v i 0
+  unfolding lessInto
+  less-out i ne = getD-set-other v (vertexWords * t + inCountWord) i (inCount v t - 1) 0 ne
+
+  pub less-same : vertexWords * t + vertexWords ≤ length v → inCount (lessInto v t) t ≡ inCount v t - 1
+  unfolding lessInto
+  less-same = count-same v t (inCount v t - 1)
+
+  pub less-other : (k : ℕ) → (k ≡ t → ⊥) → inCount (lessInto v t) k ≡ inCount v k
+  unfolding lessInto
+  less-other = count-other v t (inCount v t - 1)
 
 -- the row that newEdge appends
 module _ (e : List ℕ) (n a b : ℕ) where
@@ -318,3 +378,38 @@ module _ (t : ℕ) (e : List ℕ) where
       (i - edgeWords * n) (rw length-replicate (omega arith))
       ∙ getD-drop (edgeWords * n) e (i - edgeWords * n) 0
       ∙ ap (λ (x : ℕ). getD e x 0) (omega arith)
+
+-- the in-counts that a stop lowers
+module _ (t : ℕ) (e v : List ℕ) where
+  pub lowered-drop : (n : ℕ) → source e n ≡ t → lowered t e v (suc n) ≡ lessInto (lowered t e v n) (target e n)
+  unfolding lowered loweredRow
+  lowered-drop n q = rw (eq-eqb (source e n) t q) refl
+
+  pub lowered-keep : (n : ℕ) → (source e n ≡ t → ⊥) → lowered t e v (suc n) ≡ lowered t e v n
+  unfolding lowered loweredRow
+  lowered-keep n ne = rw (ne-eqb (source e n) t ne) refl
+
+  pub length-lowered : (n : ℕ) → length (lowered t e v n) ≡ length v
+  length-lowered zero = unfold lowered in refl
+  length-lowered (suc n) =
+      ⊎-elim
+      (λ q. rw (lowered-drop n q) (length-less (lowered t e v n) (target e n) ∙ length-lowered n))
+      (λ ne. rw (lowered-keep n ne) (length-lowered n))
+      (equal? (source e n) t)
+
+  -- no word changes but the in-counts of the targets of the dropped rows
+  pub lowered-out :
+      (n i : ℕ) → ((j : ℕ) × (j < n) × (source e j ≡ t) × (i ≡ vertexWords * target e j + inCountWord) → ⊥) → getD (lowered t e v n) i 0 ≡ getD v i 0
+  lowered-out zero i f = unfold lowered in refl
+  lowered-out (suc n) i f =
+      let before = lowered-out n i (λ q. f (q .0, omega arith, q .2, q .3)) in
+      ⊎-elim
+      (λ q. rw (lowered-drop n q) (less-out (lowered t e v n) (target e n) i (λ r. f (n, omega arith, q, r)) ∙ before))
+      (λ ne. rw (lowered-keep n ne) before)
+      (equal? (source e n) t)
+
+  pub lowered-word : (n k w : ℕ) → w < vertexWords → (w ≡ inCountWord → ⊥) → vertexWord (lowered t e v n) k w ≡ vertexWord v k w
+  lowered-word n k w lw ne = lowered-out n (vertexWords * k + w) (λ q. let r = q .3 in ne (omega arith))
+
+  pub lowered-status : (n k : ℕ) → status (lowered t e v n) k ≡ status v k
+  lowered-status n k = lowered-word n k statusWord (omega arith) (omega arith)

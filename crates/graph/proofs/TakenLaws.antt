@@ -1,28 +1,30 @@
 -- When a command is taken. Each of the six is decided by its chain of refusals, and the chain gives 0 exactly if the facts of
 -- `Taken` hold, which say what the tests find in words of numbers and paths.
-use Prim.Native.Nat.{ℕ, _<_}
+use Prim.Native.Nat.{ℕ, _<_, _≤_}
 use mathlib.Core.Path.{_≡_, refl, _∙_, ap}
 use mathlib.Core.Logic.{_⊎_, inl, inr, ⊎-elim, _↔_}
 use mathlib.Core.Bool.{Bool, true, false, cond}
 use mathlib.Core.List.{List}
 use native.Mathlib.Omega.{arith}
 use lib.Dec.{eqb}
-use borrow.Author.Tests.{lt-ltb, ltb-true, eq-eqb, ne-eqb, eqb-true, eqb-false, not-true}
+use borrow.Author.Tests.{lt-ltb, ltb-true, le-leb, leb-true, eq-eqb, ne-eqb, eqb-true, eqb-false, not-true}
 use Rattle.graph.specs.declared.Command.{Command}
 use Rattle.graph.specs.declared.Command.the-variants.{NewTd, NewEdge, Release, Transfer, Start, Stop}
-use Rattle.graph.specs.Tables.{Lent, NEW, RELEASED, EXECUTING, FINISHED, vertexRows, edgeRows, status}
+use Rattle.graph.specs.Tables.{Lent, NEW, RELEASED, EXECUTING, FINISHED, vertexRows, edgeRows, status, inCount}
 use Rattle.refusal.specs.Refusals.{unsound-tables}
 use Rattle.graph.specs.Answers.{CommandSaid, accepted, decided}
-use Rattle.graph.specs.Sound.{sound}
-use Rattle.graph.specs.Paths.{holds, leadsInto, leadsOutOf, reaches}
+use Rattle.graph.specs.Sound.{tallyFits, statusKnown, sound}
+use Rattle.graph.specs.Paths.{holds, leadsOutOf, reaches}
 use Rattle.graph.specs.Commands.{withStatus, withVertex, withEdge, withMoved, stopped, callerRefusal, newTdRefusal, endsRefusal}
 use Rattle.graph.specs.Commands.{addsNothing, appendRefusal, newEdgeRefusal, releaseRefusal, transferRefusal, startRefusal, stopRefusal}
 use Rattle.graph.specs.Commands.{targetReaches, newTd, newEdge, release, transfer, start, stop, command}
 use Rattle.graph.specs.Demand2.{AddsNothing, RowFree}
-use Rattle.graph.proofs.TestLaws.{both-true, both-left, both-right, either-cases, either-left, either-right, either-false}
+use Rattle.graph.specs.Internal.Checks.{isStart}
+use Rattle.graph.proofs.TestLaws.{true-false, both-true, both-left, both-right, either-cases, either-left, either-right, either-false}
 use Rattle.graph.proofs.TestLaws.{either-false-left, either-false-right, not-of-false}
 use Rattle.graph.proofs.EdgeLaws.{held-decides}
 use Rattle.graph.proofs.SoundLaws.{Known, sound-fits}
+use Rattle.graph.proofs.SoundChecks.{fits-rows}
 use Rattle.graph.proofs.RefusalLaws.{unless-stop, unless-none, unless-all, decided-taken, decided-is, decided-keeps, decided-refused, decided-either}
 
 -- a command in its three parts: the refusal due, what it says and what it leaves if none is due
@@ -93,19 +95,21 @@ answer-refused c s n p = rw (command-is c s) (decided-refused s (refusal c s) (s
 pub after-either : (P : Lent → Type 0) (c : Command) (s : Lent) → P s → (refusal c s ≡ 0 → P (leaves c s)) → P (command c s .after)
 after-either P c s p q = rw (command-is c s) (decided-either P s (refusal c s) (says c s) (leaves c s) p q)
 
--- unsound tables refuse every command first of all
-unsound-refusal : (c : Command) (s : Lent) → sound s ≡ false → refusal c s ≡ unsound-tables
-unfolding callerRefusal newTdRefusal endsRefusal newEdgeRefusal releaseRefusal transferRefusal startRefusal stopRefusal
-unsound-refusal (NewTd t place scope) s h = unless-stop _ _ h
-unsound-refusal (NewEdge t t1 t2) s h = unless-stop _ _ h
-unsound-refusal (Release t t') s h = unless-stop _ _ h
-unsound-refusal (Transfer t t') s h = unless-stop _ _ h
-unsound-refusal (Start t) s h = unless-stop _ _ h
-unsound-refusal (Stop t) s h = unless-stop _ _ h
+-- unsound tables refuse every command but start first of all
+unsound-refusal : (c : Command) (s : Lent) → isStart c ≡ false → sound s ≡ false → refusal c s ≡ unsound-tables
+unfolding callerRefusal newTdRefusal endsRefusal newEdgeRefusal releaseRefusal transferRefusal stopRefusal isStart
+unsound-refusal (NewTd t place scope) s other h = unless-stop _ _ h
+unsound-refusal (NewEdge t t1 t2) s other h = unless-stop _ _ h
+unsound-refusal (Release t t') s other h = unless-stop _ _ h
+unsound-refusal (Transfer t t') s other h = unless-stop _ _ h
+unsound-refusal (Start t) s other h = true-false refl other
+unsound-refusal (Stop t) s other h = unless-stop _ _ h
 
-pub unsound : (c : Command) (s : Lent) → sound s ≡ false → command c s ≡ record { answer = CommandSaid.refused unsound-tables 0; after = s }
+pub unsound :
+    (c : Command) (s : Lent) → isStart c ≡ false → sound s ≡ false
+    → command c s ≡ record { answer = CommandSaid.refused unsound-tables 0; after = s }
 unfolding decided
-unsound c s h = command-is c s ∙ ap (λ (n : ℕ). decided s n (says c s) (leaves c s)) (unsound-refusal c s h)
+unsound c s other h = command-is c s ∙ ap (λ (n : ℕ). decided s n (says c s) (leaves c s)) (unsound-refusal c s other h)
 
 -- the caller is a made vertex that is executing
 pub record Runs (s : Lent) (t : ℕ) : Type 0 where
@@ -133,12 +137,20 @@ pub record TakenTransfer (s : Lent) (t t' : ℕ) : Type 0 where
   pub no-edge-out : leadsOutOf (s .edges) (s .held) t' ≡ false
   pub no-path : targetReaches (s .edges) (s .held) t t' ≡ false
 
+-- start looks at the tally and at the row of t
+abbrev pub TakenStart : Lent → ℕ → Type 0
+TakenStart s t =
+    (tallyFits (s .vertices) (s .edges) (s .made) (s .held) ≡ true)
+    × (t < s .made)
+    × (status (s .vertices) t ≡ RELEASED)
+    × (inCount (s .vertices) t ≡ 0)
+
 abbrev pub Taken : Command → Lent → Type 0
 Taken (NewTd t place scope) s = Runs s t × (s .made < vertexRows (s .vertices))
 Taken (NewEdge t t1 t2) s = Runs s t × TakenNewEdge s t1 t2
 Taken (Release t t') s = Runs s t × (t' < s .made) × (status (s .vertices) t' ≡ NEW)
 Taken (Transfer t t') s = Runs s t × TakenTransfer s t t'
-Taken (Start t) s = (sound s ≡ true) × (t < s .made) × (status (s .vertices) t ≡ RELEASED) × (leadsInto (s .edges) (s .held) t ≡ false)
+Taken (Start t) s = TakenStart s t
 Taken (Stop t) s = Runs s t
 
 -- each chain, taken apart into its tests and put together again; first the refusals that begin the chain of a caller
@@ -285,30 +297,36 @@ taken-transfer s t t' = (
 only-released : (x : ℕ) → Known x → eqb x NEW ≡ false → eqb x EXECUTING ≡ false → eqb x FINISHED ≡ false → x ≡ RELEASED
 only-released x known new runs over = omega (arith, eqb-false x NEW new, eqb-false x EXECUTING runs, eqb-false x FINISHED over)
 
-taken-start :
-    (s : Lent) (t : ℕ)
-    → (startRefusal s t ≡ 0) ↔ ((sound s ≡ true) × (t < s .made) × (status (s .vertices) t ≡ RELEASED) × (leadsInto (s .edges) (s .held) t ≡ false))
+known-status : (v : List ℕ) (k : ℕ) → (statusKnown v k ≡ true) ↔ Known (status v k)
+unfolding statusKnown
+known-status v k = (
+  λ h. (leb-true _ _ (both-left _ _ h), leb-true _ _ (both-right _ _ h)),
+  λ h. both-true (le-leb _ _ (h .0)) (le-leb _ _ (h .1)),
+)
+
+taken-start : (s : Lent) (t : ℕ) → (startRefusal s t ≡ 0) ↔ TakenStart s t
 unfolding startRefusal
 taken-start s t = (
   λ h.
-      let (known, h1) = unless-none _ _ _ h in
+      let (fits, h1) = unless-none _ _ _ h in
       let (made, h2) = unless-none _ _ _ h1 in
-      let (new, h3) = unless-none _ _ _ h2 in
-      let (runs, h4) = unless-none _ _ _ h3 in
-      let (over, h5) = unless-none _ _ _ h4 in
-      let (into, h6) = unless-none _ _ _ h5 in
-      let is-made : t < s .made = ltb-true _ _ made in (
-        known,
-        is-made,
-        only-released _ (sound-fits s known .statuses-known t is-made) (not-true _ new) (not-true _ runs) (not-true _ over),
-        not-true _ into,
+      let (known, h3) = unless-none _ _ _ h2 in
+      let (new, h4) = unless-none _ _ _ h3 in
+      let (runs, h5) = unless-none _ _ _ h4 in
+      let (over, h6) = unless-none _ _ _ h5 in
+      let (none, h7) = unless-none _ _ _ h6 in (
+        fits,
+        ltb-true _ _ made,
+        only-released _ (known-status (s .vertices) t .0 known) (not-true _ new) (not-true _ runs) (not-true _ over),
+        eqb-true _ _ none,
       ),
   λ h.
       unless-all _ (h .0)
       (unless-all _ (lt-ltb _ _ (h .1))
+      (unless-all _ (known-status (s .vertices) t .1 (omega (arith, h .2)))
       (unless-all _ (not-of-false (ne-eqb (status (s .vertices) t) NEW (omega (arith, h .2))))
       (unless-all _ (not-of-false (ne-eqb (status (s .vertices) t) EXECUTING (omega (arith, h .2))))
-      (unless-all _ (not-of-false (ne-eqb (status (s .vertices) t) FINISHED (omega (arith, h .2)))) (unless-all _ (not-of-false (h .3)) refl))))),
+      (unless-all _ (not-of-false (ne-eqb (status (s .vertices) t) FINISHED (omega (arith, h .2)))) (unless-all _ (eq-eqb _ _ (h .3)) refl)))))),
 )
 
 taken-stop : (s : Lent) (t : ℕ) → (stopRefusal s t ≡ 0) ↔ Runs s t
@@ -332,11 +350,14 @@ row-free-of (Transfer t t') s h = tt
 row-free-of (Start t) s h = tt
 row-free-of (Stop t) s h = tt
 
--- only sound tables take a command
-pub taken-sound : (c : Command) (s : Lent) → Taken c s → sound s ≡ true
-taken-sound (NewTd t place scope) s h = h .0 .known
-taken-sound (NewEdge t t1 t2) s h = h .0 .known
-taken-sound (Release t t') s h = h .0 .known
-taken-sound (Transfer t t') s h = h .0 .known
-taken-sound (Start t) s h = h .0
-taken-sound (Stop t) s h = h .known
+-- the tally of tables that take a command fits the rows
+runs-rows : (s : Lent) (t : ℕ) → Runs s t → (s .made ≤ vertexRows (s .vertices)) × (s .held ≤ edgeRows (s .edges))
+runs-rows s t r = let f = sound-fits s (r .known) in (f .vertices-fit, f .edges-fit)
+
+pub taken-rows : (c : Command) (s : Lent) → Taken c s → (s .made ≤ vertexRows (s .vertices)) × (s .held ≤ edgeRows (s .edges))
+taken-rows (NewTd t place scope) s h = runs-rows s t (h .0)
+taken-rows (NewEdge t t1 t2) s h = runs-rows s t (h .0)
+taken-rows (Release t t') s h = runs-rows s t (h .0)
+taken-rows (Transfer t t') s h = runs-rows s t (h .0)
+taken-rows (Start t) s h = fits-rows _ _ _ _ (h .0)
+taken-rows (Stop t) s h = runs-rows s t h

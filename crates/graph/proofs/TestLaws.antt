@@ -1,14 +1,14 @@
 -- The laws of the connectives and of tests over the first n numbers. Proofs above use these and leave the tests shut.
 use Prim.Native.Nat.{ℕ, zero, suc, _+_, _<_, _≤_}
 use mathlib.Core.Path.{_≡_, refl, sym, _∙_, subst}
-use mathlib.Core.Bool.{Bool, true, false, not, _&&_}
-use mathlib.Core.Logic.{_⊎_, inl, inr, ⊎-elim}
+use mathlib.Core.Bool.{Bool, true, false, not, _&&_, cond}
+use mathlib.Core.Logic.{_⊎_, inl, inr, ⊎-elim, _↔_}
 use native.Mathlib.Nat.{eq-or-lt-of-le, le-of-suc-le-suc}
 use native.Mathlib.Numerals.{add-one}
 use native.Mathlib.Omega.{arith}
 use lib.Dec.{eqb}
 use borrow.Author.Tests.{eqb-true, eqb-false}
-use Rattle.graph.specs.Tests.{both, either, every, any}
+use Rattle.graph.specs.Tests.{both, either, every, any, howMany}
 
 pub true-false : {A : Type 0} {b : Bool} → b ≡ true → b ≡ false → A
 true-false {b} p q = absurd (let z : _≡_ {A = Bool} true false = sym p ∙ q in subst (λ (x : Bool). Is x) z tt)
@@ -195,3 +195,13 @@ any-more p n h q = rw add-one (either-false q h)
 
 pub any-end : (p : ℕ → Bool) (n i : ℕ) → i ≤ n → n ≤ i → any p i ≡ false → any p n ≡ false
 any-end p n i = at-end (λ k. any p k ≡ false)
+
+-- none of them holds exactly if it holds of none
+pub how-many-none : (p : ℕ → Bool) (n : ℕ) → (howMany p n ≡ 0) ↔ (any p n ≡ false)
+unfolding howMany any either
+how-many-none p zero = (λ h. refl, λ h. refl)
+how-many-none p (suc n) = go (p n) (how-many-none p n)
+  where
+    go : (b : Bool) → (howMany p n ≡ 0) ↔ (any p n ≡ false) → (howMany p n + cond b 1 0 ≡ 0) ↔ (either b (any p n) ≡ false)
+    go true ih = (λ h. absurd (omega arith), λ h. true-false refl h)
+    go false ih = (λ h. ih .0 (omega arith), λ h. let z = ih .1 h in omega arith)

@@ -1,10 +1,10 @@
 -- No other word: outside the words that a command may change, both tables and the count of steps are what they were.
 use Prim.Native.Nat.{ℕ, _+_, _*_, _/_, _<_, _≤_}
-use mathlib.Core.Path.{_≡_, refl}
+use mathlib.Core.Path.{_≡_, refl, _∙_}
 use mathlib.Core.Bool.{Bool, true, false, cond}
 use mathlib.Core.List.{List}
 use native.Mathlib.Omega.{arith}
-use mathlib.Core.Logic.{⊎-elim}
+use mathlib.Core.Logic.{inl, inr, ⊎-elim}
 use lib.ListN.{getD, length-set}
 use lib.Seq.{getD-set-other}
 use lib.Dec.{ltb}
@@ -17,9 +17,10 @@ use Rattle.graph.specs.Demand2.{VertexWordOf, EdgeWordOf, SameBut, NewRo
 use Rattle.graph.proofs.TestLaws.{true-false, decide, equal?}
 use Rattle.graph.proofs.TableLaws.{length-newRow, newRow-out, newRow-status, newRow-place, newRow-scope, newRow-future, newRow-zero}
 use Rattle.graph.proofs.TableLaws.{length-appended, appended-out, length-moved, moved-out, moved-rest, length-without, without-later}
+use Rattle.graph.proofs.TableLaws.{length-more, more-out, length-lowered, lowered-out}
 use Rattle.graph.proofs.TakenLaws.{leaves, Taken, adds-nothing}
 
-same-all : (P : ℕ → Type 0) (l : List ℕ) → SameBut P l l
+pub same-all : (P : ℕ → Type 0) (l : List ℕ) → SameBut P l l
 same-all P l = (refl, λ i f. refl)
 
 same-but-status : (v : List ℕ) (k x : ℕ) → SameBut (λ i. i ≡ vertexWords * k + statusWord) v (setStatus v k x)
@@ -44,15 +45,22 @@ moved-else t t' e n i le f =
 pub vertex-words-of : (c : Command) (s : Lent) → SameBut (VertexWordOf c s) (s .vertices) (leaves c s .vertices)
 unfolding withVertex withEdge withMoved stopped
 vertex-words-of (NewTd t place scope) s = (length-newRow (s .vertices) (s .made) place scope _, newRow-out (s .vertices) (s .made) place scope _)
-vertex-words-of (NewEdge t t1 t2) s = go (addsNothing s t1 t2)
+vertex-words-of (NewEdge t t1 t2) s = go (addsNothing s t1 t2) refl
   where
-    go : (b : Bool) → SameBut (λ i. ⊥) (s .vertices) (cond b s (withEdge s t1 t2) .vertices)
-    go true = same-all (λ i. ⊥) (s .vertices)
-    go false = same-all (λ i. ⊥) (s .vertices)
+    go : (b : Bool) → addsNothing s t1 t2 ≡ b → SameBut (VertexWordOf (NewEdge t t1 t2) s) (s .vertices) (cond b s (withEdge s t1 t2) .vertices)
+    go true q = same-all (VertexWordOf (NewEdge t t1 t2) s) (s .vertices)
+    go false q = (
+      length-more (s .vertices) t2,
+      λ i f. more-out (s .vertices) t2 i (λ r. f (λ n. true-false (adds-nothing s t1 t2 .1 n) q, r)),
+    )
 vertex-words-of (Release t t') s = same-but-status (s .vertices) t' RELEASED
 vertex-words-of (Transfer t t') s = same-all (λ i. ⊥) (s .vertices)
 vertex-words-of (Start t) s = same-but-status (s .vertices) t EXECUTING
-vertex-words-of (Stop t) s = same-but-status (s .vertices) t FINISHED
+vertex-words-of (Stop t) s =
+    let (len, words) = same-but-status (s .vertices) t FINISHED in (
+      length-lowered t (s .edges) _ (s .held) ∙ len,
+      λ i f. lowered-out t (s .edges) _ (s .held) i (λ q. f (inr q)) ∙ words i (λ q. f (inl q)),
+    )
 
 pub edge-words-of : (c : Command) (s : Lent) → s .held ≤ edgeRows (s .edges) → SameBut (EdgeWordOf c s) (s .edges) (leaves c s .edges)
 unfolding withVertex withEdge withMoved stopped

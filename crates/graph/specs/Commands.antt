@@ -10,14 +10,14 @@ use Rattle.graph.specs.declared.Command.the-variants.{NewTd, NewEdge, Re
 use Rattle.graph.specs.Tests.{both, either, any}
 use Rattle.graph.specs.Tables.{Lent, NEW, RELEASED, EXECUTING, FINISHED, vertexWords, edgeWords, placeWord, scopeWord, futureWord}
 use Rattle.graph.specs.Tables.{sourceWord, targetWord, vertexRows, edgeRows, vertexWord, status, setStatus, setVertexWord, setEdgeWord}
-use Rattle.graph.specs.Tables.{source, target, clear}
+use Rattle.graph.specs.Tables.{source, target, inCountWord, largestWord, inCount, clear}
 use Rattle.refusal.specs.Refusals.{too-few-vertex-rows, unsound-tables, no-such-vertex, edge-leads-in, vertex-is-new, vertex-is-finished}
 use Rattle.refusal.specs.Refusals.{vertex-is-executing, caller-not-executing}
 use Rattle.refusal.specs.Refusals.{no-vertex-row, no-edge-row, target-not-waiting, closes-cycle, release-not-new}
 use Rattle.refusal.specs.Refusals.{transfer-not-new, transfer-has-edge-out}
 use Rattle.graph.specs.Answers.{CommandSaid, Outcome, opened, opening-refused, unless, decided, OpeningSaid}
-use Rattle.graph.specs.Sound.{sound}
-use Rattle.graph.specs.Paths.{holds, leadsInto, leadsOutOf, reaches}
+use Rattle.graph.specs.Sound.{tallyFits, statusKnown, sound}
+use Rattle.graph.specs.Paths.{holds, leadsOutOf, reaches}
 
 abbrev pub isMade : Lent → ℕ → Bool
 isMade s t = ltb t (s .made)
@@ -103,10 +103,21 @@ newEdgeRefusal s t t1 t2 =
 unfoldable pub appended : List ℕ → ℕ → ℕ → ℕ → List ℕ
 appended e n t1 t2 = setEdgeWord (setEdgeWord e n sourceWord t1) n targetWord t2
 
+-- "the number of edges into it, kept true by every command": one edge more into t, or one less. "The word stops at 0 and at its largest
+-- number." (note 6)
+unfoldable pub oneMore : ℕ → ℕ
+oneMore n = cond (ltb n largestWord) (n + 1) n
+
+unfoldable pub moreInto : List ℕ → ℕ → List ℕ
+moreInto v t = setVertexWord v t inCountWord (oneMore (inCount v t))
+
+unfoldable pub lessInto : List ℕ → ℕ → List ℕ
+lessInto v t = setVertexWord v t inCountWord (inCount v t - 1)
+
 unfoldable pub withEdge : Lent → ℕ → ℕ → Lent
 withEdge s t1 t2 =
     record {
-      vertices = s .vertices;
+      vertices = moreInto (s .vertices) t2;
       edges = appended (s .edges) (s .held) t1 t2;
       made = s .made;
       held = s .held + 1;
@@ -158,15 +169,17 @@ withMoved s t t' =
 unfoldable pub transfer : Lent → ℕ → ℕ → Outcome CommandSaid
 transfer s t t' = decided s (transferRefusal s t t') (CommandSaid.transfer t') (withMoved s t t')
 
--- "start turns a released vertex with no edge into it executing."
+-- "start turns a released vertex with no edge into it executing." "Start reads that word"; "For start .. 12 then looks at the tally and that
+-- vertex's row only" (note 6)
 unfoldable pub startRefusal : Lent → ℕ → ℕ
 startRefusal s t =
-    unless (sound s) unsound-tables
+    unless (tallyFits (s .vertices) (s .edges) (s .made) (s .held)) unsound-tables
     (unless (isMade s t) no-such-vertex
+    (unless (statusKnown (s .vertices) t) unsound-tables
     (unless (not (hasStatus s t NEW)) vertex-is-new
     (unless (not (hasStatus s t EXECUTING)) vertex-is-executing
     (unless (not (hasStatus s t FINISHED)) vertex-is-finished
-    (unless (not (leadsInto (s .edges) (s .held) t)) edge-leads-in 0)))))
+    (unless (eqb (inCount (s .vertices) t) 0) edge-leads-in 0))))))
 
 unfoldable pub start : Lent → ℕ → Outcome CommandSaid
 start s t = decided s (startRefusal s t) CommandSaid.start (withStatus s t EXECUTING)
@@ -189,10 +202,18 @@ unfoldable pub withoutEdgesOf : ℕ → List ℕ → ℕ → List ℕ
 withoutEdgesOf t e n =
     kept t e n ++ (replicate (edgeWords * n - edgeWords * keptRows t e n) 0 ++ drop (edgeWords * n) e)
 
+-- one edge less into the target of row i, where that row is dropped, and of each of the first n rows (note 6)
+unfoldable pub loweredRow : ℕ → List ℕ → List ℕ → ℕ → List ℕ
+loweredRow t e v i = cond (eqb (source e i) t) (lessInto v (target e i)) v
+
+unfoldable pub lowered : ℕ → List ℕ → List ℕ → ℕ → List ℕ
+lowered t e v zero = v
+lowered t e v (suc n) = loweredRow t e (lowered t e v n) n
+
 unfoldable pub stopped : Lent → ℕ → Lent
 stopped s t =
     record {
-      vertices = setStatus (s .vertices) t FINISHED;
+      vertices = lowered t (s .edges) (setStatus (s .vertices) t FINISHED) (s .held);
       edges = withoutEdgesOf t (s .edges) (s .held);
       made = s .made;
       held = keptRows t (s .edges) (s .held);

@@ -11,7 +11,7 @@ use lib.Dec.{ltb}
 use Rattle.graph.specs.declared.Command.{Command}
 use Rattle.graph.specs.declared.Command.the-variants.{NewTd, NewEdge, Release, Transfer, Start, Stop}
 use Rattle.graph.specs.Tables.{Lent, NEW, EXECUTING, FINISHED, vertexWords, edgeWords, statusWord, placeWord, scopeWord, futureWord}
-use Rattle.graph.specs.Tables.{sourceWord, vertexRows, edgeRows, vertexWord, status, source, target}
+use Rattle.graph.specs.Tables.{inCountWord, sourceWord, vertexRows, edgeRows, vertexWord, status, inCount, source, target}
 use Rattle.refusal.specs.Refusals.{unsound-tables, no-such-vertex, edge-leads-in, vertex-is-new, vertex-is-finished, vertex-is-executing}
 use Rattle.refusal.specs.Refusals.{caller-not-executing, no-vertex-row}
 use Rattle.refusal.specs.Refusals.{no-edge-row, target-not-waiting, closes-cycle, release-not-new, transfer-not-new, transfer-has-edge-out}
@@ -53,14 +53,16 @@ RowFree (Start t) s = Unit {0}
 RowFree (Stop t) s = Unit {0}
 
 -- "A command changes no other word of a row." The words of the vertex table that a command may change: the row of the vertex
--- that it makes, and the status of the one that it turns.
+-- that it makes, the status of the one that it turns, and the number of edges into a vertex that gets or loses one (note 6).
 abbrev pub VertexWordOf : Command → Lent → ℕ → Type 0
 VertexWordOf (NewTd t place scope) s i = (vertexWords * s .made ≤ i) × (i < vertexWords * s .made + vertexWords)
-VertexWordOf (NewEdge t t1 t2) s i = ⊥
+VertexWordOf (NewEdge t t1 t2) s i = (AddsNothing s t1 t2 → ⊥) × (i ≡ vertexWords * t2 + inCountWord)
 VertexWordOf (Release t t') s i = i ≡ vertexWords * t' + statusWord
 VertexWordOf (Transfer t t') s i = ⊥
 VertexWordOf (Start t) s i = i ≡ vertexWords * t + statusWord
-VertexWordOf (Stop t) s i = i ≡ vertexWords * t + statusWord
+VertexWordOf (Stop t) s i =
+    (i ≡ vertexWords * t + statusWord)
+    ⊎ ((j : ℕ) × (j < s .held) × (source (s .edges) j ≡ t) × (i ≡ vertexWords * target (s .edges) j + inCountWord))
 
 -- The words of the edge table that a command may change: the row of the edge that it adds, if it adds one, the sources that it moves,
 -- the rows held before a stop.
@@ -144,14 +146,26 @@ NoneBefore n (accepted-where P rest) = (P → ⊥) × NoneBefore n rest
 abbrev pub TallyOver : Lent → Type 0
 TallyOver s = (vertexRows (s .vertices) < s .made) ⊎ (edgeRows (s .edges) < s .held)
 
+abbrev pub OutsideAt : Lent → ℕ → Type 0
+OutsideAt s x = (status (s .vertices) x < NEW) ⊎ (FINISHED < status (s .vertices) x)
+
 abbrev pub StatusOutside : Lent → Type 0
-StatusOutside s = (x : ℕ) × (x < s .made) × ((status (s .vertices) x < NEW) ⊎ (FINISHED < status (s .vertices) x))
+StatusOutside s = (x : ℕ) × (x < s .made) × OutsideAt s x
 
 abbrev pub EndNotMade : Lent → Type 0
 EndNotMade s = (i : ℕ) × (i < s .held) × ((s .made ≤ source (s .edges) i) ⊎ (s .made ≤ target (s .edges) i))
 
 abbrev pub Unsound : Lent → Type 0
 Unsound s = TallyOver s ⊎ StatusOutside s ⊎ EndNotMade s
+
+-- what 12 looks at before 20: "For start .. 12 then looks at the tally and that vertex's row only" (note 6), and at the row behind 20
+abbrev pub UnsoundFor : Command → Lent → Type 0
+UnsoundFor (NewTd t place scope) s = Unsound s
+UnsoundFor (NewEdge t t1 t2) s = Unsound s
+UnsoundFor (Release t t') s = Unsound s
+UnsoundFor (Transfer t t') s = Unsound s
+UnsoundFor (Start t) s = TallyOver s
+UnsoundFor (Stop t) s = Unsound s
 
 -- "20 no such vertex", of the caller and every vertex named
 abbrev pub NoSuchVertex : Lent → Command → Type 0
@@ -175,7 +189,8 @@ TransferCycle s t t' =
     (i : ℕ) × (i < s .held) × ((source (s .edges) i ≡ t) × ((target (s .edges) i ≡ t') ⊎ Reaches s (target (s .edges) i) t'))
 
 -- "newTd 30, 31; newEdge 30, 33, (finished source accepted), .. 35, 32; release 30, 36; transfer 30, 37, 38, 35; start 22, 39, 23, 21;
--- stop 30"; "An edge held already is now accepted and changes nothing, tested before 35." (note 3)
+-- stop 30"; "An edge held already is now accepted and changes nothing, tested before 35." (note 3); "on altered tables 21 follows the word"
+-- (note 6)
 abbrev pub ownReasons : Command → Lent → Reasons
 ownReasons (NewTd t place scope) s =
     refused-where (HasStatus s t EXECUTING → ⊥) caller-not-executing
@@ -195,12 +210,13 @@ ownReasons (Transfer t t') s =
     (refused-where (EdgeOutOf s t') transfer-has-edge-out
     (refused-where (TransferCycle s t t') closes-cycle no-more)))
 ownReasons (Start t) s =
-    refused-where (HasStatus s t NEW) vertex-is-new
+    refused-where (OutsideAt s t) unsound-tables
+    (refused-where (HasStatus s t NEW) vertex-is-new
     (refused-where (HasStatus s t EXECUTING) vertex-is-executing
     (refused-where (HasStatus s t FINISHED) vertex-is-finished
-    (refused-where (EdgeInto s t) edge-leads-in no-more)))
+    (refused-where (inCount (s .vertices) t ≡ 0 → ⊥) edge-leads-in no-more))))
 ownReasons (Stop t) s = refused-where (HasStatus s t EXECUTING → ⊥) caller-not-executing no-more
 
 -- "Commands: 12, 20, then" its own
 abbrev pub reasons : Command → Lent → Reasons
-reasons c s = refused-where (Unsound s) unsound-tables (refused-where (NoSuchVertex s c) no-such-vertex (ownReasons c s))
+reasons c s = refused-where (UnsoundFor c s) unsound-tables (refused-where (NoSuchVertex s c) no-such-vertex (ownReasons c s))

@@ -7,6 +7,7 @@
 --     Paths      paths of held edges, and the test that decides them
 --     Commands   the opening and the six commands
 --     Rules      the rules of the dag-calculus, as the slides print them
+--     InCounts   the word that start reads: when it is true, and the full search that it stands for
 --     Demand2    the words in which demand 2 is stated of a single command, and the reasons of its refusals
 -- Nobody has to believe what stands in Internal: contracts of private functions cite it.
 pub mod Tests
@@ -16,5 +17,6 @@ pub mod Sound
 pub mod Paths
 pub mod Commands
 pub mod Rules
+pub mod InCounts
 pub mod Demand2
 pub mod Internal

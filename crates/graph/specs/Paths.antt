@@ -4,7 +4,7 @@ use mathlib.Core.Path.{_≡_}
 use mathlib.Core.Bool.{Bool, true, false}
 use mathlib.Core.List.{List}
 use lib.Dec.{eqb}
-use Rattle.graph.specs.Tests.{both, either, any}
+use Rattle.graph.specs.Tests.{both, either, any, howMany}
 use Rattle.graph.specs.Tables.{source, target}
 
 -- A path of one or more edges of the set E.
@@ -23,6 +23,10 @@ holds e n a b = any (λ i. both (eqb (source e i) a) (eqb (target e i) b)) n
 -- an edge of the first n rows leads into t
 unfoldable pub leadsInto : List ℕ → ℕ → ℕ → Bool
 leadsInto e n t = any (λ i. eqb (target e i) t) n
+
+-- so many edges of the first n rows lead into t
+unfoldable pub edgesInto : List ℕ → ℕ → ℕ → ℕ
+edgesInto e n t = howMany (λ i. eqb (target e i) t) n
 
 -- an edge of the first n rows leads out of t
 unfoldable pub leadsOutOf : List ℕ → ℕ → ℕ → Bool

@@ -17,9 +17,10 @@ EXECUTING = 3
 abbrev pub FINISHED : ℕ
 FINISHED = 4
 
--- "Vertex row, seven words: status; place; scope; phase; three vertices that this item made"; "Vertex rows gain an eighth word" (note 5)
+-- "Vertex row, seven words: status; place; scope; phase; three vertices that this item made"; "Vertex rows gain an eighth word" (note 5);
+-- "Give each vertex row a ninth word" (note 6)
 abbrev pub vertexWords : ℕ
-vertexWords = 8
+vertexWords = 9
 
 abbrev pub statusWord : ℕ
 statusWord = 0
@@ -41,6 +42,14 @@ madeWord = 4
 -- is none" (note 5)
 abbrev pub futureWord : ℕ
 futureWord = 7
+
+-- "the number of edges into it" (note 6)
+abbrev pub inCountWord : ℕ
+inCountWord = 8
+
+-- "its largest number": that of a 32-bit word
+abbrev pub largestWord : ℕ
+largestWord = 4294967295
 
 -- "Edge row, two words: source, target."
 abbrev pub edgeWords : ℕ
@@ -81,6 +90,10 @@ status v k = vertexWord v k statusWord
 
 abbrev pub setStatus : List ℕ → ℕ → ℕ → List ℕ
 setStatus v k x = setVertexWord v k statusWord x
+
+-- the word for the number of edges into vertex k
+abbrev pub inCount : List ℕ → ℕ → ℕ
+inCount v k = vertexWord v k inCountWord
 
 -- word w of edge row i
 abbrev pub edgeWord : List ℕ → ℕ → ℕ → ℕ

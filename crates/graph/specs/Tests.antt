@@ -1,6 +1,6 @@
 -- Tests, and what is tested of the first n numbers.
-use Prim.Native.Nat.{ℕ, zero, suc}
-use mathlib.Core.Bool.{Bool, true, false}
+use Prim.Native.Nat.{ℕ, zero, suc, _+_}
+use mathlib.Core.Bool.{Bool, true, false, cond}
 use mathlib.Core.Option.{Option, none, some}
 
 unfoldable pub both : Bool → Bool → Bool
@@ -20,6 +20,11 @@ every p (suc n) = both (p n) (every p n)
 unfoldable pub any : (ℕ → Bool) → ℕ → Bool
 any p zero = false
 any p (suc n) = either (p n) (any p n)
+
+-- p holds of so many of the numbers below n
+unfoldable pub howMany : (ℕ → Bool) → ℕ → ℕ
+howMany p zero = 0
+howMany p (suc n) = howMany p n + cond (p n) 1 0
 
 -- the lowest number below n of which a test holds
 unfoldable pub orThis : Option ℕ → Bool → ℕ → Option ℕ

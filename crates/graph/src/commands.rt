@@ -27,6 +27,7 @@ use crate::rows::append_edge;
 use crate::rows::clear;
 use crate::rows::edge_rows;
 use crate::rows::make_row;
+use crate::rows::more_into;
 use crate::rows::set_status;
 use crate::rows::vertex_rows;
 use crate::sound::is_sound;
@@ -38,6 +39,8 @@ ghost use mathlib.Core.Bool.{true};
 ghost use Rattle.graph.specs.Tables.{lent};
 ghost use Rattle.graph.specs.Sound.{sound};
 ghost use Rattle.graph.specs.Answers.{CommandSaid, said, outcome, openingOutcome};
+ghost use Rattle.graph.specs.Tests.{either};
+ghost use Rattle.graph.specs.Internal.Checks.{isStart};
 ghost use Rattle.graph.specs.Commands.{opening, newTd, newEdge, release, transfer, start, stop, command};
 
 // A refused command: the tally is as it was.
@@ -109,7 +112,7 @@ fn new_td(
 
 // Adds the edge from `source` to `target`. Out of a finished vertex, or held already, it adds nothing and is accepted.
 fn new_edge(
-    vertices: &[u32],
+    vertices: &mut [u32],
     edges: &mut [u32],
     tally: Tally,
     caller: u32,
@@ -117,7 +120,7 @@ fn new_edge(
     target: u32,
 ) -> Done
     requires { ⌜ sound (lent (now vertices) (now edges) tally) ≡ true ⌝ }
-    ensures { λ r. ⌜ outcome r (now (vertices .entry)) (now (edges .exit)) ≡ newEdge (lent (now (vertices .entry)) (now (edges .entry)) tally) caller source target ⌝ }
+    ensures { λ r. ⌜ outcome r (now (vertices .exit)) (now (edges .exit)) ≡ newEdge (lent (now (vertices .entry)) (now (edges .entry)) tally) caller source target ⌝ }
 {
     let first = ends_refusal(vertices, edges, tally, caller, source, target);
     if first != ACCEPTED {
@@ -135,6 +138,7 @@ fn new_edge(
         return refused(last, tally);
     }
     append_edge(edges, held as usize, source, target);
+    more_into(vertices, target as usize);
     Done {
         answer: Answer::Edge(source, target),
         tally: Tally {
@@ -177,9 +181,8 @@ fn transfer(vertices: &[u32], edges: &mut [u32], tally: Tally, caller: u32, vert
     }
 }
 
-// Turns a released vertex with no edge into it executing.
-fn start(vertices: &mut [u32], edges: &[u32], tally: Tally, vertex: u32) -> Done
-    requires { ⌜ sound (lent (now vertices) (now edges) tally) ≡ true ⌝ }
+// Turns a released vertex with no edge into it executing. It looks for 12 itself.
+pub fn start(vertices: &mut [u32], edges: &[u32], tally: Tally, vertex: u32) -> Done
     ensures { λ r. ⌜ outcome r (now (vertices .exit)) (now (edges .entry)) ≡ start (lent (now (vertices .entry)) (now (edges .entry)) tally) vertex ⌝ }
 {
     let refusal = start_refusal(vertices, edges, tally, vertex);
@@ -203,7 +206,7 @@ fn stop(vertices: &mut [u32], edges: &mut [u32], tally: Tally, caller: u32) -> D
         return refused(refusal, tally);
     }
     set_status(vertices, caller as usize, FINISHED);
-    let kept = drop_edges(edges, tally.held as usize, caller);
+    let kept = drop_edges(vertices, edges, tally.held as usize, caller);
     Done {
         answer: Answer::Stop,
         tally: Tally {
@@ -223,20 +226,43 @@ pub fn command_by_value(
 ) -> Done
     ensures { λ r. ⌜ outcome r (now (vertices .exit)) (now (edges .exit)) ≡ command given (lent (now (vertices .entry)) (now (edges .entry)) tally) ⌝ }
 {
-    if !is_sound(vertices, edges, tally) {
-        return refused(UNSOUND_TABLES, tally);
+    if !is_start(given) {
+        if !is_sound(vertices, edges, tally) {
+            return refused(UNSOUND_TABLES, tally);
+        }
     }
-    command_on_sound(vertices, edges, tally, given)
+    command_checked(vertices, edges, tally, given)
 }
 
-// The same on tables that are known to be sound.
-pub fn command_on_sound(
+fn is_start(given: Command) -> bool
+    ensures { λ r. ⌜ r ≡ isStart given ⌝ }
+{
+    match given {
+        Command::Start { vertex } => true,
+        Command::NewTd {
+            caller,
+            place,
+            scope,
+        } => false,
+        Command::NewEdge {
+            caller,
+            source,
+            target,
+        } => false,
+        Command::Release { caller, vertex } => false,
+        Command::Transfer { caller, vertex } => false,
+        Command::Stop { caller } => false,
+    }
+}
+
+// The same where a start is given, or the tables are known to be sound.
+pub fn command_checked(
     vertices: &mut [u32],
     edges: &mut [u32],
     tally: Tally,
     given: Command,
 ) -> Done
-    requires { ⌜ sound (lent (now vertices) (now edges) tally) ≡ true ⌝ }
+    requires { ⌜ either (isStart given) (sound (lent (now vertices) (now edges) tally)) ≡ true ⌝ }
     ensures { λ r. ⌜ outcome r (now (vertices .exit)) (now (edges .exit)) ≡ command given (lent (now (vertices .entry)) (now (edges .entry)) tally) ⌝ }
 {
     match given {

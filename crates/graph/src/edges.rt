@@ -3,6 +3,7 @@ use crate::rows::EDGE_WORDS;
 use crate::rows::SOURCE;
 use crate::rows::TARGET;
 use crate::rows::clear;
+use crate::rows::less_into;
 ghost use mathlib.Core.Path.{_≡_};
 ghost use Prim.Native.Nat.{_*_, _≤_, _<_};
 ghost use lib.ListN.{length};
@@ -10,8 +11,8 @@ ghost use lib.Dec.{eqb};
 ghost use Rattle.graph.specs.Tests.{any};
 ghost use Rattle.graph.specs.Tables.{edgeWords, edgeWord};
 ghost use Rattle.graph.specs.Paths.{holds};
-ghost use Rattle.graph.specs.Commands.{moved, keptRows, withoutEdgesOf};
-ghost use Rattle.graph.specs.Internal.Gather.{Gathered};
+ghost use Rattle.graph.specs.Commands.{moved, lowered, keptRows, withoutEdgesOf};
+ghost use Rattle.graph.specs.Internal.Gather.{Gathered, TargetsFit};
 
 pub(crate) fn is_held(edges: &[u32], held: usize, source: u32, target: u32) -> bool
     requires { ⌜ edgeWords * held ≤ length (now edges) ⌝ }
@@ -54,11 +55,11 @@ pub(crate) fn move_sources(edges: &mut [u32], held: usize, from: u32, to: u32)
     }
 }
 
-// Brings the edges that are not out of `vertex` together at the front, in order, and says how many they are. Every edge is put behind those
-// kept so far, and the next one over it where it is not kept. That is compiled without a branch and takes as long wherever the gaps are.
-fn gather_others(edges: &mut [u32], held: usize, vertex: u32) -> usize
-    requires { ⌜ edgeWords * held ≤ length (now edges) ⌝ }
-    ensures { λ r. ⌜ (r ≡ keptRows vertex (now (edges .entry)) held) × Gathered vertex (now (edges .entry)) (now (edges .exit)) held ⌝ }
+// Brings the edges that are not out of `vertex` together at the front, in order, and says how many they are; each other one is taken off its
+// target's in-count. Every edge is put behind those kept so far, and the next one over it where it is not kept.
+fn gather_others(vertices: &mut [u32], edges: &mut [u32], held: usize, vertex: u32) -> usize
+    requires { ⌜ (edgeWords * held ≤ length (now edges)) × TargetsFit (now vertices) (now edges) held ⌝ }
+    ensures { λ r. ⌜ (r ≡ keptRows vertex (now (edges .entry)) held) × Gathered vertex (now (edges .entry)) (now (edges .exit)) held × (now (vertices .exit) ≡ lowered vertex (now (edges .entry)) (now (vertices .entry)) held) ⌝ }
 {
     let mut kept: usize = 0;
     for i in 0..held {
@@ -66,19 +67,22 @@ fn gather_others(edges: &mut [u32], held: usize, vertex: u32) -> usize
         let target = edges[EDGE_WORDS * i + TARGET];
         edges[EDGE_WORDS * kept + SOURCE] = source;
         edges[EDGE_WORDS * kept + TARGET] = target;
-        if source != vertex {
+        if source == vertex {
+            less_into(vertices, target as usize);
+        } else {
             kept += 1;
         }
     }
     kept
 }
 
-// Drops the edges out of `vertex`: closes the gaps, keeps the order, clears the freed rows, and says how many edges are left.
-pub(crate) fn drop_edges(edges: &mut [u32], held: usize, vertex: u32) -> usize
-    requires { ⌜ edgeWords * held ≤ length (now edges) ⌝ }
-    ensures { λ r. ⌜ (r ≡ keptRows vertex (now (edges .entry)) held) × (now (edges .exit) ≡ withoutEdgesOf vertex (now (edges .entry)) held) ⌝ }
+// Drops the edges out of `vertex`: closes the gaps, keeps the order, clears the freed rows, takes each off its target's in-count, and says
+// how many edges are left.
+pub(crate) fn drop_edges(vertices: &mut [u32], edges: &mut [u32], held: usize, vertex: u32) -> usize
+    requires { ⌜ (edgeWords * held ≤ length (now edges)) × TargetsFit (now vertices) (now edges) held ⌝ }
+    ensures { λ r. ⌜ (r ≡ keptRows vertex (now (edges .entry)) held) × (now (edges .exit) ≡ withoutEdgesOf vertex (now (edges .entry)) held) × (now (vertices .exit) ≡ lowered vertex (now (edges .entry)) (now (vertices .entry)) held) ⌝ }
 {
-    let kept = gather_others(edges, held, vertex);
+    let kept = gather_others(vertices, edges, held, vertex);
     clear(
         edges,
         EDGE_WORDS * kept,

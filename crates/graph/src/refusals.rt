@@ -1,19 +1,21 @@
 // Which refusal is due first, for each command on sound tables. Unsound ones are refused at the door (`commands::command_by_value`, or a
-// step).
+// step); start alone looks for 12 itself.
 use crate::Tally;
 use crate::edges::is_held;
 use crate::edges::leads;
 use crate::paths::reaches;
 use crate::rows::EXECUTING;
 use crate::rows::FINISHED;
+use crate::rows::IN_COUNT;
 use crate::rows::NEW;
 use crate::rows::RELEASED;
 use crate::rows::SOURCE;
 use crate::rows::STATUS;
-use crate::rows::TARGET;
 use crate::rows::VERTEX_WORDS;
 use crate::rows::edge_rows;
 use crate::rows::vertex_rows;
+use crate::sound::is_status;
+use crate::sound::tally_fits;
 use refusal::CALLER_NOT_EXECUTING;
 use refusal::CLOSES_CYCLE;
 use refusal::EDGE_LEADS_IN;
@@ -24,6 +26,7 @@ use refusal::RELEASE_NOT_NEW;
 use refusal::TARGET_NOT_WAITING;
 use refusal::TRANSFER_HAS_EDGE_OUT;
 use refusal::TRANSFER_NOT_NEW;
+use refusal::UNSOUND_TABLES;
 use refusal::VERTEX_IS_EXECUTING;
 use refusal::VERTEX_IS_FINISHED;
 use refusal::VERTEX_IS_NEW;
@@ -223,16 +226,21 @@ pub fn transfer_refusal(
     ACCEPTED
 }
 
-// start: 20, 22, 39, 23, 21.
+// start, on any tables: 12 by the tally, 20, 12 by the vertex's status, 22, 39, 23, 21.
 pub fn start_refusal(vertices: &[u32], edges: &[u32], tally: Tally, vertex: u32) -> u32
-    requires { ⌜ sound (lent (now vertices) (now edges) tally) ≡ true ⌝ }
     ensures { λ r. ⌜ r ≡ startRefusal (lent (now (vertices .entry)) (now (edges .entry)) tally) vertex ⌝ }
 {
     let made = tally.made;
+    if !tally_fits(vertices, edges, made, tally.held) {
+        return UNSOUND_TABLES;
+    }
     if made <= vertex {
         return NO_SUCH_VERTEX;
     }
     let status = vertices[VERTEX_WORDS * (vertex as usize) + STATUS];
+    if !is_status(status) {
+        return UNSOUND_TABLES;
+    }
     if status == NEW {
         return VERTEX_IS_NEW;
     }
@@ -242,7 +250,7 @@ pub fn start_refusal(vertices: &[u32], edges: &[u32], tally: Tally, vertex: u32)
     if status == FINISHED {
         return VERTEX_IS_FINISHED;
     }
-    if leads(edges, tally.held as usize, TARGET, vertex) {
+    if vertices[VERTEX_WORDS * (vertex as usize) + IN_COUNT] != 0 {
         return EDGE_LEADS_IN;
     }
     ACCEPTED

@@ -3,13 +3,14 @@ ghost use mathlib.Core.Path.{_≡_};
 ghost use Prim.Native.Nat.{_+_, _*_, _≤_, _<_};
 ghost use lib.ListN.{length};
 ghost use Rattle.graph.specs.Tables.{vertexWords, edgeWords, vertexRows, edgeRows, setStatus, clear};
-ghost use Rattle.graph.specs.Commands.{newRow, appended};
+ghost use Rattle.graph.specs.Commands.{newRow, appended, moreInto, lessInto};
 
 // Only full rows among the first 1,024 of each table are used.
 pub const USABLE_LIMIT: usize = 1024;
 
-// A vertex row: status, place, scope, phase, the three vertices that the item at hand made, and the latest open future.
-pub const VERTEX_WORDS: usize = 8;
+// A vertex row: status, place, scope, phase, the three vertices that the item at hand made, the latest open future, and the number of
+// edges into the vertex.
+pub const VERTEX_WORDS: usize = 9;
 
 pub const STATUS: usize = 0;
 
@@ -25,6 +26,8 @@ pub const MADE: usize = 4;
 // 0 is none.
 pub const FUTURE: usize = 7;
 
+pub const IN_COUNT: usize = 8;
+
 // An edge row.
 pub const EDGE_WORDS: usize = 2;
 
@@ -36,6 +39,9 @@ pub const TARGET: usize = 1;
 pub const VERTEX_TABLE: usize = VERTEX_WORDS * USABLE_LIMIT;
 
 pub const EDGE_TABLE: usize = EDGE_WORDS * USABLE_LIMIT;
+
+// The largest number of a word.
+const LARGEST_WORD: u32 = 4294967295;
 
 pub const NEW: u32 = 1;
 
@@ -94,6 +100,28 @@ pub(crate) fn make_row(vertices: &mut [u32], vertex: usize, place: u32, scope: u
     vertices[VERTEX_WORDS * vertex + PLACE] = place;
     vertices[VERTEX_WORDS * vertex + SCOPE] = scope;
     vertices[VERTEX_WORDS * vertex + FUTURE] = future;
+}
+
+// One edge more into `vertex`; the word stops at its largest number.
+pub(crate) fn more_into(vertices: &mut [u32], vertex: usize)
+    requires { ⌜ vertexWords * vertex + vertexWords ≤ length (now vertices) ⌝ }
+    ensures { λ _. ⌜ now (vertices .exit) ≡ moreInto (now (vertices .entry)) vertex ⌝ }
+{
+    let at = VERTEX_WORDS * vertex + IN_COUNT;
+    if vertices[at] < LARGEST_WORD {
+        vertices[at] += 1;
+    }
+}
+
+// One edge less; the word stops at 0.
+pub(crate) fn less_into(vertices: &mut [u32], vertex: usize)
+    requires { ⌜ vertexWords * vertex + vertexWords ≤ length (now vertices) ⌝ }
+    ensures { λ _. ⌜ now (vertices .exit) ≡ lessInto (now (vertices .entry)) vertex ⌝ }
+{
+    let at = VERTEX_WORDS * vertex + IN_COUNT;
+    if 0 < vertices[at] {
+        vertices[at] -= 1;
+    }
 }
 
 pub(crate) fn append_edge(edges: &mut [u32], row: usize, source: u32, target: u32)

@@ -12,7 +12,9 @@ use crate::rows::vertex_rows;
 ghost use mathlib.Core.Path.{_≡_};
 ghost use Prim.Native.Nat.{_*_, _≤_};
 ghost use lib.ListN.{length};
-ghost use Rattle.graph.specs.Tables.{vertexWords, edgeWords, lent};
+ghost use lib.Dec.{leb};
+ghost use Rattle.graph.specs.Tests.{both};
+ghost use Rattle.graph.specs.Tables.{vertexWords, edgeWords, lent, NEW, FINISHED};
 ghost use Rattle.graph.specs.Sound.{tallyFits, statusesKnown, edgesMade, sound};
 
 // The tally against the usable rows.
@@ -26,6 +28,15 @@ pub fn tally_fits(vertices: &[u32], edges: &[u32], made: u32, held: u32) -> bool
         return false;
     }
     true
+}
+
+pub(crate) fn is_status(status: u32) -> bool
+    ensures { λ r. ⌜ r ≡ both (leb NEW status) (leb status FINISHED) ⌝ }
+{
+    if status < NEW {
+        return false;
+    }
+    status <= FINISHED
 }
 
 // Each made vertex has one of the four statuses. Here and in `edges_made` no row ends the loop: such a loop is compiled to look at several rows

@@ -1,10 +1,14 @@
--- What gathering the edges that a stop keeps leaves behind: it serves the proof of the code, and nobody has to believe it.
-use Prim.Native.Nat.{ℕ, _*_, _≤_}
+-- What a stop needs and leaves at the held edges: it serves the proof of the code, and nobody has to believe it.
+use Prim.Native.Nat.{ℕ, _+_, _*_, _<_, _≤_}
 use mathlib.Core.Path.{_≡_}
 use mathlib.Core.List.{List}
 use lib.ListN.{length, take, drop}
-use Rattle.graph.specs.Tables.{edgeWords}
+use Rattle.graph.specs.Tables.{vertexWords, edgeWords, target}
 use Rattle.graph.specs.Commands.{kept, keptRows}
+
+-- v has a row for the target of each of the first n edges
+abbrev pub TargetsFit : List ℕ → List ℕ → ℕ → Type 0
+TargetsFit v e n = (i : ℕ) → i < n → vertexWords * target e i + vertexWords ≤ length v
 
 -- e' has the rows of the first n of e that are not out of t at its front, and is e from row n on
 pub record Gathered (t : ℕ) (e e' : List ℕ) (n : ℕ) : Type 0 where

@@ -1,4 +1,4 @@
--- Gathering keeps the other edges, and clearing the freed rows makes the table that a stop leaves.
+-- Gathering keeps the other edges and lowers the in-counts, and clearing the freed rows makes the table that a stop leaves.
 use borrow.Author.Needs.{needs}
 use mathlib.Core.Path.{_∙_}
 use Rattle.graph.proofs.EdgeLoops.{gathered-cleared}
@@ -6,13 +6,16 @@ use Rattle.graph.proofs.edges.drop_edges.Statement.{statement}
 use Rattle.graph.proofs.edges.drop_edges.Tie as tie
 
 returns : tie.Need-returns
-returns c = (
-  c .before .before .before .before .before .before .gather-others .ensures .0,
-  c .before .before .clear .ensures
-      ∙ gathered-cleared _ _ _ (c .before .before .before .before .before .before .before .before .before .pre)
-      (c .before .before .before .before .before .before .gather-others .ensures .0)
-      (c .before .before .before .before .before .before .gather-others .ensures .1),
-)
+returns c =
+    let gathered = c .before .before .before .before .before .before .before .before .gather-others .ensures in (
+      gathered .0,
+      c .before .before .clear .ensures
+          ∙ gathered-cleared _ _ _
+          (c .before .before .before .before .before .before .before .before .before .before .before .before .before .pre .0)
+          (gathered .0)
+          (gathered .1),
+      gathered .2,
+    )
 
 pub drop-edges-spec : {M : Type 1} → statement M
 drop-edges-spec = tie.close (tie.spec (λ c κs. search needs)
@@ -21,5 +24,6 @@ drop-edges-spec = tie.close (tie.spec (λ c κs. search needs)
     (λ c. search needs)
     (λ c. search needs)
     (λ c κs. search needs)
+    (λ c. search needs)
     (λ c. search needs)
     returns)

@@ -1,39 +1,62 @@
--- After i turns the first i rows are gathered.
-use Prim.Native.Nat.{_-_, _≤_}
-use mathlib.Core.Path.{_≡_}
+-- After i turns the first i rows are gathered, and the in-counts lowered for those dropped.
+use Prim.Native.Nat.{_+_, _-_, _*_, _≤_}
+use mathlib.Core.Path.{_≡_, _∙_, ap}
 use mathlib.Core.Logic.{⊎-elim}
 use native.Mathlib.Omega.{arith}
-use lib.ListN.{length-set}
-use Rattle.graph.specs.Commands.{keptRows}
+use lib.ListN.{length, length-set}
+use Rattle.graph.specs.Tables.{vertexWords, target}
+use Rattle.graph.specs.Commands.{keptRows, lowered}
 use Rattle.graph.specs.Internal.Gather.{Gathered}
-use Rattle.graph.proofs.EdgeLoops.{gathered-none, gathered-drops, gathered-keeps, gathered-all}
+use Rattle.graph.proofs.EdgeLoops.{gathered-none, gathered-drops, gathered-keeps, gathered-all, lowered-none, lowered-skips, lowered-less}
+use Rattle.graph.proofs.EdgeLoops.{lowered-all, target-fits}
+use Rattle.graph.proofs.TableLaws.{length-lowered}
 use Rattle.graph.proofs.edges.gather_others.Statement.{statement}
 use Rattle.graph.proofs.edges.gather_others.Tie as tie
 
 abbrev Inv-loop : tie.InvT-loop
-Inv-loop edges₀ held vertex kept₀ i₀ edges kept i = (i ≤ held) × ((kept ≡ keptRows vertex edges₀ i) × Gathered vertex edges₀ edges i)
+Inv-loop vertices₀ edges₀ held vertex kept₀ i₀ vertices edges kept i =
+    (i ≤ held) × (((kept ≡ keptRows vertex edges₀ i) × Gathered vertex edges₀ edges i) × (vertices ≡ lowered vertex edges₀ vertices₀ i))
 
 abbrev μ-loop : tie.MeasureT-loop
-μ-loop edges₀ held vertex kept₀ i₀ edges kept i = held - i
+μ-loop vertices₀ edges₀ held vertex kept₀ i₀ vertices edges kept i = held - i
 
 loop-holds : tie.Need-loop-holds Inv-loop μ-loop
-loop-holds c = (omega arith, gathered-none _ _)
+loop-holds c = (omega arith, (gathered-none _ _, lowered-none _ _ _))
 
 slice-write-edges-2 : tie.Need-slice-write-edges-2 Inv-loop μ-loop
 slice-write-edges-2 c = simp length-set (omega arith)
 
+-- the row whose in-count is lowered
+room :
+    (c : tie.After-less-into-arg Inv-loop μ-loop)
+    → vertexWords * target (c .before .before .before .before .before .loop .edges) (c .before .before .before .before .before .loop .i)
+    + vertexWords ≤ length (c .before .before .before .before .before .before .before .before .args .vertices .now)
+room c =
+    target-fits _ _ (c .before .before .before .before .before .before .before .before .args .vertices .now) _ _
+    (c .before .before .before .before .before .before .before .before .pre .1)
+    (c .before .before .before .before .loop-test .taken)
+    (c .before .before .before .before .before .loop .inv .1 .0 .1)
+
+less-into-requires : tie.Need-less-into-requires Inv-loop μ-loop
+less-into-requires c κs = omega (arith, room c, ap length (c .before .before .before .before .before .loop .inv .1 .1) ∙ length-lowered _ _ _ _)
+
 loop-again : tie.Need-loop-again Inv-loop μ-loop
 loop-again c =
-    let before = c .before .before .before .before .loop .inv .1 in (
+    let ((rows, gathered), lower) = c .before .before .before .before .loop .inv .1 in (
       omega arith,
       ⊎-elim
-          (λ h. rw (h .1) (gathered-keeps _ _ _ (before .0) (before .1) (omega arith) (h .0 .taken)))
-          (λ h. rw (h .1) (gathered-drops _ _ _ (before .0) (before .1) (h .0 .left)))
+          (λ h. rw (h .5, h .6) (gathered-drops _ _ _ rows gathered (h .0 .taken), lowered-less _ _ _ _ lower gathered (h .0 .taken) (h .2 .ensures)))
+          (λ h. rw (h .1, h .2) (gathered-keeps _ _ _ rows gathered (omega arith) (h .0 .left), lowered-skips _ _ _ _ lower gathered (h .0 .left)))
           (c .if1 .came),
     )
 
+same-length : tie.Need-same-length Inv-loop μ-loop
+same-length c = ap length (c .before .loop .inv .1 .1) ∙ length-lowered _ _ _ _
+
 returns : tie.Need-returns Inv-loop μ-loop
-returns c = gathered-all _ _ _ _ (c .before .loop .inv .0) (c .loop-test .left) (c .before .loop .inv .1)
+returns c =
+    let (rows, gathered) = gathered-all _ _ _ _ (c .before .loop .inv .0) (c .loop-test .left) (c .before .loop .inv .1 .0) in
+    (rows, gathered, lowered-all _ _ _ _ _ (c .before .loop .inv .0) (c .loop-test .left) (c .before .loop .inv .1 .1))
 
 pub gather-others-spec : {M : Type 1} → statement M
 gather-others-spec = tie.close (tie.spec Inv-loop
@@ -55,9 +78,12 @@ gather-others-spec = tie.close (tie.spec Inv-loop
     (λ c. omega arith)
     (λ c. omega arith)
     slice-write-edges-2
+    (λ c. omega (arith, room c))
+    less-into-requires
     (λ c. omega arith)
     (λ c. omega arith)
     (λ c. omega arith)
     loop-again
-    (λ c. omega arith)
+    same-length
+    (λ c. c .before .loop .inv .1 .0 .1 .same-length)
     returns)
