@@ -9,7 +9,8 @@
 --     LoadLaws        demand 2 of loading: what is accepted, that a refusal changes nothing, and that no word past the usable rows changes
 --     StepDemand2     demand 2 of a step: it is what is due, taken where its command is
 --     RunDemand2      demand 2 of a run: only such steps, and how it ends
---     LookLaws        a run turn by turn: which vertex it finds, which cannot step, and what each look comes to
+--     LookLaws        a run turn by turn: what its steps keep, which vertex it finds, which cannot step, and what each look comes to
+--     InCounts        the words that start reads are true in whatever is reached, so it answers there as the full search would
 --     Examples        the examples of the table hold
 --     AheadIsPre      the order of jobs as it is defined is the one by recursion on code that the proofs use
 --     AheadUnique     the body that this order looks at is the only one there is, and so the innermost; of a job that a force is read as
@@ -29,6 +30,7 @@ pub mod LoadLaws
 pub mod StepDemand2
 pub mod RunDemand2
 pub mod LookLaws
+pub mod InCounts
 pub mod Examples
 pub mod AheadIsPre
 pub mod AheadUnique

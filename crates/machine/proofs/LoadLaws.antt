@@ -16,7 +16,8 @@ use lib.Dec.{ltb}
 use lib.ListN.{length, set, length-set}
 use lib.Seq.{getD-set-other}
 use borrow.Author.Tests.{le-ltb, lt-ltb, ltb-true, ltb-false}
-use Rattle.graph.specs.Tables.{Lent, vertexWords, edgeWords, statusWord, placeWord, scopeWord, sourceWord, targetWord, vertexRows, edgeRows, clear}
+use Rattle.graph.specs.Tables.{Lent, vertexWords, edgeWords, statusWord, placeWord, scopeWord, inCountWord, sourceWord, targetWord}
+use Rattle.graph.specs.Tables.{vertexRows, edgeRows, clear}
 use Rattle.graph.specs.Commands.{appended}
 use Rattle.graph.specs.Demand2.{SameBut, UsableOnly}
 use Rattle.graph.specs.Answers.{Outcome}
@@ -180,8 +181,9 @@ loaded-usable bytes s t h =
     let one : 0 < edgeRows (s .edges) = one-edge-row t s h in
     record {
       vertex-words =
-          rest-placed 1 (length bytes - 1) (omega arith)
-          (rest-placed 0 0 (omega arith) (rest-cleared (s .vertices) (vertexWords * vertexRows (s .vertices))))
+          rest-set (vertexWords * 1 + inCountWord) _ (omega arith)
+          (rest-placed 1 (length bytes - 1) (omega arith)
+          (rest-placed 0 0 (omega arith) (rest-cleared (s .vertices) (vertexWords * vertexRows (s .vertices)))))
           .stays;
       edge-words =
           rest-set (edgeWords * 0 + targetWord) _ (omega arith)

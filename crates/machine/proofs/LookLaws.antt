@@ -1,8 +1,9 @@
--- A run turn by turn, on any bytes and tables: that its steps leave sound tables sound, which vertices cannot step, which one a look finds,
--- and what a run is by what it finds.
+-- A run turn by turn, on any bytes and tables: what its steps keep, which vertices cannot step, which one a look finds, and what a run is by
+-- what it finds.
 --
 --     step-sound      a step leaves sound tables sound
---     idle-cannot     a vertex that does not execute can step only if it is released, with no edge into it
+--     step-true       and true in-counts true, on any tables
+--     idle-cannot     a vertex that does not execute can step only if it is released, and its word says that no edge leads into it
 --     lowest-none     a look finds none where none can step
 --     lowest-is       it finds the one that can, below which none can
 --     late-none       it finds none once the steps are used up
@@ -19,25 +20,27 @@ use mathlib.Core.Logic.{_⊎_, ⊎-elim}
 use mathlib.Core.List.{List}
 use mathlib.Core.Option.{Option, none, some, Option·none-ne-some}
 use native.Mathlib.Omega.{arith}
-use borrow.Author.Tests.{ltb-true}
-use Rattle.graph.specs.Tables.{Lent, NEW, RELEASED, EXECUTING, FINISHED, vertexWords, statusWord, status}
+use Rattle.graph.specs.Tables.{Lent, NEW, RELEASED, EXECUTING, FINISHED, vertexWords, statusWord, inCountWord, status, inCount}
 use Rattle.graph.specs.Sound.{sound}
-use Rattle.graph.specs.Paths.{holds, leadsInto}
+use Rattle.graph.specs.Paths.{holds}
 use Rattle.graph.specs.Commands.{command}
+use Rattle.graph.specs.declared.Command.{Command}
+use Rattle.graph.specs.InCounts.{CountsTrue}
 use Rattle.graph.specs.Answers.{Outcome}
-use Rattle.graph.proofs.TestLaws.{true-false, decide, not-so, equal?, both-right}
+use Rattle.graph.proofs.TestLaws.{true-false, decide, not-so, equal?}
 use Rattle.graph.proofs.LowestLaws.{found-is, none-is}
-use Rattle.graph.proofs.SoundLaws.{Known, sound-fits, fits-sound}
+use Rattle.graph.proofs.SoundLaws.{Known, sound-tally, sound-fits, fits-sound}
 use Rattle.graph.proofs.Demand2.{stays-sound}
+use Rattle.graph.proofs.InCounts.{stays-true, same-counts}
 use Rattle.refusal.specs.Refusals.{unsound-tables}
 use Rattle.machine.specs.Answers.{StepSaid, accepted}
-use Rattle.machine.specs.Stepping.{stepLimit, steppable, Own, Due, refusal-due, job-due, command-due, due, step}
+use Rattle.machine.specs.Stepping.{stepLimit, steppable, Own, Due, refusal-due, job-due, command-due, due, doDue, step}
 use Rattle.machine.specs.Running.{canStep, lowest, allFinished, done, stuck, spent, refused, RunOutcome, ended, look, runOn, run}
 use Rattle.machine.specs.Demand2.{Adds, Does}
-use Rattle.machine.proofs.TablesFollow.OwnLaws.{status-not-own}
+use Rattle.machine.proofs.TablesFollow.OwnLaws.{status-not-own, count-not-own}
 use Rattle.machine.proofs.TablesFollow.AnswerLaws.{if-passed}
-use Rattle.machine.proofs.TablesFollow.StepLaws.{step-is, due-new, due-over}
-use Rattle.machine.proofs.StepDemand2.{step-does, blocked-step}
+use Rattle.machine.proofs.TablesFollow.StepLaws.{step-is, due-other, due-new, due-over}
+use Rattle.machine.proofs.StepDemand2.{can-ready, step-does, blocked-step}
 use Rattle.machine.proofs.RunDemand2.{finished-all}
 
 -- what a step adds leaves sound tables sound
@@ -61,60 +64,83 @@ adds-sound v w left after a known =
           subst (λ (n : ℕ). (x < n) × (y < n)) (sym (a .same-made)) (fits .ends-made x y held);
     })
 
--- so what is due leaves them sound
-does-sound : (s : Lent) (v : ℕ) (o : Outcome StepSaid) (d : Due) → Does s v o d → sound s ≡ true → sound (o .after) ≡ true
-does-sound s v o (refusal-due n) does known = subst (λ (o' : Outcome StepSaid). sound (o' .after) ≡ true) (sym does) known
-does-sound s v o (job-due n p w) does known = adds-sound v w s (o .after) (does .1) known
-does-sound s v o (command-due c w) does known =
-    ⊎-elim (λ h. adds-sound v w (command c s .after) (o .after) (does .taken-adds h) (stays-sound c s known))
-    (λ h. subst (λ (s' : Lent). sound s' ≡ true) (sym (does .refused-keeps h)) known)
+-- and true in-counts true
+adds-true : (v : ℕ) (w : Own) (left after : Lent) → Adds v w left after → CountsTrue left → CountsTrue after
+adds-true v w left after a =
+    same-counts left after (a .same-edges) (a .same-held) (a .same-made)
+    (λ k lt. a .vertex-words .1 (vertexWords * k + inCountWord) (count-not-own v k))
+
+-- what commands keep, and what a step adds keeps, is kept by what is due
+does-keep :
+    (P : Lent → Type 0) (s : Lent) (v : ℕ) (o : Outcome StepSaid) (d : Due) → Does s v o d → P s → ((c : Command) → P (command c s .after))
+    → ((w : Own) (left after : Lent) → Adds v w left after → P left → P after) → P (o .after)
+does-keep P s v o (refusal-due n) does p commands adds = subst (λ (o' : Outcome StepSaid). P (o' .after)) (sym does) p
+does-keep P s v o (job-due n q w) does p commands adds = adds w s (o .after) (does .1) p
+does-keep P s v o (command-due c w) does p commands adds =
+    ⊎-elim (λ h. adds w (command c s .after) (o .after) (does .taken-adds h) (commands c))
+    (λ h. subst P (sym (does .refused-keeps h)) p)
     (decide (accepted (o .answer)))
 
--- A step leaves sound tables sound.
+-- A step leaves sound tables sound,
 pub step-sound : (bytes : List ℕ) (s : Lent) (v : ℕ) → sound s ≡ true → sound (step bytes s v .after) ≡ true
-step-sound bytes s v = does-sound s v (step bytes s v) (due bytes s v) (step-does bytes s v)
+step-sound bytes s v known =
+    does-keep (λ s'. sound s' ≡ true) s v (step bytes s v) (due bytes s v) (step-does bytes s v) known (λ c. stays-sound c s known) (adds-sound v)
 
--- where a vertex can step the tables take steps
-can-steppable : (bytes : List ℕ) (s : Lent) (v : ℕ) → canStep bytes s v ≡ true → steppable s ≡ true
-unfolding step due
-can-steppable bytes s v h = if-passed s v (steppable s) _ _ h .0
+-- and true in-counts true, on any tables.
+pub step-true : (bytes : List ℕ) (s : Lent) (v : ℕ) → CountsTrue s → CountsTrue (step bytes s v .after)
+step-true bytes s v true-before =
+    does-keep (λ s'. CountsTrue s') s v (step bytes s v) (due bytes s v) (step-does bytes s v) true-before (λ c. stays-true c s true-before)
+    (adds-true v)
 
--- a vertex that can step has steps left to take
-can-early : (bytes : List ℕ) (s : Lent) (v : ℕ) → canStep bytes s v ≡ true → s .steps < stepLimit
-unfolding steppable
-can-early bytes s v h = ltb-true (s .steps) stepLimit (both-right _ _ (can-steppable bytes s v h))
+-- where a vertex that is not released can step, 12 found nothing at all
+can-steppable :
+    (bytes : List ℕ) (s : Lent) (v : ℕ) → (status (s .vertices) v ≡ RELEASED → ⊥) → canStep bytes s v ≡ true → steppable s ≡ true
+unfolding step
+can-steppable bytes s v other h =
+    if-passed s v (steppable s) _ _
+    (subst (λ (d : Due). accepted (doDue s v d .answer) ≡ true) (due-other bytes s v (λ made. other)) h)
+    .0
 
 -- a finished vertex cannot step
 finished-cannot : (bytes : List ℕ) (s : Lent) (v : ℕ) → v < s .made → status (s .vertices) v ≡ FINISHED → canStep bytes s v ≡ false
 finished-cannot bytes s v made over =
     not-so (canStep bytes s v)
-    (λ h. true-false h (ap (λ (o : Outcome StepSaid). accepted (o .answer)) (step-is bytes s v (due-over bytes s v (can-steppable bytes s v h) made over))))
+    (λ h.
+    true-false h
+    (ap (λ (o : Outcome StepSaid). accepted (o .answer))
+    (step-is bytes s v (due-over bytes s v (can-steppable bytes s v (omega arith) h) made over))))
 
 -- nor can a new one
 new-cannot : (bytes : List ℕ) (s : Lent) (v : ℕ) → v < s .made → status (s .vertices) v ≡ NEW → canStep bytes s v ≡ false
 new-cannot bytes s v made new =
     not-so (canStep bytes s v)
-    (λ h. true-false h (ap (λ (o : Outcome StepSaid). accepted (o .answer)) (step-is bytes s v (due-new bytes s v (can-steppable bytes s v h) made new))))
+    (λ h.
+    true-false h
+    (ap (λ (o : Outcome StepSaid). accepted (o .answer))
+    (step-is bytes s v (due-new bytes s v (can-steppable bytes s v (omega arith) h) made new))))
 
--- nor a released one with an edge into it
+-- nor, on sound tables, a released one whose word is not 0
 blocked-cannot :
-    (bytes : List ℕ) (s : Lent) (v : ℕ) → v < s .made → status (s .vertices) v ≡ RELEASED → leadsInto (s .edges) (s .held) v ≡ true
-    → canStep bytes s v ≡ false
-blocked-cannot bytes s v made released into =
+    (bytes : List ℕ) (s : Lent) (v : ℕ) → sound s ≡ true → v < s .made → status (s .vertices) v ≡ RELEASED
+    → (inCount (s .vertices) v ≡ 0 → ⊥) → canStep bytes s v ≡ false
+blocked-cannot bytes s v known made released into =
     not-so (canStep bytes s v)
-    (λ h. true-false h (ap (λ (o : Outcome StepSaid). accepted (o .answer)) (blocked-step bytes s v (can-steppable bytes s v h) made released into)))
+    (λ h.
+    true-false h
+    (ap (λ (o : Outcome StepSaid). accepted (o .answer))
+    (blocked-step bytes s v (sound-tally s known) (can-ready bytes s v h .1) made released into)))
 
--- A vertex that does not execute can step only if it is released, with no edge into it.
+-- A vertex that does not execute can step only if it is released, and its word says that no edge leads into it.
 pub idle-cannot :
     (bytes : List ℕ) (s : Lent) (v : ℕ) → sound s ≡ true → v < s .made → (status (s .vertices) v ≡ EXECUTING → ⊥)
-    → ((status (s .vertices) v ≡ RELEASED → ⊥) ⊎ (leadsInto (s .edges) (s .held) v ≡ true)) → canStep bytes s v ≡ false
+    → ((status (s .vertices) v ≡ RELEASED → ⊥) ⊎ (inCount (s .vertices) v ≡ 0 → ⊥)) → canStep bytes s v ≡ false
 idle-cannot bytes s v known made idle waits =
     ⊎-elim (λ new. new-cannot bytes s v made new)
     (λ not-new.
     ⊎-elim (λ over. finished-cannot bytes s v made over)
     (λ not-over.
     let released : status (s .vertices) v ≡ RELEASED = omega (arith, sound-fits s known .statuses-known v made, idle, not-new, not-over) in
-    ⊎-elim (λ not-released. absurd (not-released released)) (λ into. blocked-cannot bytes s v made released into) waits)
+    ⊎-elim (λ not-released. absurd (not-released released)) (λ into. blocked-cannot bytes s v known made released into) waits)
     (equal? (status (s .vertices) v) FINISHED))
     (equal? (status (s .vertices) v) NEW)
 
@@ -134,7 +160,7 @@ lowest-is bytes s = found-is (canStep bytes s) (s .made)
 pub late-none : (bytes : List ℕ) (s : Lent) → stepLimit ≤ s .steps → lowest bytes s ≡ none
 late-none bytes s late =
     lowest-none bytes s
-    (λ u lt. not-so (canStep bytes s u) (λ h. let early : s .steps < stepLimit = can-early bytes s u h in absurd (omega arith)))
+    (λ u lt. not-so (canStep bytes s u) (λ h. let early : s .steps < stepLimit = can-ready bytes s u h .1 in absurd (omega arith)))
 
 -- and once all vertices are finished.
 pub finished-none : (bytes : List ℕ) (s : Lent) → allFinished s ≡ true → lowest bytes s ≡ none

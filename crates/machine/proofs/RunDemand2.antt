@@ -1,32 +1,26 @@
 -- Demand 2 of a run: it takes only steps, each of the lowest vertex that can step, counts them, and ends as it finds: done, stuck or spent
 -- (`run-ran`); its refusal is 12 at no place (`run-place`).
-use Prim.Native.Nat.{ℕ, zero, suc, _+_, _<_, _≤_}
+use Prim.Native.Nat.{ℕ, zero, suc, _+_, _≤_}
 use mathlib.Core.Path.{_≡_, refl, sym, _∙_, ap, subst}
 use mathlib.Core.Bool.{Bool, true, false, cond}
 use mathlib.Core.List.{List}
 use mathlib.Core.Option.{Option, none, some}
 use native.Mathlib.Omega.{arith}
-use borrow.Author.Tests.{ltb-true, eq-eqb, eqb-true}
+use borrow.Author.Tests.{eq-eqb, eqb-true}
 use Rattle.graph.specs.Tables.{Lent, FINISHED, status}
-use Rattle.graph.specs.Commands.{isMade, hasStatus}
+use Rattle.graph.specs.Commands.{hasStatus}
 use Rattle.graph.proofs.TestLaws.{true-false, not-so, every-at, every-all}
 use Rattle.graph.proofs.LowestLaws.{Finds, below-finds}
 use Rattle.refusal.specs.Refusals.{unsound-tables}
 use Rattle.machine.specs.Answers.{StepSaid}
-use Rattle.machine.specs.Stepping.{steppable, due, step}
+use Rattle.machine.specs.Stepping.{steppable, step}
 use Rattle.machine.specs.Running.{canStep, lowest, allFinished, Ending, refused, RunOutcome, ended, look, runOn, run}
 use Rattle.machine.specs.Demand2.{Steps, no-step, one-more, AllFinished, Looks, OnlySuchSteps, run-refused, run-steps}
-use Rattle.machine.proofs.StepDemand2.{step-counts}
-use Rattle.machine.proofs.TablesFollow.AnswerLaws.{if-passed}
+use Rattle.machine.proofs.StepDemand2.{can-ready, step-counts}
 
 pub lowest-finds : (bytes : List ℕ) (s : Lent) → Finds (canStep bytes s) (s .made) (lowest bytes s)
 unfolding lowest
 lowest-finds bytes s = below-finds (canStep bytes s) (s .made)
-
--- only a made vertex can step
-pub can-made : (bytes : List ℕ) (s : Lent) (v : ℕ) → canStep bytes s v ≡ true → v < s .made
-unfolding step due
-can-made bytes s v h = ltb-true v (s .made) (if-passed s v (isMade s v) _ _ (if-passed s v (steppable s) _ _ h .1) .0)
 
 -- "all vertices made are finished", as a test and in words
 pub finished-all : (s : Lent) → allFinished s ≡ true → AllFinished s
@@ -64,7 +58,7 @@ module _ (bytes : List ℕ) (s₀ : Lent) (budget : ℕ) where
       record {
         by-steps = steps;
         within = omega arith;
-        looks = (finished-not s f, λ v. not-so (canStep bytes s v) (λ h. true-false h (finds v (can-made bytes s v h))));
+        looks = (finished-not s f, λ v. not-so (canStep bytes s v) (λ h. true-false h (finds v (can-ready bytes s v h .0))));
       }
   look-made again zero s last taken false (some v) on steps e f finds =
       record {

@@ -7,11 +7,12 @@
 --     job-step          a job's step names it, and leaves the graph
 --     command-step      a command's step is taken where the command is
 --     command-graph     and changes the graph as the command does
---     step-rule         so an accepted one is a step of the command's rule
+--     step-rule         so an accepted one is a step of the command's rule, where the word that it reads is true
 --     step-acceptance   on a graph without a cycle: accepted exactly where the rule has a step and the row is free
 --     step-refused      refused by 12, 20, 22, 23 or 13 before any command, or as its command is
---     released-step     a released vertex: started, or refused by 21
---     blocked-step      refused where an edge leads in
+--     released-step     a released vertex, whatever the other rows hold: started, or refused by 21, as its word says
+--     blocked-step      refused where its word is not 0
+--     can-ready         only a made vertex steps, and only below the limit of steps
 --     step-place        a refusal has the place 0
 --     step-never-34     and never the number 34
 use Prim.Native.Nat.{ℕ, _+_, _-_, _<_, _≤_}
@@ -23,31 +24,35 @@ use mathlib.Core.Option.{Option, none, some}
 use native.Mathlib.Omega.{arith}
 use lib.Dec.{eqb}
 use lib.ListN.{length}
-use borrow.Author.Tests.{ltb-true, lt-ltb, ne-eqb}
-use Rattle.graph.specs.Tables.{Lent, NEW, RELEASED, FINISHED, EXECUTING, vertexRows, status}
+use borrow.Author.Tests.{ltb-true, lt-ltb, le-leb, leb-true, ne-eqb}
+use Rattle.graph.specs.Tests.{either}
+use Rattle.graph.specs.Tables.{Lent, NEW, RELEASED, FINISHED, EXECUTING, vertexRows, status, inCount}
 use Rattle.refusal.specs.Refusals.{edge-leads-in, nothing-starts}
 use Rattle.graph.specs.Answers.{decided, Outcome}
 use Rattle.graph.specs.Answers as of-graph
-use Rattle.graph.specs.Sound.{sound}
-use Rattle.graph.specs.Paths.{CycleFree, leadsInto}
+use Rattle.graph.specs.Sound.{tallyFits, statusKnown, sound}
+use Rattle.graph.specs.Paths.{CycleFree}
 use Rattle.graph.specs.Rules.{Graph, Printed, Unguarded}
 use Rattle.graph.specs.Commands.{isMade, hasStatus, command}
 use Rattle.graph.specs.Commands as g
+use Rattle.graph.specs.InCounts.{ReadsTrue}
 use Rattle.graph.specs.Demand2.{graph, RowFree}
 use Rattle.graph.specs.declared.Command as single
-use Rattle.graph.proofs.TestLaws.{true-false, both-left, both-right, not-of-false}
+use Rattle.graph.specs.declared.Command.the-variants.{Start}
+use Rattle.graph.specs.Internal.Checks.{isStart}
+use Rattle.graph.proofs.TestLaws.{true-false, both-true, both-left, both-right, either-right, not-of-false}
 use Rattle.graph.proofs.RefusalLaws.{unless-pass}
 use Rattle.graph.proofs.SoundLaws.{sound-fits}
 use Rattle.graph.proofs.Reasons.{refused-place, never-34}
-use Rattle.graph.proofs.Demand2.{refused-keeps, effect, acceptance}
+use Rattle.graph.proofs.Demand2.{refused-keeps, words-stay, effect, acceptance}
 use Rattle.program.specs.Encodings.{Spot, Command, perform, newTd, newEdge, transfer, release, Row}
 use Rattle.program.specs.Located.{itemAt}
 use Rattle.machine.specs.Answers.{StepSaid, accepted, refuse, saidAs}
-use Rattle.machine.specs.Stepping.{stepLimit, steppable, place, phase, allStand, Task, item, ends, nothing, task, Own, Due, refusal-due}
-use Rattle.machine.specs.Stepping.{job-due, command-due, dueIf, filledIn, nextOf, nextAt, due, doDue, step}
+use Rattle.machine.specs.Stepping.{stepLimit, steppable, startDue, place, phase, allStand, Task, item, ends, nothing, task, Own, Due}
+use Rattle.machine.specs.Stepping.{refusal-due, job-due, command-due, dueIf, filledIn, nextOf, nextAt, due, doDue, step}
 use Rattle.machine.specs.Demand2.{IsCommand, Does, Before, Refused, before, by-command}
 use Rattle.machine.proofs.TablesFollow.OwnLaws.{own-adds}
-use Rattle.machine.proofs.TablesFollow.StepLaws.{step-is, due-released}
+use Rattle.machine.proofs.TablesFollow.StepLaws.{step-is, start-due, due-start}
 
 -- a step says that it is accepted where its command does
 said-accepted : (a : of-graph.CommandSaid) → accepted (saidAs a) ≡ of-graph.accepted a
@@ -59,37 +64,64 @@ said-accepted (of-graph.transfer v) = refl
 said-accepted of-graph.stop = refl
 said-accepted (of-graph.refused n p) = refl
 
--- where no refusal is due before any command, the vertex's row is in the table, a step may be counted and the tables are sound
-abbrev pub Ready : Lent → ℕ → Type 0
-Ready s v = (v < vertexRows (s .vertices)) × (s .steps < stepLimit) × (sound s ≡ true)
+-- where no refusal is due before any command, the vertex's row is in the table, a step may be counted and b holds
+abbrev pub Ready : Lent → ℕ → Bool → Type 0
+Ready s v b = (v < vertexRows (s .vertices)) × (s .steps < stepLimit) × (b ≡ true) × (v < s .made)
 
+-- that is that the tables are sound, but for a start, which looks for 12 itself
 unfoldable pub ReadyFor : Lent → ℕ → Due → Type 0
 ReadyFor s v (refusal-due n) = Unit {0}
-ReadyFor s v (job-due n p w) = Ready s v
-ReadyFor s v (command-due c w) = Ready s v
+ReadyFor s v (job-due n p w) = Ready s v (sound s)
+ReadyFor s v (command-due c w) = Ready s v (either (isStart c) (sound s))
 
-ready-any : (s : Lent) (v : ℕ) (d : Due) → Ready s v → ReadyFor s v d
+ready-any : (s : Lent) (v : ℕ) (d : Due) → Ready s v (sound s) → ReadyFor s v d
 unfolding ReadyFor
 ready-any s v (refusal-due n) h = tt
 ready-any s v (job-due n p w) h = h
-ready-any s v (command-due c w) h = h
+ready-any s v (command-due c w) h = (h .0, h .1, either-right (isStart c) (h .2), h .3)
 
 ready-if : (s : Lent) (v : ℕ) (b : Bool) (n : ℕ) (d : Due) → (b ≡ true → ReadyFor s v d) → ReadyFor s v (dueIf b n d)
 unfolding dueIf ReadyFor
 ready-if s v true n d f = f refl
 ready-if s v false n d f = tt
 
-ready-of : (s : Lent) (v : ℕ) → steppable s ≡ true → isMade s v ≡ true → Ready s v
+ready-cond :
+    (s : Lent) (v : ℕ) (b : Bool) (d d' : Due) → (b ≡ true → ReadyFor s v d) → ReadyFor s v d' → ReadyFor s v (cond b d d')
+ready-cond s v true d d' f r = f refl
+ready-cond s v false d d' f r = r
+
+ready-of : (s : Lent) (v : ℕ) → steppable s ≡ true → isMade s v ≡ true → Ready s v (sound s)
 unfolding steppable
 ready-of s v p q =
     let lt : v < s .made = ltb-true v (s .made) q in
     let fits : s .made ≤ vertexRows (s .vertices) = sound-fits s (both-left _ _ p) .vertices-fit in
-    (omega arith, ltb-true (s .steps) stepLimit (both-right _ _ p), both-left _ _ p)
+    (omega arith, ltb-true (s .steps) stepLimit (both-right _ _ p), both-left _ _ p, lt)
+
+ready-start : (s : Lent) (v : ℕ) (w : Own) → startDue s v ≡ true → ReadyFor s v (command-due (Start v) w)
+unfolding ReadyFor startDue tallyFits isStart either
+ready-start s v w h =
+    let tally = both-left _ _ h in
+    let lt : v < s .made = ltb-true v (s .made) (both-left _ _ (both-right _ _ h)) in
+    let fits : s .made ≤ vertexRows (s .vertices) = leb-true _ _ (both-left _ _ (both-left _ _ tally)) in
+    (omega arith, ltb-true (s .steps) stepLimit (both-right _ _ tally), refl, lt)
 
 pub ready-due : (bytes : List ℕ) (s : Lent) (v : ℕ) → ReadyFor s v (due bytes s v)
 unfolding due
 ready-due bytes s v =
-    ready-if s v (steppable s) _ _ (λ p. ready-if s v (isMade s v) _ _ (λ q. ready-any s v _ (ready-of s v p q)))
+    ready-cond s v (startDue s v) _ _ (ready-start s v _)
+    (ready-if s v (steppable s) _ _ (λ p. ready-if s v (isMade s v) _ _ (λ q. ready-any s v _ (ready-of s v p q))))
+
+-- what is due and accepted is ready
+taken-ready : (s : Lent) (v : ℕ) (d : Due) → ReadyFor s v d → accepted (doDue s v d .answer) ≡ true → (v < s .made) × (s .steps < stepLimit)
+unfolding ReadyFor
+taken-ready s v (refusal-due n) r h = true-false h refl
+taken-ready s v (job-due n p w) r h = (r .3, r .1)
+taken-ready s v (command-due c w) r h = (r .3, r .1)
+
+-- Only a made vertex steps, and only where a step may be counted.
+pub can-ready : (bytes : List ℕ) (s : Lent) (v : ℕ) → accepted (step bytes s v .answer) ≡ true → (v < s .made) × (s .steps < stepLimit)
+unfolding step
+can-ready bytes s v = taken-ready s v (due bytes s v) (ready-due bytes s v)
 
 -- what is done is what is due
 does-due : (s : Lent) (v : ℕ) (d : Due) → ReadyFor s v d → Does s v (doDue s v d) d
@@ -103,7 +135,7 @@ does-due s v (command-due c w) r =
       taken-adds =
           λ h.
           let ok : of-graph.accepted (command c s .answer) ≡ true = sym (said-accepted (command c s .answer)) ∙ h in
-          rw ok (own-adds (command c s .after) v w (rw (effect c s ok .vertex-words .0) (r .0)));
+          rw ok (own-adds (command c s .after) v w (rw (words-stay c s .0 .0) (r .0)));
     }
 
 -- A step is what is due.
@@ -125,8 +157,7 @@ counts-due : (s : Lent) (v : ℕ) (o : Outcome StepSaid) (d : Due) → Does s v 
 counts-due s v o (refusal-due n) e h = true-false h (ap (λ (o : Outcome StepSaid). accepted (o .answer)) e)
 counts-due s v o (job-due n p w) e h = e .1 .one-step
 counts-due s v o (command-due c w) e h =
-    e .taken-adds h .one-step
-    ∙ ap (λ (n : ℕ). n + 1) (effect c s (sym (said-accepted (command c s .answer)) ∙ ap accepted (sym (e .says)) ∙ h) .steps-kept)
+    e .taken-adds h .one-step ∙ ap (λ (n : ℕ). n + 1) (words-stay c s .2)
 
 pub step-counts :
     (bytes : List ℕ) (s : Lent) (v : ℕ) → accepted (step bytes s v .answer) ≡ true → step bytes s v .after .steps ≡ s .steps + 1
@@ -158,18 +189,15 @@ module _ (bytes : List ℕ) (s : Lent) (v : ℕ) (c : single.Command) (w : Own) 
       go false h =
           ap (λ (s' : Lent). graph s') (is-this .refused-keeps h ∙ sym (refused-keeps c s (sym command-step ∙ h)))
 
-  -- So it is a step of that command's published rule,
-  pub step-rule : accepted (step bytes s v .answer) ≡ true → Unguarded c (graph s) (graph (step bytes s v .after))
-  step-rule h = subst (λ (G : Graph). Unguarded c (graph s) G) (sym command-graph) (effect c s (sym command-step ∙ h) .rule)
+  -- So it is a step of that command's published rule, where the word that the command reads is true,
+  pub step-rule : ReadsTrue c s → accepted (step bytes s v .answer) ≡ true → Unguarded c (graph s) (graph (step bytes s v .after))
+  step-rule reads h = subst (λ (G : Graph). Unguarded c (graph s) G) (sym command-graph) (effect c s reads (sym command-step ∙ h) .rule)
 
-  -- and on a graph without a cycle is accepted exactly where the rule has a step and any row that it needs is free.
+  -- and on sound tables that hold a graph without a cycle is accepted exactly where the rule has a step and any row that it needs is free.
   pub step-acceptance :
-      CycleFree (graph s .edge)
+      sound s ≡ true → ReadsTrue c s → CycleFree (graph s .edge)
       → (accepted (step bytes s v .answer) ≡ true) ↔ (((G' : Graph) × Printed c (graph s) G') × RowFree c s)
-  unfolding ReadyFor
-  step-acceptance free =
-      rw command-step
-      (acceptance c s (subst (λ (d : Due). ReadyFor s v d) e (ready-due bytes s v) .2) free)
+  step-acceptance known reads free = rw command-step (acceptance c s known reads free)
 
 -- the refusals before any command
 abbrev OnlyBefore : Due → Type 0
@@ -212,11 +240,12 @@ before-task s v nothing = unreadable-before
 before-due : (bytes : List ℕ) (s : Lent) (v : ℕ) → OnlyBefore (due bytes s v)
 unfolding due
 before-due bytes s v =
-    before-if (steppable s) _ _ (inl refl)
+    before-cond (startDue s v) _ _ tt
+    (before-if (steppable s) _ _ (inl refl)
     (before-if (isMade s v) _ _ (inr (inl refl))
     (before-if (not (hasStatus s v NEW)) _ _ (inr (inr (inl refl)))
     (before-if (not (hasStatus s v FINISHED)) _ _ (inr (inr (inr (inl refl))))
-    (before-cond (hasStatus s v RELEASED) _ _ tt (before-task s v (task (length bytes - 1) (itemAt bytes (place s v))))))))
+    (before-task s v (task (length bytes - 1) (itemAt bytes (place s v))))))))
 
 -- only a refused command is said to be refused
 said-refused : (a : of-graph.CommandSaid) {n p : ℕ} → saidAs a ≡ StepSaid.refused n p → a ≡ of-graph.refused n p
@@ -247,41 +276,49 @@ step-refused bytes s v n p = (there (due bytes s v) refl (step-does bytes s v) (
     back (before e b) = ap (λ (o : Outcome StepSaid). o .answer) (subst (λ (d : Due). Does s v (step bytes s v) d) e (step-does bytes s v))
     back (by-command c w e h) = is-this bytes s v c w e .says ∙ ap saidAs h
 
--- a released vertex
-module _ (bytes : List ℕ) (s : Lent) (v : ℕ) (p : steppable s ≡ true) (lt : v < s .made) (q : status (s .vertices) v ≡ RELEASED) where
-  -- its status is none of the others
-  not-status : (x : ℕ) → (RELEASED ≡ x → ⊥) → not (hasStatus s v x) ≡ true
-  not-status x ne = not-of-false (ne-eqb (status (s .vertices) v) x (λ e. ne (sym q ∙ e)))
+-- a released vertex, where the tally is as it must be, whatever the other rows hold
+module _
+    (bytes : List ℕ) (s : Lent) (v : ℕ) (fits : tallyFits (s .vertices) (s .edges) (s .made) (s .held) ≡ true) (early : s .steps < stepLimit)
+    (lt : v < s .made) (q : status (s .vertices) v ≡ RELEASED)
+  where
+    -- its status is a status, and none of the others
+    is-status : statusKnown (s .vertices) v ≡ true
+    unfolding statusKnown
+    is-status = both-true (le-leb NEW (status (s .vertices) v) (omega arith)) (le-leb (status (s .vertices) v) FINISHED (omega arith))
 
-  -- so of start's own tests only the last one is left
-  start-refusal : g.startRefusal s v ≡ of-graph.unless (not (leadsInto (s .edges) (s .held) v)) edge-leads-in 0
-  unfolding g.startRefusal steppable
-  start-refusal =
-      unless-pass _ _ (both-left _ _ p)
-      ∙ unless-pass _ _ (lt-ltb v (s .made) lt)
-      ∙ unless-pass _ _ (not-status NEW (omega arith))
-      ∙ unless-pass _ _ (not-status EXECUTING (omega arith))
-      ∙ unless-pass _ _ (not-status FINISHED (omega arith))
+    not-status : (x : ℕ) → (RELEASED ≡ x → ⊥) → not (hasStatus s v x) ≡ true
+    not-status x ne = not-of-false (ne-eqb (status (s .vertices) v) x (λ e. ne (sym q ∙ e)))
 
-  -- "A released one is started", or refused by 21 where an edge leads in.
-  pub released-step : step bytes s v .answer ≡ cond (leadsInto (s .edges) (s .held) v) (StepSaid.refused edge-leads-in 0) StepSaid.start
-  unfolding command g.start decided of-graph.unless
-  released-step =
-      ap (λ (o : Outcome StepSaid). o .answer) (step-is bytes s v (due-released bytes s v p lt q))
-      ∙ rw start-refusal (go (leadsInto (s .edges) (s .held) v))
-    where
-      go :
-          (b : Bool)
-          → saidAs (decided s (of-graph.unless (not b) edge-leads-in 0) of-graph.start (g.withStatus s v EXECUTING) .answer)
-          ≡ cond b (StepSaid.refused edge-leads-in 0) StepSaid.start
-      go true = refl
-      go false = refl
+    -- so of start's own tests only the last one is left
+    start-refusal : g.startRefusal s v ≡ of-graph.unless (eqb (inCount (s .vertices) v) 0) edge-leads-in 0
+    unfolding g.startRefusal
+    start-refusal =
+        unless-pass _ _ fits
+        ∙ unless-pass _ _ (lt-ltb v (s .made) lt)
+        ∙ unless-pass _ _ is-status
+        ∙ unless-pass _ _ (not-status NEW (omega arith))
+        ∙ unless-pass _ _ (not-status EXECUTING (omega arith))
+        ∙ unless-pass _ _ (not-status FINISHED (omega arith))
 
-  pub blocked-step : leadsInto (s .edges) (s .held) v ≡ true → step bytes s v ≡ refuse s edge-leads-in 0
-  blocked-step h = λ i. record { answer = says i; after = step-keeps bytes s v (ap accepted says) i }
-    where
-      says : step bytes s v .answer ≡ StepSaid.refused edge-leads-in 0
-      says = released-step ∙ rw h refl
+    -- "A released one is started", or refused by 21 where its word is not 0: "on altered tables 21 follows the word" (note 6).
+    pub released-step : step bytes s v .answer ≡ cond (eqb (inCount (s .vertices) v) 0) StepSaid.start (StepSaid.refused edge-leads-in 0)
+    unfolding command g.start decided of-graph.unless
+    released-step =
+        ap (λ (o : Outcome StepSaid). o .answer) (step-is bytes s v (due-start bytes s v (start-due s v fits early lt q)))
+        ∙ rw start-refusal (go (eqb (inCount (s .vertices) v) 0))
+      where
+        go :
+            (b : Bool)
+            → saidAs (decided s (of-graph.unless b edge-leads-in 0) of-graph.start (g.withStatus s v EXECUTING) .answer)
+            ≡ cond b StepSaid.start (StepSaid.refused edge-leads-in 0)
+        go true = refl
+        go false = refl
+
+    pub blocked-step : (inCount (s .vertices) v ≡ 0 → ⊥) → step bytes s v ≡ refuse s edge-leads-in 0
+    blocked-step h = λ i. record { answer = says i; after = step-keeps bytes s v (ap accepted says) i }
+      where
+        says : step bytes s v .answer ≡ StepSaid.refused edge-leads-in 0
+        says = released-step ∙ rw (ne-eqb (inCount (s .vertices) v) 0 h) refl
 
 -- A refused step has no place.
 pub step-place : (bytes : List ℕ) (s : Lent) (v n p : ℕ) → step bytes s v .answer ≡ StepSaid.refused n p → p ≡ 0

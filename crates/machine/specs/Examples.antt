@@ -2,11 +2,11 @@
 -- calls. The proof of the table is in proofs/Examples.antt.
 use Prim.Native.Nat.{ℕ, _-_, _*_}
 use mathlib.Core.Path.{_≡_}
-use mathlib.Core.Bool.{Bool, true}
+use mathlib.Core.Bool.{Bool, true, false}
 use mathlib.Core.List.{List, [], _∷_, _++_, map}
 use mathlib.Core.Option.{Option, some}
 use lib.ListN.{replicate}
-use Rattle.graph.specs.Tables.{Lent, NEW, EXECUTING, vertexWords, edgeWords}
+use Rattle.graph.specs.Tables.{Lent, NEW, EXECUTING, vertexWords, edgeWords, statusWord, inCountWord, setVertexWord}
 use Rattle.graph.specs.Answers as of-graph
 use Rattle.graph.specs.Commands.{opening, withEdge, command}
 use Rattle.graph.specs.declared.Command as single
@@ -27,9 +27,12 @@ pub data Example : Type 0 where
   comes : List ℕ → ℕ → StepSaid → Example
   -- this program loads, steps that name these vertices say this, one after the other, and then all are finished
   goes : List ℕ → List (ℕ × StepSaid) → Example
-  -- this program loads and takes steps of these vertices, then the host writes this edge into its table, and steps that name these
-  -- vertices say this, one after the other, and then all are finished
+  -- this program loads and takes steps of these vertices, then the host writes this edge into its table and counts it, and steps that
+  -- name these vertices say this, one after the other, and then all are finished
   altered : List ℕ → List ℕ → ℕ × ℕ → List (ℕ × StepSaid) → Example
+  -- this program loads, the host writes into a vertex's row, into this word, this number, and steps that name these vertices say this, one
+  -- after the other; then all are finished, or not
+  rewritten : List ℕ → ℕ × ℕ × ℕ → List (ℕ × StepSaid) → Bool → Example
   -- the bare machine opens, and these commands say this, one after the other
   bare : List (single.Command × of-graph.CommandSaid) → Example
   -- on these tables these commands say this, one after the other, and leave everything as it was
@@ -67,6 +70,21 @@ leftBy bytes s (v ∷ vs) = leftBy bytes (step bytes s v .after) vs
 -- a loading, the steps after it that name these vertices, and one edge more in the table
 unfoldable pub edgeWritten : List ℕ → List ℕ → ℕ × ℕ → Outcome LoadingSaid → Outcome LoadingSaid
 edgeWritten bytes vs ends o = record { answer = o .answer; after = withEdge (leftBy bytes (o .after) vs) (ends .0) (ends .1) }
+
+-- a loading, and another number in a word of a vertex's row
+unfoldable pub wordWritten : ℕ × ℕ × ℕ → Outcome LoadingSaid → Outcome LoadingSaid
+wordWritten (v, w, x) o =
+    record {
+      answer = o .answer;
+      after =
+          record {
+            vertices = setVertexWord (o .after .vertices) v w x;
+            edges = o .after .edges;
+            made = o .after .made;
+            held = o .after .held;
+            steps = o .after .steps;
+          };
+    }
 
 -- what single commands say, and what the last of them leaves
 unfoldable pub saidBare : Lent → List single.Command → List of-graph.CommandSaid
@@ -114,6 +132,8 @@ ComesTrue (comes p n said) = runs p n (load p anything) ≡ ran loaded spent (so
 ComesTrue (goes p turns) = takesSteps p (firsts turns) (load p anything) ≡ stepped loaded (seconds turns) true
 ComesTrue (altered p vs ends turns) =
     takesSteps p (firsts turns) (edgeWritten p vs ends (load p anything)) ≡ stepped loaded (seconds turns) true
+ComesTrue (rewritten p at turns all) =
+    takesSteps p (firsts turns) (wordWritten at (load p anything)) ≡ stepped loaded (seconds turns) all
 ComesTrue (bare calls) = commands (firsts calls) (opening anything) ≡ commanded of-graph.opened (seconds calls)
 ComesTrue (keeps s calls) = commandsOn (firsts calls) s ≡ left (seconds calls) s
 
@@ -308,6 +328,15 @@ table =
     ∷ (1, start)
     ∷ (1, stop)
     ∷ [])
+    -- "Start reads that word" (note 6): the edge from 0 to 1 is counted until 0 stops; "on altered tables 21 follows the word": vertex 1 starts
+    -- where its word is 0, which a dropped edge then leaves, and vertex 0 is refused where its word is 5
+    ∷ goes (0x00 ∷ [])
+    ((1, refused 21 0) ∷ (0, start) ∷ (1, refused 21 0) ∷ (0, stop) ∷ (1, start) ∷ (1, stop) ∷ [])
+    ∷ rewritten (0x00 ∷ []) (1, inCountWord, 0) ((1, start) ∷ (1, stop) ∷ (0, start) ∷ (0, stop) ∷ []) true
+    ∷ rewritten (0x00 ∷ []) (0, inCountWord, 5) ((0, refused 21 0) ∷ []) false
+    -- "for a step of a released vertex, 12 then looks at the tally and that vertex's row only": where vertex 1 has no status, vertex 0 starts,
+    -- and no other step is taken
+    ∷ rewritten (0x00 ∷ []) (1, statusWord, 9) ((0, start) ∷ (0, refused 12 0) ∷ (1, refused 12 0) ∷ []) false
     ∷ []
 
 -- each example of a list holds

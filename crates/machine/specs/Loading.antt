@@ -1,11 +1,11 @@
 -- "Loading clears the used rows and the tally, then sets vertex 0 (released, place 0, scope 1), vertex 1 (released, place of the last
--- byte, scope 1) and the edge 0 to 1."
+-- byte, scope 1) and the edge 0 to 1." That is the one edge into vertex 1, whose ninth word is "the number of edges into it" (note 6).
 use Prim.Native.Nat.{ℕ, _-_, _*_}
 use mathlib.Core.Bool.{cond}
 use mathlib.Core.List.{List}
 use lib.Dec.{ltb}
 use lib.ListN.{length}
-use Rattle.graph.specs.Tables.{Lent, RELEASED, vertexWords, edgeWords, placeWord, scopeWord, vertexRows, edgeRows, setStatus, setVertexWord, clear}
+use Rattle.graph.specs.Tables.{Lent, RELEASED, vertexWords, edgeWords, placeWord, scopeWord, inCountWord, vertexRows, edgeRows, setStatus, setVertexWord, clear}
 use Rattle.graph.specs.Commands.{appended}
 use Rattle.graph.specs.Answers.{Outcome}
 use Rattle.program.specs.Encodings as needs
@@ -21,7 +21,8 @@ placed v k place = setVertexWord (setVertexWord (setStatus v k RELEASED) k place
 unfoldable pub loadedTables : List ℕ → Lent → Lent
 loadedTables bytes s =
     record {
-      vertices = placed (placed (clear (s .vertices) 0 (vertexWords * vertexRows (s .vertices))) 0 0) 1 (length bytes - 1);
+      vertices =
+          setVertexWord (placed (placed (clear (s .vertices) 0 (vertexWords * vertexRows (s .vertices))) 0 0) 1 (length bytes - 1)) 1 inCountWord 1;
       edges = appended (clear (s .edges) 0 (edgeWords * edgeRows (s .edges))) 0 0 1;
       made = 2;
       held = 1;

@@ -10,7 +10,7 @@ use Rattle.graph.specs.Tests.{both}
 use Rattle.graph.specs.Tables.{Lent, NEW, RELEASED, FINISHED, placeWord, scopeWord, phaseWord, madeWord, futureWord, vertexWord, setVertexWord}
 use Rattle.refusal.specs.Refusals.{no-such-vertex, vertex-is-new, vertex-is-finished, unsound-tables, nothing-starts}
 use Rattle.graph.specs.Answers as of-graph
-use Rattle.graph.specs.Sound.{sound}
+use Rattle.graph.specs.Sound.{tallyFits, sound}
 use Rattle.graph.specs.Commands.{isMade, hasStatus, command}
 use Rattle.graph.specs.declared.Command as single
 use Rattle.graph.specs.declared.Command.the-variants.{NewTd, NewEdge, Release, Transfer, Start, Stop}
@@ -30,6 +30,13 @@ stepLimit = 8192
 -- "12 tally over the used rows, steps 8,192 or more, .."
 unfoldable pub steppable : Lent → Bool
 steppable s = both (sound s) (ltb (s .steps) stepLimit)
+
+-- "for a step of a released vertex, 12 then looks at the tally and that vertex's row only" (note 6): where the tally is as it must be, and v is
+-- a made vertex that is released, a start is due, whatever the other rows hold
+unfoldable pub startDue : Lent → ℕ → Bool
+startDue s v =
+    both (both (tallyFits (s .vertices) (s .edges) (s .made) (s .held)) (ltb (s .steps) stepLimit))
+    (both (isMade s v) (hasStatus s v RELEASED))
 
 -- The words of a vertex's row.
 abbrev pub place : Lent → ℕ → ℕ
@@ -199,11 +206,11 @@ nextAt s v nothing = refusal-due nothing-starts
 -- "Step: 12, 20, 22, 23, then 21, or 13 and the command's own": 21 is start's own
 unfoldable pub due : List ℕ → Lent → ℕ → Due
 due bytes s v =
-    dueIf (steppable s) unsound-tables
+    cond (startDue s v) (command-due (Start v) (ownOf s v))
+    (dueIf (steppable s) unsound-tables
     (dueIf (isMade s v) no-such-vertex
     (dueIf (not (hasStatus s v NEW)) vertex-is-new
-    (dueIf (not (hasStatus s v FINISHED)) vertex-is-finished
-    (cond (hasStatus s v RELEASED) (command-due (Start v) (ownOf s v)) (nextAt s v (task (length bytes - 1) (itemAt bytes (place s v))))))))
+    (dueIf (not (hasStatus s v FINISHED)) vertex-is-finished (nextAt s v (task (length bytes - 1) (itemAt bytes (place s v))))))))
 
 -- a vertex's own words are stored in its row
 unfoldable pub stored : List ℕ → ℕ → Own → List ℕ

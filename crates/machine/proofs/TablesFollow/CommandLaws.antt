@@ -8,7 +8,7 @@ use mathlib.Core.List.{List}
 use native.Mathlib.Omega.{arith}
 use lib.Dec.{ltb}
 use borrow.Author.Tests.{ltb-true, ltb-false, eqb-true}
-use Rattle.graph.specs.Tables.{Lent, NEW, RELEASED, EXECUTING, FINISHED, edgeRows, status, source}
+use Rattle.graph.specs.Tables.{Lent, NEW, RELEASED, EXECUTING, FINISHED, edgeRows, status, inCount, source}
 use Rattle.graph.specs.Sound.{sound}
 use Rattle.graph.specs.Demand2.{AddsNothing}
 use Rattle.graph.specs.Paths.{holds, leadsInto, reaches}
@@ -16,6 +16,7 @@ use Rattle.graph.specs.declared.Command.{Command}
 use Rattle.graph.specs.declared.Command.the-variants.{NewEdge, Release, Transfer, Start}
 use Rattle.graph.proofs.TestLaws.{true-false, decide, not-so, any-found}
 use Rattle.graph.proofs.PathLaws.{holds-at, reaches-path}
+use Rattle.graph.proofs.SoundLaws.{sound-tally}
 use Rattle.graph.proofs.EdgeLaws.{none-out-of}
 use Rattle.graph.proofs.CycleLaws.{target-reaches}
 use Rattle.graph.proofs.TakenLaws as of-taken
@@ -116,10 +117,10 @@ module _ {p : Code} {L : ℕ} {s : Lent} {S : State} (shape : Shape S) (F : Foll
       record { known = F .sound-is; is-made = made; executing = executing }
 
   -- start
-  pub takes-start : (v : ℕ) → statusOf (S .control v) ≡ RELEASED → leadsInto (s .edges) (s .held) v ≡ false → Taken (Start v) s
+  pub takes-start : (v : ℕ) → statusOf (S .control v) ≡ RELEASED → inCount (s .vertices) v ≡ 0 → Taken (Start v) s
   takes-start v q none =
       let (made, released) = stands v RELEASED q (omega arith) in
-      (F .sound-is, made, released, none)
+      (sound-tally s (F .sound-is), made, released, none)
 
   -- release
   new-of : (v m : ℕ) → In (free m) (tasksOf S v) → statusOf (S .control m) ≡ NEW

@@ -30,7 +30,7 @@ use Rattle.machine.proofs.GhostMachine.RoadLaws.{linkedIf}
 use Rattle.machine.proofs.Counting.Weights.{links}
 use Rattle.machine.proofs.TablesFollow.Follows.{Words, row, wordsOf, firstOf, Shows, shows-fresh, shows-ready, shows-busy, shows-over, Follows}
 use Rattle.machine.proofs.TablesFollow.Follows.{Answers, says-edge, says-release, says-transfer}
-use Rattle.machine.proofs.TablesFollow.RowLaws.{setAt, rowed-status}
+use Rattle.machine.proofs.TablesFollow.RowLaws.{setAt, rowed-status, edge-row, moved-row, stopped-row}
 use Rattle.machine.proofs.TablesFollow.FollowLaws.{statusOf, row-follows, edges-follow, vertex-follows}
 use Rattle.machine.proofs.TablesFollow.CommandLaws.{says, leaves-sound, takes-release, takes-edge, takes-nothing, takes-transfer}
 
@@ -110,7 +110,8 @@ module _ {p : Code} {L : ℕ} {s : Lent} {S : State} (F : Follows p L s S) where
   stop-done v o q h =
       edges-follow (withControl S (put (S .control) v over)) (dropped (S .edge) v)
       (row-follows S over F (rowed-status s v FINISHED (in-table v (h .is-made))) (shows-finished (shown-as v (busy (end-at o) []) (h .is-made) q)))
-      refl refl
+      (stopped-row s v)
+      refl
       (λ a b.
       is-same (without-is v (s .edges) (s .held)) (dropped-is (holds (s .edges) (s .held)) v) a b
       ∙ ap (λ (z : Bool). both z (not (eqb a v))) (F .edges-are a b))
@@ -129,7 +130,7 @@ module _ {p : Code} {L : ℕ} {s : Lent} {S : State} (F : Follows p L s S) where
       → Follows p L (withEdge s a b) (withEdges S (linked (S .edge) a b))
   unfolding withEdge
   edge-follows a b room known =
-      edges-follow S (linked (S .edge) a b) F refl refl
+      edges-follow S (linked (S .edge) a b) F (edge-row s a b) refl
       (λ x y.
       is-same (withEdge-is s a b room) (linked-is (holds (s .edges) (s .held)) a b) x y
       ∙ ap (λ (z : Bool). either z (both (eqb x a) (eqb y b))) (F .edges-are x y))
@@ -149,14 +150,14 @@ module _ {p : Code} {L : ℕ} {s : Lent} {S : State} (F : Follows p L s S) where
       → Follows p L (leaves (NewEdge v a b) s) (withEdges S (linkedIf (live (S .control a)) (S .edge) a b))
   nothing-done v a b finished nothing =
       subst (λ (t : Bool). Follows p L (leaves (NewEdge v a b) s) (withEdges S (linkedIf t (S .edge) a b))) (sym finished)
-      (rw (leaves-all s v a b nothing) (edges-follow S (S .edge) F refl refl (F .edges-are) (F .sound-is)))
+      (rw (leaves-all s v a b nothing) (edges-follow S (S .edge) F (λ u. refl) refl (F .edges-are) (F .sound-is)))
 
   -- transfer
   pub hand-done :
       (v h : ℕ) → Taken (Transfer v h) s → Follows p L (leaves (Transfer v h) s) (withEdges S (handed (S .edge) v h))
   unfolding withMoved
   hand-done v h t =
-      edges-follow S (handed (S .edge) v h) F refl refl
+      edges-follow S (handed (S .edge) v h) F (moved-row s v h) refl
       (λ a b.
       is-same (withMoved-is s v h (sound-fits s (F .sound-is))) (handed-is (holds (s .edges) (s .held)) v h) a b
       ∙ ap (λ (z : Bool). either (both z (not (eqb a v))) (both (eqb a h) (holds (s .edges) (s .held) v b))) (F .edges-are a b)
@@ -198,24 +199,13 @@ pub record Joined (p : Code) (L : ℕ) (s : Lent) (S : State) (v : ℕ) (d : Do)
 row-beside : (s : Lent) (v m x : ℕ) → m < vertexRows (s .vertices) → (v ≡ m → ⊥) → wordsOf (withStatus s m x) v ≡ wordsOf s v
 row-beside s v m x lt ne = rowed-status s m x lt .others v ne
 
--- newEdge and transfer change no row of a vertex, and hold one edge more, or none
-edge-row : (s : Lent) (v a b u : ℕ) → Adds s a b → wordsOf (leaves (NewEdge v a b) s) u ≡ wordsOf s u
-unfolding wordsOf withEdge
-edge-row s v a b u adds = rw (leaves-edge s v a b adds) refl
-
+-- newEdge holds one edge more, or none
 edge-held : (s : Lent) (v a b : ℕ) → Adds s a b → leaves (NewEdge v a b) s .held ≤ s .held + 1
 unfolding withEdge
 edge-held s v a b adds = rw (leaves-edge s v a b adds) (omega arith)
 
-nothing-row : (s : Lent) (v a b u : ℕ) → AddsNothing s a b → wordsOf (leaves (NewEdge v a b) s) u ≡ wordsOf s u
-nothing-row s v a b u nothing = rw (leaves-all s v a b nothing) refl
-
 nothing-held : (s : Lent) (v a b : ℕ) → AddsNothing s a b → leaves (NewEdge v a b) s .held ≤ s .held + 1
 nothing-held s v a b nothing = rw (leaves-all s v a b nothing) (omega arith)
-
-moved-row : (s : Lent) (v h u : ℕ) → wordsOf (leaves (Transfer v h) s) u ≡ wordsOf s u
-unfolding wordsOf withMoved
-moved-row s v h u = refl
 
 moved-held : (s : Lent) (v h : ℕ) → leaves (Transfer v h) s .held ≤ s .held + 0
 unfolding withMoved
@@ -235,7 +225,7 @@ joined {p} {L} {s} {S} shape ranks roads F v (link a b) q i room =
         record {
           is-taken = t;
           follows = edge-done F v a b h t adds;
-          row-same = edge-row s v a b v adds;
+          row-same = rw (leaves-edge s v a b adds) (edge-row s a b v);
           scope-same = refl;
           opens-same = refl;
           held-le = edge-held s v a b adds;
@@ -248,7 +238,7 @@ joined {p} {L} {s} {S} shape ranks roads F v (link a b) q i room =
         record {
           is-taken = t;
           follows = nothing-done F v a b h nothing;
-          row-same = nothing-row s v a b v nothing;
+          row-same = rw (leaves-all s v a b nothing) refl;
           scope-same = refl;
           opens-same = refl;
           held-le = nothing-held s v a b nothing;

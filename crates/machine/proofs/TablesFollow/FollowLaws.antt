@@ -109,21 +109,16 @@ pub row-follows :
     → Shows p L (f (wordsOf s v)) (S .scope v) (S .opens v) x → Follows p L s' (withControl S (put (S .control) v x))
 row-follows S x F R shown = opens-follow S x (S .opens) F R (λ u ne. refl) shown
 
--- tables with the same vertices have the same rows
-same-rows : (s s' : Lent) (u : ℕ) → s' .vertices ≡ s .vertices → wordsOf s' u ≡ wordsOf s u
-unfolding wordsOf
-same-rows s s' u q = rw q refl
-
--- the edges change
+-- the edges change, and no row does
 pub edges-follow :
-    {p : Code} {L : ℕ} {s s' : Lent} (S : State) (e : ℕ → ℕ → Bool) → Follows p L s S → s' .vertices ≡ s .vertices → s' .made ≡ s .made
+    {p : Code} {L : ℕ} {s s' : Lent} (S : State) (e : ℕ → ℕ → Bool) → Follows p L s S → ((u : ℕ) → wordsOf s' u ≡ wordsOf s u) → s' .made ≡ s .made
     → ((a b : ℕ) → holds (s' .edges) (s' .held) a b ≡ e a b) → sound s' ≡ true → Follows p L s' (withEdges S e)
-edges-follow {s} {s'} S e F q m h known =
+edges-follow S e F same m h known =
     record {
       last-is = F .last-is;
       made-is = m ∙ F .made-is;
       edges-are = h;
-      rows-are = λ u lt. rw (same-rows s s' u q) (F .rows-are u lt);
+      rows-are = λ u lt. rw (same u) (F .rows-are u lt);
       sound-is = known;
     }
 

@@ -22,7 +22,8 @@ use Rattle.machine.proofs.GhostMachine.Ghost.{a-job, a-stop, Move}
 use Rattle.machine.proofs.GhostMachine.Invariant.{isNew, bodies}
 use Rattle.machine.proofs.Counting.Weights.{links}
 
--- A vertex row: status, place, scope, phase, the vertices that the item at hand made, and the latest open future.
+-- A vertex row, but for the number of edges into the vertex: status, place, scope, phase, the vertices that the item at hand made, and the
+-- latest open future.
 pub data Words : Type 0 where
   row : (status place scope phase a b c l : ℕ) → Words
 

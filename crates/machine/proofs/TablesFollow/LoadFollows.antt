@@ -2,18 +2,21 @@
 -- with scope 1, all other words of the used rows are 0, and the edge from 0 to 1 is held.
 use Prim.Native.Nat.{ℕ, zero, suc, _+_, _-_, _*_, _<_, _≤_}
 use mathlib.Core.Path.{_≡_, refl, sym, _∙_, ap}
-use mathlib.Core.Bool.{true, false}
+use mathlib.Core.Bool.{true, false, cond}
 use mathlib.Core.Logic.{inr, ⊎-elim}
 use mathlib.Core.List.{List, []}
 use native.Mathlib.Omega.{arith}
+use lib.Dec.{eqb}
 use lib.ListN.{length, getD, length-set}
 use lib.Seq.{getD-set-same, getD-set-other}
-use Rattle.graph.specs.Tables.{Lent, RELEASED, vertexWords, edgeWords, statusWord, placeWord, scopeWord, vertexRows, edgeRows, vertexWord}
-use Rattle.graph.specs.Tables.{status, setStatus, setVertexWord, clear}
+use Rattle.graph.specs.Tables.{Lent, RELEASED, vertexWords, edgeWords, statusWord, placeWord, scopeWord, inCountWord, vertexRows}
+use Rattle.graph.specs.Tables.{edgeRows, vertexWord, status, inCount, setStatus, setVertexWord, clear}
+use Rattle.graph.specs.Tests.{howMany}
 use Rattle.graph.specs.Sound.{sound}
-use Rattle.graph.specs.Paths.{holds}
+use Rattle.graph.specs.Paths.{holds, edgesInto}
 use Rattle.graph.specs.Commands.{appended}
-use Rattle.graph.proofs.TableLaws.{vertex-in, length-clear, clear-in, length-appended}
+use Rattle.graph.specs.InCounts.{CountsTrue}
+use Rattle.graph.proofs.TableLaws.{vertex-in, word-other, length-clear, clear-in, length-appended, appended-target}
 use Rattle.graph.proofs.EdgeLaws.{Is, is-same, holds-none, appended-is}
 use Rattle.graph.proofs.SoundLaws.{fits-sound}
 use Rattle.program.specs.Trees.{Body}
@@ -30,14 +33,8 @@ use Rattle.machine.proofs.LoadLaws.{two-rows, one-edge-row, load-accept
 use Rattle.machine.proofs.GhostMachine.Ghost.{ready, vertexAt}
 use Rattle.machine.proofs.GhostMachine.RoadLaws.{linked-new}
 use Rattle.machine.proofs.GhostMachine.Beginning.{beginning, beginning-edge}
-use Rattle.machine.proofs.TablesFollow.Follows.{Words, row, wordsOf, Shows, shows-ready, Follows, statusIn}
-use Rattle.machine.proofs.TablesFollow.RowLaws.{same-row}
-
--- the row of a vertex in a table
-abbrev rowIn : List ℕ → ℕ → Words
-rowIn l k =
-    row (vertexWord l k 0) (vertexWord l k 1) (vertexWord l k 2) (vertexWord l k 3) (vertexWord l k 4) (vertexWord l k 5) (vertexWord l k 6)
-    (vertexWord l k 7)
+use Rattle.machine.proofs.TablesFollow.Follows.{row, wordsOf, Shows, shows-ready, Follows, statusIn}
+use Rattle.machine.proofs.TablesFollow.RowLaws.{same-row, rowIn, same-words}
 
 -- a vertex as loading sets it, in a table where its row is cleared
 module _ (l : List ℕ) (k x : ℕ) where
@@ -88,12 +85,7 @@ module _ (l : List ℕ) (k x : ℕ) where
   placed-word u w lw ne = placed-out (vertexWords * u + w) (λ q. ne (omega arith)) (λ q. ne (omega arith)) (λ q. ne (omega arith))
 
   placed-other : (u : ℕ) → (u ≡ k → ⊥) → rowIn (placed l k x) u ≡ rowIn l u
-  placed-other u ne =
-      same-row (at 0 (omega arith)) (at 1 (omega arith)) (at 2 (omega arith)) (at 3 (omega arith)) (at 4 (omega arith))
-      (at 5 (omega arith)) (at 6 (omega arith)) (at 7 (omega arith))
-    where
-      at : (w : ℕ) → w < vertexWords → vertexWord (placed l k x) u w ≡ vertexWord l u w
-      at w lw = placed-word u w lw ne
+  placed-other u ne = same-words l (placed l k x) u (λ w lw. placed-word u w (omega arith) ne)
 
 -- the used rows, cleared
 abbrev blank : List ℕ → List ℕ
@@ -102,23 +94,47 @@ blank l = clear l 0 (vertexWords * vertexRows l)
 blank-word : (l : List ℕ) (k w : ℕ) → k < vertexRows l → w < vertexWords → vertexWord (blank l) k w ≡ 0
 blank-word l k w lt lw = clear-in l 0 (vertexWords * vertexRows l) (vertexWords * k + w) (omega arith) (omega arith)
 
--- the vertex table that loading leaves
-abbrev loadedRows : List ℕ → ℕ → List ℕ
-loadedRows l L = placed (placed (blank l) 0 0) 1 L
+-- the vertex table that loading leaves, but for the number of edges into vertex 1, and with this number
+abbrev bothPlaced : List ℕ → ℕ → List ℕ
+bothPlaced l L = placed (placed (blank l) 0 0) 1 L
+
+abbrev loadedRows : List ℕ → ℕ → ℕ → List ℕ
+loadedRows l L x = setVertexWord (bothPlaced l L) 1 inCountWord x
 
 -- its length, and its first two rows
-length-loaded : (l : List ℕ) (L : ℕ) → length (loadedRows l L) ≡ length l
-length-loaded l L = length-placed (placed (blank l) 0 0) 1 L ∙ length-placed (blank l) 0 0 ∙ length-clear l 0 (vertexWords * vertexRows l)
+length-both : (l : List ℕ) (L : ℕ) → length (bothPlaced l L) ≡ length l
+length-both l L = length-placed (placed (blank l) 0 0) 1 L ∙ length-placed (blank l) 0 0 ∙ length-clear l 0 (vertexWords * vertexRows l)
 
-first-row : (l : List ℕ) (L : ℕ) → 2 ≤ vertexRows l → rowIn (loadedRows l L) 0 ≡ row RELEASED 0 1 0 0 0 0 0
-first-row l L le =
-    placed-other (placed (blank l) 0 0) 1 L 0 (omega arith)
+length-loaded : (l : List ℕ) (L x : ℕ) → length (loadedRows l L x) ≡ length l
+length-loaded l L x = length-set (bothPlaced l L) (vertexWords * 1 + inCountWord) x ∙ length-both l L
+
+loaded-row : (l : List ℕ) (L x k : ℕ) → rowIn (loadedRows l L x) k ≡ rowIn (bothPlaced l L) k
+loaded-row l L x k =
+    same-words (bothPlaced l L) (loadedRows l L x) k
+    (λ w lw. word-other (bothPlaced l L) 1 inCountWord x k w (omega arith) (omega arith) (omega arith))
+
+first-row : (l : List ℕ) (L x : ℕ) → 2 ≤ vertexRows l → rowIn (loadedRows l L x) 0 ≡ row RELEASED 0 1 0 0 0 0 0
+first-row l L x le =
+    loaded-row l L x 0
+    ∙ placed-other (placed (blank l) 0 0) 1 L 0 (omega arith)
     ∙ placed-row (blank l) 0 0 (rw length-clear (omega arith)) (λ w lw. blank-word l 0 w (omega arith) lw)
 
-second-row : (l : List ℕ) (L : ℕ) → 2 ≤ vertexRows l → rowIn (loadedRows l L) 1 ≡ row RELEASED L 1 0 0 0 0 0
-second-row l L le =
-    placed-row (placed (blank l) 0 0) 1 L (rw (length-placed (blank l) 0 0, length-clear) (omega arith))
+second-row : (l : List ℕ) (L x : ℕ) → 2 ≤ vertexRows l → rowIn (loadedRows l L x) 1 ≡ row RELEASED L 1 0 0 0 0 0
+second-row l L x le =
+    loaded-row l L x 1
+    ∙ placed-row (placed (blank l) 0 0) 1 L (rw (length-placed (blank l) 0 0, length-clear) (omega arith))
     (λ w lw. placed-word (blank l) 0 0 1 w lw (omega arith) ∙ blank-word l 1 w (omega arith) lw)
+
+-- its numbers of edges: none into vertex 0, this one into vertex 1
+first-count : (l : List ℕ) (L x : ℕ) → 2 ≤ vertexRows l → inCount (loadedRows l L x) 0 ≡ 0
+first-count l L x le =
+    getD-set-other (bothPlaced l L) (vertexWords * 1 + inCountWord) (vertexWords * 0 + inCountWord) x 0 (omega arith)
+    ∙ placed-word (placed (blank l) 0 0) 1 L 0 inCountWord (omega arith) (omega arith)
+    ∙ placed-out (blank l) 0 0 (vertexWords * 0 + inCountWord) (omega arith) (omega arith) (omega arith)
+    ∙ blank-word l 0 inCountWord (omega arith) (omega arith)
+
+second-count : (l : List ℕ) (L x : ℕ) → 2 ≤ vertexRows l → inCount (loadedRows l L x) 1 ≡ x
+second-count l L x le = getD-set-same (bothPlaced l L) (vertexWords * 1 + inCountWord) x 0 (rw (length-both l L) (omega arith))
 
 -- the edge table that it leaves holds one edge
 loaded-edge :
@@ -126,6 +142,10 @@ loaded-edge :
 loaded-edge e n lt a b =
     let (f, g) = appended-is (clear e 0 n) 0 0 1 (rw length-clear lt) a b in
     (λ h. ⊎-elim (λ q. absurd (holds-none (clear e 0 n) a b q)) (λ q. q) (f h), λ q. g (inr q))
+
+loaded-into : (e : List ℕ) (n k : ℕ) → 0 < edgeRows e → edgesInto (appended (clear e 0 n) 0 0 1) 1 k ≡ cond (eqb 1 k) 1 0
+unfolding edgesInto howMany
+loaded-into e n k lt = rw (appended-target (clear e 0 n) 0 0 1 (rw length-clear lt)) (omega arith)
 
 -- and so does the ghost machine
 begin-edge : (p : Code) (L : ℕ) → Is (beginning p L .edge) (λ a b. (a ≡ 0) × (b ≡ 1))
@@ -146,11 +166,11 @@ module _ (bytes : List ℕ) (s : Lent) (t : Body) (h : Lends t s) where
   unfolding loadedTables wordsOf vertexAt located
   first-shows =
       shows-ready
-      (first-row (s .vertices) L (two-rows t s h) ∙ ap (λ (x : ℕ). row RELEASED x 1 0 0 0 0 0) (sym (place-locate [] 0 t)))
+      (first-row (s .vertices) L _ (two-rows t s h) ∙ ap (λ (x : ℕ). row RELEASED x 1 0 0 0 0 0) (sym (place-locate [] 0 t)))
 
   second-shows : Shows (located t) L (wordsOf (loadedTables bytes s) 1) 1 [] (ready (end-at L))
   unfolding loadedTables wordsOf vertexAt code.startOf
-  second-shows = shows-ready (second-row (s .vertices) L (two-rows t s h))
+  second-shows = shows-ready (second-row (s .vertices) L _ (two-rows t s h))
 
   rows-follow : (v : ℕ) → v < 2 → Shows (located t) L (wordsOf (loadedTables bytes s) v) 1 [] (beginning (located t) L .control v)
   unfolding beginning
@@ -160,8 +180,8 @@ module _ (bytes : List ℕ) (s : Lent) (t : Body) (h : Lends t s) where
 
   statuses-follow : (k : ℕ) → k < 2 → status (loadedTables bytes s .vertices) k ≡ RELEASED
   unfolding loadedTables
-  statuses-follow zero lt = ap statusIn (first-row (s .vertices) L (two-rows t s h))
-  statuses-follow (suc zero) lt = ap statusIn (second-row (s .vertices) L (two-rows t s h))
+  statuses-follow zero lt = ap statusIn (first-row (s .vertices) L _ (two-rows t s h))
+  statuses-follow (suc zero) lt = ap statusIn (second-row (s .vertices) L _ (two-rows t s h))
   statuses-follow (suc (suc v)) lt = absurd (omega arith)
 
   sound-follows : sound (loadedTables bytes s) ≡ true
@@ -169,7 +189,7 @@ module _ (bytes : List ℕ) (s : Lent) (t : Body) (h : Lends t s) where
   sound-follows =
       fits-sound (loadedTables bytes s)
       (record {
-        vertices-fit = rw (length-loaded (s .vertices) L) (two-rows t s h);
+        vertices-fit = rw (length-loaded (s .vertices) L _) (two-rows t s h);
         edges-fit = rw (length-appended (clear (s .edges) 0 (edgeWords * edgeRows (s .edges))) 0 0 1, length-clear) (one-edge-row t s h);
         statuses-known = λ k lt. let q = statuses-follow k lt in (omega (arith, q), omega (arith, q));
         ends-made =
@@ -177,6 +197,12 @@ module _ (bytes : List ℕ) (s : Lent) (t : Body) (h : Lends t s) where
             let (x, y) = loaded-edge (s .edges) (edgeWords * edgeRows (s .edges)) (one-edge-row t s h) a b .0 q in
             (omega (arith, x), omega (arith, y));
       })
+
+  loaded-true : CountsTrue (loadedTables bytes s)
+  unfolding loadedTables
+  loaded-true zero lt = first-count (s .vertices) L _ (two-rows t s h) ∙ sym (loaded-into (s .edges) _ 0 (one-edge-row t s h))
+  loaded-true (suc zero) lt = second-count (s .vertices) L _ (two-rows t s h) ∙ sym (loaded-into (s .edges) _ 1 (one-edge-row t s h))
+  loaded-true (suc (suc v)) lt = absurd (omega arith)
 
   loaded-follows : Follows (located t) L (loadedTables bytes s) (beginning (located t) L)
   unfolding loadedTables beginning
@@ -189,20 +215,22 @@ module _ (bytes : List ℕ) (s : Lent) (t : Body) (h : Lends t s) where
         sound-is = sound-follows;
       }
 
--- what else loading leaves: the tally's other numbers, and the tables' lengths
+-- what else loading leaves: true numbers of edges, the tally's other numbers, and the tables' lengths
 pub record Begun (s s' : Lent) : Type 0 where
+  pub counts-true : CountsTrue s'
   pub steps-none : s' .steps ≡ 0
   pub held-one : s' .held ≡ 1
   pub vertex-length : length (s' .vertices) ≡ length (s .vertices)
   pub edge-length : length (s' .edges) ≡ length (s .edges)
 
-loaded-begun : (bytes : List ℕ) (s : Lent) → Begun s (loadedTables bytes s)
+loaded-begun : (bytes : List ℕ) (s : Lent) (t : Body) → Lends t s → Begun s (loadedTables bytes s)
 unfolding loadedTables
-loaded-begun bytes s =
+loaded-begun bytes s t h =
     record {
+      counts-true = loaded-true bytes s t h;
       steps-none = refl;
       held-one = refl;
-      vertex-length = length-loaded (s .vertices) (length bytes - 1);
+      vertex-length = length-loaded (s .vertices) (length bytes - 1) _;
       edge-length = rw (length-appended (clear (s .edges) 0 (edgeWords * edgeRows (s .edges))) 0 0 1, length-clear);
     }
 
@@ -213,7 +241,7 @@ pub load-follows :
     × Begun s (load bytes s .after)
 load-follows bytes s t r h =
     let (l, e) = load-accepted bytes s t r h in
-    rw e (loaded-follows bytes s t l, loaded-begun bytes s)
+    rw e (loaded-follows bytes s t l, loaded-begun bytes s t l)
 
 -- The number that the two are told is the offset of the program's end byte.
 pub last-byte : (bytes : List ℕ) (t : Body) → reading bytes ≡ program t → code.last (located t) ≡ length bytes - 1

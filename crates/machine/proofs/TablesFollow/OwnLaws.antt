@@ -10,7 +10,7 @@ use native.Mathlib.Omega.{arith}
 use lib.Dec.{ltb}
 use lib.ListN.{length, getD, length-set}
 use lib.Seq.{getD-set-other, set-getD}
-use Rattle.graph.specs.Tables.{Lent, vertexWords, statusWord, placeWord, phaseWord, madeWord, futureWord, vertexRows, vertexWord, status}
+use Rattle.graph.specs.Tables.{Lent, vertexWords, statusWord, placeWord, phaseWord, madeWord, futureWord, inCountWord, vertexRows, vertexWord, status}
 use Rattle.graph.specs.Paths.{holds}
 use Rattle.graph.specs.Demand2.{graph, VertexWordOf}
 use Rattle.graph.specs.declared.Command as single
@@ -40,9 +40,12 @@ stored-else t v (own p φ a b c l) i not-own =
     let n6 : i ≡ vertexWords * v + futureWord → ⊥ = λ q. not-own (inr (inr (omega arith))) in
     simp getD-set-other
 
--- no vertex's status is one of the own words of a vertex
+-- no vertex's status is one of the own words of a vertex, and no number of edges into one
 pub status-not-own : (v k : ℕ) → OwnWord v (vertexWords * k + statusWord) → ⊥
 status-not-own v k = ⊎-elim (λ q. omega arith) (⊎-elim (λ q. omega arith) (λ (lo, hi). omega arith))
+
+pub count-not-own : (v k : ℕ) → OwnWord v (vertexWords * k + inCountWord) → ⊥
+count-not-own v k = ⊎-elim (λ q. omega arith) (⊎-elim (λ q. omega arith) (λ (lo, hi). omega arith))
 
 -- so the graph is the same
 stored-graph : (s : Lent) (v : ℕ) (w : Own) → graph (withOwn s v w) ≡ graph s
@@ -76,13 +79,13 @@ unfolding stored ownOf
 own-stays s v = simp set-getD
 
 -- a command leaves the own words of a made vertex
-not-changed : (c : single.Command) (s : Lent) (v w : ℕ) → v < s .made → 0 < w → w < vertexWords → VertexWordOf c s (vertexWords * v + w) → ⊥
+not-changed : (c : single.Command) (s : Lent) (v w : ℕ) → v < s .made → 0 < w → w < inCountWord → VertexWordOf c s (vertexWords * v + w) → ⊥
 not-changed (NewTd t place scope) s v w lt gt lw q = omega (arith, q .0)
-not-changed (NewEdge t t1 t2) s v w lt gt lw q = q
+not-changed (NewEdge t t1 t2) s v w lt gt lw q = omega (arith, q .1)
 not-changed (Release t t') s v w lt gt lw q = omega arith
 not-changed (Transfer t t') s v w lt gt lw q = q
 not-changed (Start t) s v w lt gt lw q = omega arith
-not-changed (Stop t) s v w lt gt lw q = omega arith
+not-changed (Stop t) s v w lt gt lw q = ⊎-elim (λ z. omega arith) (λ z. let y = z .3 in omega arith) q
 
 -- so it leaves them as they were
 pub leaves-own : (c : single.Command) (s : Lent) (v : ℕ) → v < s .made → ownOf (leaves c s) v ≡ ownOf s v
@@ -94,7 +97,7 @@ leaves-own c s v lt =
     (at (madeWord + 2) (omega arith) (omega arith) i)
     (at futureWord (omega arith) (omega arith) i)
   where
-    at : (w : ℕ) → 0 < w → w < vertexWords → vertexWord (leaves c s .vertices) v w ≡ vertexWord (s .vertices) v w
+    at : (w : ℕ) → 0 < w → w < inCountWord → vertexWord (leaves c s .vertices) v w ≡ vertexWord (s .vertices) v w
     at w gt lw = vertex-words-of c s .1 (vertexWords * v + w) (not-changed c s v w lt gt lw)
 
 -- and so does a start or a stop, with what its step stores besides

@@ -10,10 +10,12 @@ use lib.Dec.{eqb}
 use lib.ListN.{length, getD, set, length-set}
 use lib.Seq.{getD-set-same, getD-set-other}
 use borrow.Author.Tests.{eq-eqb, ne-eqb}
-use Rattle.graph.specs.Tables.{Lent, NEW, vertexWords, statusWord, placeWord, phaseWord, madeWord, futureWord, vertexRows, vertexWord, setVertexWord}
-use Rattle.graph.specs.Commands.{withStatus, withVertex}
+use Rattle.graph.specs.Tables.{Lent, NEW, FINISHED, vertexWords, statusWord, placeWord, phaseWord, madeWord, futureWord, inCountWord, vertexRows}
+use Rattle.graph.specs.Tables.{vertexWord, setStatus, setVertexWord}
+use Rattle.graph.specs.Commands.{withStatus, withVertex, withEdge, withMoved, stopped}
 use Rattle.graph.proofs.TestLaws.{equal?}
 use Rattle.graph.proofs.TableLaws.{vertex-in, vertex-apart, newRow-other, newRow-status, newRow-place, newRow-scope, newRow-future, newRow-zero}
+use Rattle.graph.proofs.TableLaws.{more-word, lowered-word}
 use Rattle.program.specs.Encodings.{Command, Spot, Row}
 use Rattle.machine.specs.Stepping.{latest, Own, own, ownOf, movedOn, stored, withOwn}
 use Rattle.machine.proofs.TablesFollow.Follows.{Words, row, wordsOf}
@@ -50,6 +52,18 @@ pub same-row :
     → row st pl sc ph a b c l ≡ row st' pl' sc' ph' a' b' c' l'
 same-row p0 p1 p2 p3 p4 p5 p6 p7 = λ i. row (p0 i) (p1 i) (p2 i) (p3 i) (p4 i) (p5 i) (p6 i) (p7 i)
 
+-- the row of a vertex in a table; the number of edges into the vertex is the word behind these
+abbrev pub rowIn : List ℕ → ℕ → Words
+rowIn l k =
+    row (vertexWord l k 0) (vertexWord l k 1) (vertexWord l k 2) (vertexWord l k 3) (vertexWord l k 4) (vertexWord l k 5) (vertexWord l k 6)
+    (vertexWord l k 7)
+
+pub same-words :
+    (l l' : List ℕ) (k : ℕ) → ((w : ℕ) → w < inCountWord → vertexWord l' k w ≡ vertexWord l k w) → rowIn l' k ≡ rowIn l k
+same-words l l' k at =
+    same-row (at 0 (omega arith)) (at 1 (omega arith)) (at 2 (omega arith)) (at 3 (omega arith)) (at 4 (omega arith))
+    (at 5 (omega arith)) (at 6 (omega arith)) (at 7 (omega arith))
+
 -- s' is s, but that f is done to the row of v
 pub record Rowed (s s' : Lent) (v : ℕ) (f : Words → Words) : Type 0 where
   pub edges-same : s' .edges ≡ s .edges
@@ -75,20 +89,12 @@ rowed-word s v w x lw lt =
       steps-same = refl;
       length-same = length-set (s .vertices) (vertexWords * v + w) x;
       others =
-          λ u ne.
-          same-row (else u 0 ne (omega arith)) (else u 1 ne (omega arith)) (else u 2 ne (omega arith)) (else u 3 ne (omega arith))
-          (else u 4 ne (omega arith))
-          (else u 5 ne (omega arith))
-          (else u 6 ne (omega arith))
-          (else u 7 ne (omega arith));
+          λ u ne. same-words (s .vertices) (withWord s v w x .vertices) u (λ i li. word-else (s .vertices) v u w i x lw (omega arith) ne);
       here = same-row (at 0) (at 1) (at 2) (at 3) (at 4) (at 5) (at 6) (at 7);
     }
   where
     at : (i : ℕ) → vertexWord (withWord s v w x .vertices) v i ≡ cond (eqb w i) x (vertexWord (s .vertices) v i)
     at i = word-set (s .vertices) v w i x (vertex-in (s .vertices) v w lt lw)
-
-    else : (u i : ℕ) → (u ≡ v → ⊥) → i < vertexWords → vertexWord (withWord s v w x .vertices) u i ≡ vertexWord (s .vertices) u i
-    else u i ne li = word-else (s .vertices) v u w i x lw li ne
 
 -- one update after another
 rowed-then :
@@ -170,10 +176,19 @@ new-row s t place scope lt =
 pub new-others : (s : Lent) (t place scope u : ℕ) → (u ≡ s .made → ⊥) → wordsOf (withVertex s t place scope) u ≡ wordsOf s u
 unfolding wordsOf withVertex
 new-others s t place scope u ne =
-    same-row (word 0 (omega arith)) (word 1 (omega arith)) (word 2 (omega arith)) (word 3 (omega arith)) (word 4 (omega arith))
-    (word 5 (omega arith))
-    (word 6 (omega arith))
-    (word 7 (omega arith))
-  where
-    word : (w : ℕ) → w < vertexWords → vertexWord (withVertex s t place scope .vertices) u w ≡ vertexWord (s .vertices) u w
-    word w lw = newRow-other (s .vertices) (s .made) place scope (latest s t) u w lw ne
+    same-words (s .vertices) (withVertex s t place scope .vertices) u
+    (λ w lw. newRow-other (s .vertices) (s .made) place scope (latest s t) u w (omega arith) ne)
+
+-- newEdge, transfer and stop leave the rows but for a status and the numbers of edges
+pub edge-row : (s : Lent) (a b u : ℕ) → wordsOf (withEdge s a b) u ≡ wordsOf s u
+unfolding wordsOf withEdge
+edge-row s a b u = same-words (s .vertices) (withEdge s a b .vertices) u (λ w lw. more-word (s .vertices) b u w (omega arith) (omega arith))
+
+pub moved-row : (s : Lent) (v h u : ℕ) → wordsOf (withMoved s v h) u ≡ wordsOf s u
+unfolding wordsOf withMoved
+moved-row s v h u = refl
+
+pub stopped-row : (s : Lent) (v u : ℕ) → wordsOf (stopped s v) u ≡ wordsOf (withStatus s v FINISHED) u
+unfolding wordsOf stopped
+stopped-row s v u = same-words (withStatus s v FINISHED .vertices) (stopped s v .vertices) u
+    (λ w lw. lowered-word v (s .edges) (setStatus (s .vertices) v FINISHED) (s .held) u w (omega arith) (omega arith))

@@ -2,23 +2,25 @@
 -- is at decides which.
 use Prim.Native.Nat.{ℕ, _-_, _<_, _≤_}
 use mathlib.Core.Path.{_≡_, refl, sym, _∙_, ap, subst}
-use mathlib.Core.Bool.{true}
+use mathlib.Core.Bool.{true, not}
 use mathlib.Core.Logic.{_⊎_, inl, inr, ⊎-elim}
 use mathlib.Core.List.{List, [], _∷_, _++_}
 use mathlib.Core.Option.{some}
 use native.Mathlib.Omega.{arith}
 use lib.Dec.{ltb}
 use lib.ListN.{length, drop}
-use borrow.Author.Tests.{ltb-true, ltb-false}
+use borrow.Author.Tests.{ltb-true, ltb-false, eqb-true, eqb-false}
 use Rattle.graph.specs.Tables.{Lent, NEW, RELEASED, EXECUTING, FINISHED, vertexRows, edgeRows}
 use Rattle.refusal.specs.Refusals.{no-such-vertex, edge-leads-in, vertex-is-new, vertex-is-finished}
 use Rattle.graph.specs.Paths.{leadsInto}
+use Rattle.graph.specs.InCounts.{CountsTrue}
 use Rattle.graph.specs.declared.Command.the-variants.{NewTd, Start, Stop}
 use Rattle.graph.specs.Answers.{Outcome}
 use Rattle.graph.proofs.TestLaws.{decide, true-false}
-use Rattle.graph.proofs.SoundLaws.{sound-fits}
+use Rattle.graph.proofs.SoundLaws.{sound-tally, sound-fits}
 use Rattle.graph.proofs.EdgeLaws.{none-into}
 use Rattle.graph.proofs.TakenLaws.{leaves, Taken}
+use Rattle.graph.proofs.InCounts.{count-clear}
 use Rattle.program.specs.Trees.{Body}
 use Rattle.program.specs.Encodings.{Command, perform, newTd}
 use Rattle.program.specs.Reader.{program, reading}
@@ -39,8 +41,8 @@ use Rattle.machine.proofs.TablesFollow.OwnLaws.{length-stored, leaves-s
 use Rattle.machine.proofs.TablesFollow.FollowLaws.{statusOf, follows-status, woken-follows, count-follows}
 use Rattle.machine.proofs.TablesFollow.CommandLaws.{into-from, first-task, stands, runs, takes-start}
 use Rattle.machine.proofs.TablesFollow.DoneLaws.{shown-as, start-done, stop-done, asked, Room, Joined, joined}
-use Rattle.machine.proofs.TablesFollow.StepLaws.{rowOf, steppable-of, step-is, due-absent, due-new, due-over, due-released, row-place}
-use Rattle.machine.proofs.TablesFollow.StepLaws.{row-latest, job-item, plainNames, names-stand, due-command, due-end}
+use Rattle.machine.proofs.TablesFollow.StepLaws.{rowOf, steppable-of, step-is, start-due, due-start, due-absent, due-new, due-over}
+use Rattle.machine.proofs.TablesFollow.StepLaws.{row-place, row-latest, job-item, plainNames, names-stand, due-command, due-end}
 use Rattle.machine.proofs.TablesFollow.FutureLaws.{followed-is}
 use Rattle.machine.proofs.StepDemand2.{blocked-step}
 use Rattle.machine.proofs.TablesFollow.ItemLaws.{ForcesOpen, Acting, acting, busyRow, Making, Busy, at-end, at-job, making, splitting}
@@ -97,7 +99,7 @@ room-for s (free m) q edge-room = tt
 module _
     (bytes : List ℕ) (t : Body) (s : Lent) (S : State) (v : ℕ) (reads : reading bytes ≡ program t) (shape : Shape S) (ranks : Ranks S)
     (roads : Roads S) (opened : Opened S) (coded : Coded (located t) S) (unsplit : Unsplit S) (F : Follows (located t) (length bytes - 1) s S)
-    (limit : s .steps < stepLimit)
+    (counted : CountsTrue s) (limit : s .steps < stepLimit)
   where
     abbrev p : Code
     p = located t
@@ -128,17 +130,19 @@ module _
         refused vertex-is-finished (is-over lt q)
         (step-is bytes s v (due-over bytes s v ok (is-made lt) (follows-status s S v F lt ∙ over-is q)))
 
-    -- a released vertex starts, unless an edge leads in
+    -- a released vertex starts, unless an edge leads in, as its word says
     step-ready : (c : Code) → S .control v ≡ ready c → Result
     step-ready c q =
         let (made, released) = stands shape F v RELEASED (ready-is q) (omega arith) in
+        let fits = sound-tally s (F .sound-is) in
+        let word = count-clear s v (counted v made) in
         ⊎-elim
         (λ h.
         let (u, held) = into-from (s .edges) (s .held) v h in
-        refused edge-leads-in (blocked q u (sym (F .edges-are u v) ∙ held)) (blocked-step bytes s v ok made released h))
+        refused edge-leads-in (blocked q u (sym (F .edges-are u v) ∙ held)) (blocked-step bytes s v fits limit made released (eqb-false _ _ (word ∙ ap not h))))
         (λ h.
-        let taken = takes-start shape F v (ready-is q) h in
-        by-command (Start v) (ownOf s v) a-start _ F (step-is bytes s v (due-released bytes s v ok made released)) taken
+        let taken = takes-start shape F v (ready-is q) (eqb-true _ _ (word ∙ ap not h)) in
+        by-command (Start v) (ownOf s v) a-start _ F (step-is bytes s v (due-start bytes s v (start-due s v fits limit made released))) taken
         (begins q (λ u. sym (F .edges-are u v) ∙ none-into (s .edges) (s .held) v .0 h u))
         (rw (leaves-stored (Start v) s v made) (start-done F v c q taken))
         says-start
@@ -331,7 +335,7 @@ module _
 -- A step of the lent tables is a move of the ghost machine.
 pub step-follows :
     (bytes : List ℕ) (t : Body) (s : Lent) (S : State) (v : ℕ) → reading bytes ≡ program t → Shape S → Ranks S → Roads S
-    → Opened S → Coded (located t) S → Unsplit S → Follows (located t) (length bytes - 1) s S → s .steps < stepLimit
+    → Opened S → Coded (located t) S → Unsplit S → Follows (located t) (length bytes - 1) s S → CountsTrue s → s .steps < stepLimit
     → ((S' : State) → Move S v a-new S' → s .made < vertexRows (s .vertices))
     → ((S' : State) → Move S v an-edge S' → s .held < edgeRows (s .edges))
     → Followed (located t) (length bytes - 1) s S v (step bytes s v)

@@ -3,20 +3,20 @@
 -- followed come to (FutureLaws).
 use Prim.Native.Nat.{ℕ, _-_, _<_, _≤_}
 use mathlib.Core.Path.{_≡_, refl, _∙_, ap}
-use mathlib.Core.Bool.{Bool, true, false, cond}
+use mathlib.Core.Bool.{Bool, true, false, not, cond}
 use mathlib.Core.Logic.{_⊎_, inl, inr}
 use mathlib.Core.List.{List}
 use mathlib.Core.Option.{Option, some}
 use native.Mathlib.Omega.{arith}
 use lib.ListN.{length, getD}
-use borrow.Author.Tests.{lt-ltb, le-ltb, eq-eqb, ne-eqb}
+use borrow.Author.Tests.{lt-ltb, ltb-true, le-ltb, eq-eqb, eqb-true, ne-eqb}
 use Rattle.graph.specs.Tests.{both}
 use Rattle.graph.specs.Tables.{Lent, NEW, RELEASED, EXECUTING, FINISHED, status}
-use Rattle.refusal.specs.Refusals.{no-such-vertex, vertex-is-new, vertex-is-finished}
-use Rattle.graph.specs.Sound.{sound}
-use Rattle.graph.specs.Commands.{hasStatus}
+use Rattle.refusal.specs.Refusals.{unsound-tables, no-such-vertex, vertex-is-new, vertex-is-finished}
+use Rattle.graph.specs.Sound.{tallyFits, sound}
+use Rattle.graph.specs.Commands.{isMade, hasStatus}
 use Rattle.graph.specs.declared.Command.the-variants.{Start, Stop}
-use Rattle.graph.proofs.TestLaws.{true-false, both-true, both-left, both-right, not-of-false, not-of-true}
+use Rattle.graph.proofs.TestLaws.{true-false, not-so, both-true, both-left, both-right, not-of-false, not-of-true}
 use Rattle.program.specs.Trees.{Kind, jobs, asyncs, finishes, forks, futures, forces, Body}
 use Rattle.program.specs.Encodings.{Name, own-scope, made-1, made-2, made-3, forced, Spot, Command, perform, newTd, newEdge, transfer, release}
 use Rattle.program.specs.Encodings.{Row, firstEdition}
@@ -25,8 +25,9 @@ use Rattle.program.specs.Reader.{program, reading}
 use Rattle.program.specs.Located.{Code, end-at, job-at, async-at, finish-at, fork-at, future-at, force-at, located, codeAt, head, itemAt}
 use Rattle.program.specs.Located as code
 use Rattle.program.proofs.LocatedLaws.{item-stands}
-use Rattle.machine.specs.Stepping.{stepLimit, steppable, place, phase, latest, followed, orZero, named, isVertex, stands, allStand, Task, item}
-use Rattle.machine.specs.Stepping.{spots, task, nth, ownOf, movedOn, Due, refusal-due, command-due, filledIn, nextOf, nextAt, due, doDue, step}
+use Rattle.machine.specs.Stepping.{stepLimit, steppable, startDue, place, phase, latest, followed, orZero, named, isVertex, stands, allStand}
+use Rattle.machine.specs.Stepping.{Task, item, spots, task, nth, ownOf, movedOn, Due, refusal-due, command-due, dueIf, filledIn, nextOf, nextAt, due, doDue}
+use Rattle.machine.specs.Stepping.{step}
 use Rattle.machine.proofs.GhostMachine.Ghost.{kindOf, goes, vertexAt, opensBehind, resolved}
 use Rattle.machine.proofs.GhostMachine.Invariant.{isItem}
 use Rattle.machine.proofs.TablesFollow.Follows.{row, wordsOf, firstOf}
@@ -42,49 +43,66 @@ pub step-is : (bytes : List ℕ) (s : Lent) (v : ℕ) {d : Due} → due bytes s 
 unfolding step
 step-is bytes s v e = ap (doDue s v) e
 
--- by the status
+-- where the tally is as it must be, a released vertex is started, whatever the other rows hold
+pub start-due :
+    (s : Lent) (v : ℕ) → tallyFits (s .vertices) (s .edges) (s .made) (s .held) ≡ true → s .steps < stepLimit → v < s .made
+    → status (s .vertices) v ≡ RELEASED → startDue s v ≡ true
+unfolding startDue
+start-due s v fits early made q =
+    both-true (both-true fits (lt-ltb (s .steps) stepLimit early))
+    (both-true (lt-ltb v (s .made) made) (eq-eqb (status (s .vertices) v) RELEASED q))
+
+pub due-start : (bytes : List ℕ) (s : Lent) (v : ℕ) → startDue s v ≡ true → due bytes s v ≡ command-due (Start v) (ownOf s v)
+unfolding due
+due-start bytes s v h = rw h refl
+
+-- where v is no released vertex, everything is looked at
+pub due-other :
+    (bytes : List ℕ) (s : Lent) (v : ℕ) → (v < s .made → status (s .vertices) v ≡ RELEASED → ⊥)
+    → due bytes s v
+    ≡ dueIf (steppable s) unsound-tables
+    (dueIf (isMade s v) no-such-vertex
+    (dueIf (not (hasStatus s v NEW)) vertex-is-new
+    (dueIf (not (hasStatus s v FINISHED)) vertex-is-finished (nextAt s v (task (length bytes - 1) (itemAt bytes (place s v)))))))
+unfolding due startDue
+due-other bytes s v other =
+    rw
+    (not-so (startDue s v)
+    (λ h.
+    let own = both-right _ _ h in
+    absurd (other (ltb-true v (s .made) (both-left _ _ own)) (eqb-true (status (s .vertices) v) RELEASED (both-right _ _ own)))))
+    refl
+
+-- by the status, on tables that take a step
 module _ (bytes : List ℕ) (s : Lent) (v : ℕ) (ok : steppable s ≡ true) where
   pub due-absent : s .made ≤ v → due bytes s v ≡ refusal-due no-such-vertex
-  unfolding due
-  due-absent le = if-pass _ _ ok ∙ if-stop _ _ (le-ltb v (s .made) le)
+  due-absent le = due-other bytes s v (omega arith) ∙ if-pass _ _ ok ∙ if-stop _ _ (le-ltb v (s .made) le)
 
   module _ (made : v < s .made) where
     pub due-new : status (s .vertices) v ≡ NEW → due bytes s v ≡ refusal-due vertex-is-new
-    unfolding due
     due-new q =
-        if-pass _ _ ok
+        due-other bytes s v (omega arith)
+        ∙ if-pass _ _ ok
         ∙ if-pass _ _ (lt-ltb v (s .made) made)
         ∙ if-stop _ _ (not-of-true (eq-eqb (status (s .vertices) v) NEW q))
 
     pub due-over : status (s .vertices) v ≡ FINISHED → due bytes s v ≡ refusal-due vertex-is-finished
-    unfolding due
     due-over q =
-        if-pass _ _ ok
+        due-other bytes s v (omega arith)
+        ∙ if-pass _ _ ok
         ∙ if-pass _ _ (lt-ltb v (s .made) made)
         ∙ if-pass _ _ (not-of-false (ne-eqb (status (s .vertices) v) NEW (omega arith)))
         ∙ if-stop _ _ (not-of-true (eq-eqb (status (s .vertices) v) FINISHED q))
 
-    -- one that is neither new nor finished
-    due-live :
-        (status (s .vertices) v ≡ NEW → ⊥) → (status (s .vertices) v ≡ FINISHED → ⊥) → (b : Bool) → hasStatus s v RELEASED ≡ b
-        → due bytes s v
-        ≡ cond b (command-due (Start v) (ownOf s v)) (nextAt s v (task (length bytes - 1) (itemAt bytes (place s v))))
-    unfolding due
-    due-live new over b q =
-        if-pass _ _ ok
-        ∙ if-pass _ _ (lt-ltb v (s .made) made)
-        ∙ if-pass _ _ (not-of-false (ne-eqb (status (s .vertices) v) NEW new))
-        ∙ if-pass _ _ (not-of-false (ne-eqb (status (s .vertices) v) FINISHED over))
-        ∙ rw q refl
-
-    -- a released one is started
-    pub due-released : status (s .vertices) v ≡ RELEASED → due bytes s v ≡ command-due (Start v) (ownOf s v)
-    due-released q = due-live (omega arith) (omega arith) true (eq-eqb (status (s .vertices) v) RELEASED q)
-
     -- an executing one looks for its item
     pub due-executing :
         status (s .vertices) v ≡ EXECUTING → due bytes s v ≡ nextAt s v (task (length bytes - 1) (itemAt bytes (place s v)))
-    due-executing q = due-live (omega arith) (omega arith) false (ne-eqb (status (s .vertices) v) RELEASED (omega arith))
+    due-executing q =
+        due-other bytes s v (omega arith)
+        ∙ if-pass _ _ ok
+        ∙ if-pass _ _ (lt-ltb v (s .made) made)
+        ∙ if-pass _ _ (not-of-false (ne-eqb (status (s .vertices) v) NEW (omega arith)))
+        ∙ if-pass _ _ (not-of-false (ne-eqb (status (s .vertices) v) FINISHED (omega arith)))
 
 -- words of a row
 module _ (s : Lent) (v : ℕ) {st pl sc ph a b c l : ℕ} (h : wordsOf s v ≡ row st pl sc ph a b c l) where

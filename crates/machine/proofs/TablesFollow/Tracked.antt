@@ -11,6 +11,7 @@ use lib.ListN.{length, length-append}
 use Rattle.graph.specs.Tables.{Lent, usableLimit, vertexWords, edgeWords, vertexRows}
 use Rattle.graph.specs.Tables as tables
 use Rattle.graph.specs.Answers.{Outcome}
+use Rattle.graph.specs.InCounts.{CountsTrue}
 use Rattle.program.specs.Limits.{numberBytes, programBytes, vertexLimit}
 use Rattle.program.specs.Trees.{jobs, forces, Body, end, job, async, finish, fork, future, force, total, same, counts}
 use Rattle.program.specs.Encodings.{verticesMade, edgeRowsNeeded, stepsTaken, firstEdition}
@@ -30,6 +31,7 @@ use Rattle.machine.specs.Demand2.{Lends}
 use Rattle.machine.specs.Reached.{Reached, begun, stepped}
 use Rattle.machine.specs.Demand3.{acceptedIn, answersJob, ranIn, Written, written, Answered, first, later, ByChoice}
 use Rattle.machine.proofs.LoadLaws.{load-accepted}
+use Rattle.machine.proofs.LookLaws.{step-true}
 use Rattle.machine.proofs.GhostMachine.Ghost.{State, Event, a-new, an-edge, Move}
 use Rattle.machine.proofs.GhostMachine.Invariant.{Coded, codeOf}
 use Rattle.machine.proofs.GhostMachine.GhostLaws.{clash}
@@ -63,13 +65,14 @@ answered-snoc {a} {b} (c ∷ answers) (later i) = more (answered-snoc answers i)
     more (inl j) = inl (later j)
     more (inr e) = inr e
 
--- The state and the events of the ghost machine that what was reached follows.
+-- The state and the events of the ghost machine that what was reached follows. The words that start reads are true there.
 pub record Tracked (bytes : List ℕ) (t : Body) (s₀ : Lent) (answers : List StepSaid) (s : Lent) : Type 0 where
   pub state : State
   pub events : List Event
   pub runs : Runs (beginning (located t) (length bytes - 1)) events state
   pub inv : Inv (located t) state
   pub follows : Follows (located t) (length bytes - 1) s state
+  pub counts-true : CountsTrue s
   pub steps-are : s .steps ≡ length events
   pub accepted-are : acceptedIn answers ≡ length events
   pub jobs-are : (o : ℕ) → ranIn o answers ≡ spent (jobAt o) events
@@ -97,6 +100,7 @@ tracked-begun bytes t s₀ r h =
       runs = no-move;
       inv = inv-beginning t (length bytes - 1) (last-byte bytes t r) (opens-located bytes t r);
       follows = f;
+      counts-true = b .counts-true;
       steps-are = b .steps-none;
       accepted-are = refl;
       jobs-are = λ o. refl;
@@ -228,6 +232,7 @@ module _ (bytes : List ℕ) (t : Body) (s₀ : Lent) (r : reading bytes ≡ prog
           runs = T .runs;
           inv = T .inv;
           follows = T .follows;
+          counts-true = T .counts-true;
           steps-are = T .steps-are;
           accepted-are = omega (arith, accepted-snoc answers (said.refused n 0), T .accepted-are);
           jobs-are = λ o. omega (arith, ran-snoc o answers (said.refused n 0), T .jobs-are o);
@@ -248,16 +253,17 @@ module _ (bytes : List ℕ) (t : Body) (s₀ : Lent) (r : reading bytes ≡ prog
 
     moved-tracked :
         {e : Event} {S' : State} {a : StepSaid} {s' : Lent} → Move (T .state) v e S'
-        → Follows (located t) (length bytes - 1) s' S' → Answers (T .state) v e a → Tallied e s s'
+        → Follows (located t) (length bytes - 1) s' S' → CountsTrue s' → Answers (T .state) v e a → Tallied e s s'
         → Tracked bytes t s₀ (answers ++ (a ∷ [])) s'
     unfolding spent
-    moved-tracked {e} {S'} {a} {s'} m f says tally =
+    moved-tracked {e} {S'} {a} {s'} m f true-after says tally =
         record {
           state = S';
           events = e ∷ T .events;
           runs = and-then (T .runs) m;
           inv = inv-kept (located t) (laid-located t) (T .inv) m;
           follows = f;
+          counts-true = true-after;
           steps-are = omega (arith, tally .steps-are, T .steps-are);
           accepted-are = counted (accepted a) (answers-accepted says) (accepted-snoc answers a);
           jobs-are = λ o. omega (arith, ran-snoc o answers a, answers-jobs says o, T .jobs-are o);
@@ -286,17 +292,19 @@ module _ (bytes : List ℕ) (t : Body) (s₀ : Lent) (r : reading bytes ≡ prog
     pub stepped-as : Followed (located t) (length bytes - 1) s (T .state) v (step bytes s v)
     stepped-as =
         let inv = T .inv in
-        step-follows bytes t s (T .state) v r (inv .shape) (inv .ranks) (inv .roads) (inv .opened) (inv .coded) (inv .unsplit) (T .follows) room-steps
+        step-follows bytes t s (T .state) v r (inv .shape) (inv .ranks) (inv .roads) (inv .opened) (inv .coded) (inv .unsplit) (T .follows)
+        (T .counts-true)
+        room-steps
         room-new room-edge
 
     pub tracked-stepped : Tracked bytes t s₀ (answers ++ (step bytes s v .answer ∷ [])) (step bytes s v .after)
-    tracked-stepped = go (step bytes s v) stepped-as
+    tracked-stepped = go (step bytes s v) (step-true bytes s v (T .counts-true)) stepped-as
       where
         go :
-            (o : Outcome StepSaid) → Followed (located t) (length bytes - 1) s (T .state) v o
+            (o : Outcome StepSaid) → CountsTrue (o .after) → Followed (located t) (length bytes - 1) s (T .state) v o
             → Tracked bytes t s₀ (answers ++ (o .answer ∷ [])) (o .after)
-        go o (refused n h e) = rw e (refused-tracked n h)
-        go o (moved e S' m f says tally) = moved-tracked m f says tally
+        go o true-after (refused n h e) = rw e (refused-tracked n h)
+        go o true-after (moved e S' m f says tally) = moved-tracked m f true-after says tally
 
 -- The rows that the program needs were lent.
 pub rows-lent :
