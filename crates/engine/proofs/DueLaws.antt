@@ -1,27 +1,24 @@
--- What is due at a step, in the order of the code's tests: a chain of refusals, then start, or what the item at the vertex's place asks
--- for.
-use Prim.Native.Nat.{ℕ, _+_, _-_, _*_, _<_, _≤_}
-use mathlib.Core.Path.{_≡_, refl, sym, _∙_, ap}
-use mathlib.Core.Bool.{Bool, true, false, not, cond}
+-- What is due at a step, in the order of the code's tests: a chain of refusals, or what the item at the vertex's place asks for.
+use Prim.Native.Nat.{ℕ, _+_, _-_, _<_, _≤_}
+use mathlib.Core.Path.{_≡_, refl, sym, _∙_, ap, subst}
+use mathlib.Core.Bool.{Bool, true, false, cond}
 use mathlib.Core.List.{List}
 use mathlib.Core.Logic.{⊎-elim}
 use native.Mathlib.Omega.{arith}
 use lib.Dec.{eqb, ltb}
 use lib.ListN.{length, getD, List·getD-eq-default}
 use borrow.Author.Tests.{lt-ltb, le-ltb, ltb-true, ltb-false, eq-eqb, ne-eqb}
-use Rattle.graph.specs.declared.Tally.{Tally}
-use Rattle.graph.specs.Tables.{Lent, lent, NEW, RELEASED, FINISHED, vertexWords, placeWord, scopeWord, phaseWord, madeWord, futureWord, vertexWord}
-use Rattle.graph.specs.Tables.{status}
-use Rattle.graph.specs.declared.Command.the-variants.{Start}
+use Rattle.graph.specs.Tests.{both}
+use Rattle.graph.specs.Tables.{Lent, NEW, EXECUTING, FINISHED, placeWord, scopeWord, phaseWord, madeWord, futureWord, vertexWord, status}
 use Rattle.graph.specs.Sound.{sound}
-use Rattle.graph.proofs.TestLaws.{decide, both-true, both-false-left, both-false-right, not-of-true, not-of-false}
-use Rattle.graph.proofs.CallLaws.{answered-yes, answered-no}
-use Rattle.graph.proofs.SoundChecks.{sound-rows}
+use Rattle.graph.proofs.TestLaws.{decide, both-true, both-left, both-false-left, both-false-right, not-of-true, not-of-false}
+use Rattle.graph.proofs.CallLaws.{answered, answered-yes, answered-no}
 use Rattle.program.specs.Limits.{programBytes}
 use Rattle.program.specs.Answers.{Stands}
 use Rattle.program.specs.Located.{itemAt, startsAt, MarksStarts}
 use Rattle.machine.specs.Stepping as machine
-use Rattle.machine.specs.Stepping.{stepLimit, steppable, place, task, ownOf, Due, refusal-due, command-due, dueIf, nextAt, due}
+use Rattle.machine.specs.Stepping.{stepLimit, steppable, startDue, place, task, ownOf, Due, refusal-due, dueIf, nextAt, due}
+use Rattle.machine.proofs.TablesFollow.StepLaws.{steppable-of, due-executing}
 use Rattle.engine.specs.declared.Own.{Own}
 use Rattle.engine.specs.Answers.{ownWords}
 use Rattle.engine.specs.Internal.Underway.{OwnIn, DueThere, Next, NextIn}
@@ -65,8 +62,16 @@ marked-starts bytes marks p marked full e =
     ap (λ (x : ℕ). eqb x 1) (List·getD-eq-default marks 0 beyond) ∙ sym (starts-beyond bytes p (omega arith)))
     (decide (ltb p (length marks)))
 
--- The chain, test by test: one that passes hands over to the rest, one that does not answers its number. Start is due where its test
--- holds.
+-- a test that holds leaves the other one
+pub both-skip : {a : Bool} (b : Bool) → a ≡ true → b ≡ both a b
+unfolding both
+both-skip b p = subst (λ (x : Bool). b ≡ both x b) (sym p) refl
+
+-- an answer no
+pub answers-no : {b : Bool} → b ≡ false → false ≡ b
+answers-no p = sym p
+
+-- The chain, test by test: one that passes hands over to the rest, one that does not answers its number. No start is due there.
 pub passed : {b : Bool} (n : ℕ) {d rest : Due} → b ≡ true → d ≡ rest → d ≡ dueIf b n rest
 unfolding dueIf
 passed n {d} {rest} p q = q ∙ ap (λ (x : Bool). dueIf x n rest) (sym p)
@@ -75,26 +80,14 @@ pub halted : {b : Bool} (n : ℕ) (rest : Due) → b ≡ false → refusal-due n
 unfolding dueIf
 halted n rest p = ap (λ (x : Bool). dueIf x n rest) (sym p)
 
-first-of : {b : Bool} {d : Due} (rest : Due) → b ≡ true → d ≡ cond b d rest
-first-of {d = d} rest p = ap (λ (x : Bool). cond x d rest) (sym p)
-
-other-of : {b : Bool} (first : Due) {d rest : Due} → b ≡ false → d ≡ rest → d ≡ cond b first rest
+pub other-of : {b : Bool} (first : Due) {d rest : Due} → b ≡ false → d ≡ rest → d ≡ cond b first rest
 other-of first {rest = rest} p q = q ∙ ap (λ (x : Bool). cond x first rest) (sym p)
-
--- what can be read of the rows, and of one, once `is_sound` has answered yes
-pub rows-there : (v e : List ℕ) (t : Tally) {r : Bool} → r ≡ sound (lent v e t) → not r ≡ false → vertexWords * t .made ≤ length v
-rows-there v e t p q = sound-rows (lent v e t) (answered-yes p q) .0
-
-pub row-there : (v e : List ℕ) (t : Tally) (k : ℕ) {r : Bool} → r ≡ sound (lent v e t) → not r ≡ false → k < t .made → vertexWords * k + vertexWords ≤ length v
-row-there v e t k p q lt = omega (arith, rows-there v e t p q)
-
-pub word-there :
-    (v e : List ℕ) (t : Tally) (k w : ℕ) {r : Bool} → w < vertexWords → r ≡ sound (lent v e t) → not r ≡ false → k < t .made → vertexWords * k + w < length v
-word-there v e t k w l p q lt = omega (arith, row-there v e t k p q lt)
 
 pub ruleset dues = (
   passed,
   halted,
+  other-of,
+  answers-no,
   both-true,
   both-false-left,
   both-false-right,
@@ -104,6 +97,7 @@ pub ruleset dues = (
   le-ltb,
   eq-eqb,
   ne-eqb,
+  answered,
   answered-yes,
   answered-no,
   refl,
@@ -119,23 +113,31 @@ pub own-there :
 unfolding ownOf
 own-there t k s e = cc
 
--- what is due at the step of a vertex that is released, and of one that executes
-pub there-start :
-    (bytes t : List ℕ) (made k : ℕ) (w : Own) → OwnIn t k (ownWords w) → status t k ≡ RELEASED → DueThere bytes t made k (command-due (Start k) (ownWords w))
-there-start bytes t made k w own is s e m = ap (command-due (Start k)) (own s e) ∙ first-of _ (eq-eqb _ _ (ap (λ (x : List ℕ). status x k) e ∙ is))
-
-pub there-executing :
-    (bytes t : List ℕ) (made k : ℕ) (w : Own) {d : Due} → OwnIn t k (ownWords w) → (status t k ≡ RELEASED → ⊥)
+-- what is due at the step of a vertex that executes, by its words
+pub there-next :
+    (bytes t : List ℕ) (made k : ℕ) (w : Own) {d : Due} → OwnIn t k (ownWords w)
     → Next bytes t k (vertexWord t k scopeWord) (ownWords w) made d → DueThere bytes t made k d
-there-executing bytes t made k w own unlike next s e m =
-    other-of _ (ne-eqb _ _ (λ is. unlike (sym (ap (λ (x : List ℕ). status x k) e) ∙ is)))
-    (next s e (sym (own s e)) (ap (λ (x : List ℕ). vertexWord x k scopeWord) e) m)
+there-next bytes t made k w own next s e m = next s e (sym (own s e)) (ap (λ (x : List ℕ). vertexWord x k scopeWord) e) m
 
--- behind all tests
+-- so that is due where steps are taken
 pub due-there :
-    (bytes v e : List ℕ) (t : Tally) (k : ℕ) {d : Due} → sound (lent v e t) ≡ true → t .steps < stepLimit → k < t .made
-    → (status v k ≡ NEW → ⊥) → (status v k ≡ FINISHED → ⊥) → DueThere bytes v (t .made) k d → d ≡ due bytes (lent v e t) k
-unfolding due steppable
-due-there bytes v e t k fine few lt a b h =
-    passed _ (both-true fine (lt-ltb _ _ few))
-    (passed _ (lt-ltb _ _ lt) (passed _ (not-of-false (ne-eqb _ _ a)) (passed _ (not-of-false (ne-eqb _ _ b)) (h (lent v e t) refl refl))))
+    (bytes : List ℕ) (s : Lent) (k : ℕ) {d : Due} → sound s ≡ true → s .steps < stepLimit → k < s .made
+    → status (s .vertices) k ≡ EXECUTING → DueThere bytes (s .vertices) (s .made) k d → d ≡ due bytes s k
+due-there bytes s k known few lt is h = h s refl refl ∙ sym (due-executing bytes s k (steppable-of s known few) lt is)
+
+-- tables that take steps are sound
+pub steppable-sound : (s : Lent) → steppable s ≡ true → sound s ≡ true
+unfolding steppable
+steppable-sound s h = both-left _ _ h
+
+-- what the item asks for is due behind all tests
+pub due-item :
+    (bytes : List ℕ) (s : Lent) (k : ℕ) (w : Own) {d : Due} → startDue s k ≡ false → steppable s ≡ true → k < s .made
+    → (status (s .vertices) k ≡ NEW → ⊥) → (status (s .vertices) k ≡ FINISHED → ⊥) → OwnIn (s .vertices) k (ownWords w)
+    → Next bytes (s .vertices) k (vertexWord (s .vertices) k scopeWord) (ownWords w) (s .made) d → d ≡ due bytes s k
+unfolding due
+due-item bytes s k w off ok lt a b own next =
+    other-of _ off
+    (passed _ ok
+    (passed _ (lt-ltb _ _ lt)
+    (passed _ (not-of-false (ne-eqb _ _ a)) (passed _ (not-of-false (ne-eqb _ _ b)) (next s refl (sym (own s refl)) refl refl)))))

@@ -5,8 +5,8 @@
 --     FollowLaws     the words that a force follows
 --     StepIs         a step is what is due, with the vertex's own words stored
 --     PromiseLaws    a loading, and then a list of steps
---     CandidateLaws  which vertices may step, and what is due there
---     LowestLaws     looking for the lowest of them that can step
+--     CandidateLaws  which vertices can step
+--     LowestLaws     looking for the lowest of them
 --     RunLaws        steps of the lowest vertex, one after the other
 --     Results        what the cores return, for the law of thin entries (crate graph, proofs/Thin)
 pub mod LoadedLaws

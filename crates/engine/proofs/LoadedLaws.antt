@@ -6,7 +6,7 @@ use native.Mathlib.Omega.{arith}
 use lib.ListN.{length, set, length-set}
 use Rattle.graph.specs.declared.Tally.{Tally}
 use Rattle.graph.specs.declared.OpenDone.{OpenDone}
-use Rattle.graph.specs.Tables.{Lent, lent, RELEASED, vertexWords, statusWord, placeWord, scopeWord, edgeWords, vertexRows, edgeRows}
+use Rattle.graph.specs.Tables.{Lent, lent, RELEASED, vertexWords, statusWord, placeWord, scopeWord, inCountWord, edgeWords, vertexRows, edgeRows}
 use Rattle.graph.specs.Tables.{setVertexWord, setStatus, clear}
 use Rattle.graph.specs.Answers.{openingOutcome, Outcome, OpeningSaid}
 use Rattle.graph.specs.Commands.{openedTables, opening, appended}
@@ -150,14 +150,15 @@ module _ (bytes v e : List ℕ) (t : Tally) (c : ItemCounts) (is : loads (itemCo
           omega arith
 
       tables :
-          {v'' : List ℕ} → v'' ≡ placed (placed v' 0 0) 1 (length bytes - 1)
+          {v'' : List ℕ} → v'' ≡ setVertexWord (placed (placed v' 0 0) 1 (length bytes - 1)) 1 inCountWord 1
           → _≡_ {A = Lent} (record { vertices = v''; edges = set (set e' 0 0) 1 1; made = 2; held = 1; steps = 0 }) (loadedTables bytes (lent v e t))
       unfolding loadedTables appended
       tables placing =
           λ i. record {
             vertices =
-                (placing ∙ ap (λ (x : List ℕ). placed (placed x 0 0) 1 (length bytes - 1)) (as-opened .0)
-                ∙ ap (λ (x : List ℕ). placed x 1 (length bytes - 1)) (placed-again (clear v 0 (vertexWords * vertexRows v)) 0 0))
+                (placing ∙ ap (λ (x : List ℕ). setVertexWord (placed (placed x 0 0) 1 (length bytes - 1)) 1 inCountWord 1) (as-opened .0)
+                ∙ ap (λ (x : List ℕ). setVertexWord (placed x 1 (length bytes - 1)) 1 inCountWord 1)
+                (placed-again (clear v 0 (vertexWords * vertexRows v)) 0 0))
                 i;
             edges = ap (λ (x : List ℕ). set (set x 0 0) 1 1) (as-opened .1) i;
             made = 2;
@@ -166,7 +167,7 @@ module _ (bytes v e : List ℕ) (t : Tally) (c : ItemCounts) (is : loads (itemCo
           }
 
       pub load-accepted :
-          {v'' : List ℕ} → v'' ≡ placed (placed v' 0 0) 1 (length bytes - 1)
+          {v'' : List ℕ} → v'' ≡ setVertexWord (placed (placed v' 0 0) 1 (length bytes - 1)) 1 inCountWord 1
           → Loaded bytes (lent v e t) loaded (record { vertices = v''; edges = set (set e' 0 0) 1 1; made = 2; held = 1; steps = 0 })
       load-accepted placing =
           let o =

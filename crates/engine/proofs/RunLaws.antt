@@ -1,41 +1,36 @@
 -- A run turn by turn, as the code takes it: the vertices are looked at one after the other until a step of one is accepted, and the run goes
 -- on behind this step.
 --
---     passed-by, due-here                      a vertex that may not step, and what is due of another
+--     start-here, started-up                   a vertex that may start: a start is due, and taken
+--     passed-by, due-here                      another one that does not execute, and what is due at one that does
 --     turned-down, taken-up, none-left         its step is refused, or accepted; all vertices are looked at
---     idle-more, idle-end, idle-below          the first vertex that executes or is released: none below it can step
---     due-executing                            what is due of a vertex that executes
---     sound-there, cannot-there,
---     attempted-there                          tables equal to those at entry
 --     finished-end                             all of them are finished
 --     used-found, used-none, used-refused      how a run ends whose budget is used, by what the look finds
---     unsound-run, late-run, run-starts        a run at its start
+--     run-starts                               a run at its start
 --     run-turn, run-rests, run-used, ran       a turn, and the ends of a run
 use Prim.Native.Nat.{ℕ, suc, _+_, _-_, _*_, _<_, _≤_}
 use mathlib.Core.Path.{_≡_, refl, sym, _∙_, ap, subst}
 use mathlib.Core.Bool.{Bool, true, false, not}
 use mathlib.Core.List.{List}
 use mathlib.Core.Option.{Option, none, some}
-use mathlib.Core.Logic.{inl, ⊎-elim}
 use native.Mathlib.Omega.{arith}
 use native.Mathlib.Numerals.{add-one}
 use lib.Dec.{eqb}
-use lib.ListN.{length, getD}
-use borrow.Author.Tests.{lt-ltb, le-ltb, not-true, not-false}
+use lib.ListN.{length}
+use borrow.Author.Tests.{not-true, not-false}
 use Rattle.graph.specs.Tests.{every}
 use Rattle.graph.specs.declared.Tally.{Tally}
 use Rattle.refusal.specs.declared.Refusal.{Refusal}
-use Rattle.graph.specs.Tables.{Lent, lent, RELEASED, EXECUTING, FINISHED, vertexWords, status}
+use Rattle.graph.specs.Tables.{Lent, lent, EXECUTING, FINISHED, vertexWords, status}
 use Rattle.graph.specs.Sound.{sound}
-use Rattle.graph.proofs.TestLaws.{below-suc, both-true, both-false-left, both-false-right, at-end}
+use Rattle.graph.proofs.TestLaws.{at-end}
 use Rattle.graph.proofs.SoundChecks.{sound-rows}
-use Rattle.refusal.specs.Refusals.{unsound-tables}
 use Rattle.machine.specs.Answers.{StepSaid, accepted}
-use Rattle.machine.specs.Stepping.{stepLimit, steppable, Due, due, step}
-use Rattle.machine.specs.Running.{canStep, lowest, chosen, choose, no-choice, choice-refused, Ending, spent, refused, allFinished}
+use Rattle.machine.specs.Stepping.{stepLimit, steppable, startDue, Due, due, step}
+use Rattle.machine.specs.Running.{canStep, lowest, chosen, choose, no-choice, choice-refused, Ending, spent, allFinished}
 use Rattle.machine.specs.Running.{RunOutcome, ended, runOn, run}
 use Rattle.machine.specs.Traces.{Stepped, Ran}
-use Rattle.machine.proofs.LookLaws.{step-sound, idle-cannot, lowest-none, lowest-is, run-turned, run-goes, rests, used-up, goes-on}
+use Rattle.machine.proofs.LookLaws.{step-sound, lowest-none, lowest-is, run-goes, rests, used-up, goes-on}
 use Rattle.machine.proofs.GhostMachine.GhostLaws.{clash}
 use Rattle.machine.proofs.StepDemand2.{step-keeps}
 use Rattle.engine.specs.declared.Done.{Done}
@@ -44,10 +39,10 @@ use Rattle.engine.specs.declared.Attempt.the-variants as of-attempt
 use Rattle.engine.specs.declared.Lowest.{Lowest}
 use Rattle.engine.specs.declared.Lowest.the-variants as of-lowest
 use Rattle.engine.specs.Answers.{said, choiceOf}
-use Rattle.engine.specs.Internal.Underway.{DueThere, Blocked, CannotBelow, FirstLive, Attempted, atRest, endsWith, whenUsed}
+use Rattle.engine.specs.Internal.Underway.{DueThere, Starts, mayStart, Attempted, atRest, endsWith, whenUsed}
 use Rattle.engine.proofs.DueLaws.{due-there}
-use Rattle.engine.proofs.CandidateLaws.{mayStep, barred, candidate-due}
-use Rattle.engine.proofs.LowestLaws.{none-more}
+use Rattle.engine.proofs.CandidateLaws.{may-due, start-can, barred}
+use Rattle.engine.proofs.LowestLaws.{CannotBelow, none-more}
 
 -- all vertices were looked at, and are finished
 pub finished-end :
@@ -59,23 +54,49 @@ finished-end t made v p q h = sym (at-end (λ n. every (λ k. eqb (status t k) F
 same-lent : {v v₀ e e₀ : List ℕ} (t : Tally) → v ≡ v₀ → e ≡ e₀ → lent v e t ≡ lent v₀ e₀ t
 same-lent t p q = cc
 
--- a vertex that may not step is passed by
-pub passed-by :
-    (bytes v₀ e₀ v marks : List ℕ) (t : Tally) (k : ℕ) {r : Bool} → sound (lent v₀ e₀ t) ≡ true → v ≡ v₀ → k < t .made
-    → Blocked e₀ (t .held) marks → r ≡ mayStep (status v k) (getD marks k 0) → not r ≡ true → CannotBelow bytes (lent v₀ e₀ t) k
-    → CannotBelow bytes (lent v₀ e₀ t) (k + 1)
-passed-by bytes v₀ e₀ v marks t k {r} known same made blocked may not-may lower =
-    none-more bytes (lent v₀ e₀ t) k lower
-    (barred bytes v₀ e₀ marks t k known made blocked (subst (λ (x : List ℕ). r ≡ mayStep (status x k) (getD marks k 0)) same may)
-    (not-true _ not-may))
+-- a vertex that can step, where none below it can, is the lowest
+lowest-step :
+    (bytes v₀ e₀ v e v' e' : List ℕ) (t t' : Tally) (k : ℕ) (answer : StepSaid) → v ≡ v₀ → e ≡ e₀ → k < t .made
+    → Stepped bytes (lent v e t) k answer (lent v' e' t') → canStep bytes (lent v e t) k ≡ true → CannotBelow bytes (lent v₀ e₀ t) k
+    → (u : ℕ) × (lowest bytes (lent v₀ e₀ t) ≡ some u) × Stepped bytes (lent v₀ e₀ t) u answer (lent v' e' t')
+lowest-step bytes v₀ e₀ v e v' e' t t' k answer p q made stepped can lower =
+    let same : lent v e t ≡ lent v₀ e₀ t = same-lent t p q in (
+      k,
+      lowest-is bytes (lent v₀ e₀ t) k made (subst (λ (s : Lent). canStep bytes s k ≡ true) same can) lower,
+      subst (λ (s : Lent). Stepped bytes s k answer (lent v' e' t')) same stepped,
+    )
 
--- of another this is due
+-- at a vertex that may start a start is due
+pub start-here :
+    (v₀ e₀ v e : List ℕ) (t : Tally) (k : ℕ) {r : Bool} → sound (lent v₀ e₀ t) ≡ true → v ≡ v₀ → e ≡ e₀ → t .steps < stepLimit → k < t .made
+    → r ≡ mayStart v k → r ≡ true → startDue (lent v e t) k ≡ true
+start-here v₀ e₀ v e t k known p q early made may is = may-due (lent v e t) k (ap sound (same-lent t p q) ∙ known) early made may is
+
+-- and taken
+pub started-up :
+    (bytes v₀ e₀ v e v' e' : List ℕ) (t t' : Tally) (k : ℕ) {r : Bool} (answer : StepSaid) → sound (lent v₀ e₀ t) ≡ true → v ≡ v₀ → e ≡ e₀
+    → t .steps < stepLimit → k < t .made → r ≡ mayStart v k → r ≡ true → Starts (lent v e t) k answer (lent v' e' t')
+    → CannotBelow bytes (lent v₀ e₀ t) k
+    → (u : ℕ) × (lowest bytes (lent v₀ e₀ t) ≡ some u) × Stepped bytes (lent v₀ e₀ t) u answer (lent v' e' t')
+started-up bytes v₀ e₀ v e v' e' t t' k answer known p q early made may is starts lower =
+    lowest-step bytes v₀ e₀ v e v' e' t t' k answer p q made (starts bytes)
+    (start-can bytes (lent v e t) k (ap sound (same-lent t p q) ∙ known) early made may is) lower
+
+-- another one that does not execute is passed by
+pub passed-by :
+    (bytes v₀ e₀ v : List ℕ) (t : Tally) (k : ℕ) {r : Bool} → sound (lent v₀ e₀ t) ≡ true → v ≡ v₀ → k < t .made → r ≡ mayStart v k
+    → r ≡ false → (status v k ≡ EXECUTING → ⊥) → CannotBelow bytes (lent v₀ e₀ t) k → CannotBelow bytes (lent v₀ e₀ t) (k + 1)
+passed-by bytes v₀ e₀ v t k {r} known same made may not-may idle lower =
+    none-more bytes (lent v₀ e₀ t) k lower
+    (barred bytes (lent v₀ e₀ t) k known made (subst (λ (x : List ℕ). r ≡ mayStart x k) same may) not-may
+    (subst (λ (x : List ℕ). status x k ≡ EXECUTING → ⊥) same idle))
+
+-- at one that executes this is due
 pub due-here :
-    (bytes v₀ e₀ v e marks : List ℕ) (t : Tally) (k : ℕ) {r : Bool} {d : Due} → sound (lent v₀ e₀ t) ≡ true → v ≡ v₀ → e ≡ e₀
-    → t .steps < stepLimit → k < t .made → r ≡ mayStep (status v k) (getD marks k 0) → not r ≡ false → DueThere bytes v (t .made) k d
-    → d ≡ due bytes (lent v e t) k
-due-here bytes v₀ e₀ v e marks t k known p q early made may not-may there =
-    candidate-due bytes v e marks t k (ap sound (same-lent t p q) ∙ known) early made may (not-false _ not-may) there
+    (bytes v₀ e₀ v e : List ℕ) (t : Tally) (k : ℕ) {d : Due} → sound (lent v₀ e₀ t) ≡ true → v ≡ v₀ → e ≡ e₀ → t .steps < stepLimit
+    → k < t .made → status v k ≡ EXECUTING → DueThere bytes v (t .made) k d → d ≡ due bytes (lent v e t) k
+due-here bytes v₀ e₀ v e t k known p q early made is there =
+    due-there bytes (lent v e t) k (ap sound (same-lent t p q) ∙ known) early made is there
 
 -- a step that is refused leaves the tables, and its vertex cannot step
 pub turned-down :
@@ -98,58 +119,14 @@ pub taken-up :
     → Stepped bytes (lent v e t) k answer (lent v' e' t') → r ≡ not (accepted answer) → not r ≡ true → CannotBelow bytes (lent v₀ e₀ t) k
     → (u : ℕ) × (lowest bytes (lent v₀ e₀ t) ≡ some u) × Stepped bytes (lent v₀ e₀ t) u answer (lent v' e' t')
 taken-up bytes v₀ e₀ v e v' e' t t' k answer p q made stepped refuses not-refused lower =
-    let same : lent v e t ≡ lent v₀ e₀ t = same-lent t p q in
-    let is-accepted : accepted answer ≡ true = not-false _ (sym refuses ∙ not-true _ not-refused) in
-    let here : Stepped bytes (lent v₀ e₀ t) k answer (lent v' e' t') = subst (λ (s : Lent). Stepped bytes s k answer (lent v' e' t')) same stepped in
-    (k, lowest-is bytes (lent v₀ e₀ t) k made (sym (ap accepted (here .says)) ∙ is-accepted) lower, here)
+    lowest-step bytes v₀ e₀ v e v' e' t t' k answer p q made stepped
+    (sym (ap accepted (stepped .says)) ∙ not-false _ (sym refuses ∙ not-true _ not-refused)) lower
 
 -- no vertex can step once all are looked at
 pub none-left :
     (bytes v₀ e₀ : List ℕ) (t : Tally) (k : ℕ) → k ≤ t .made → t .made ≤ k → CannotBelow bytes (lent v₀ e₀ t) k
     → lowest bytes (lent v₀ e₀ t) ≡ none
 none-left bytes v₀ e₀ t k p q h = lowest-none bytes (lent v₀ e₀ t) (λ u lt. h u (omega arith))
-
--- one vertex more neither executes nor is released
-pub idle-more :
-    (t : List ℕ) (made k : ℕ) → k < made → FirstLive t made k → (status t k ≡ EXECUTING → ⊥) → (status t k ≡ RELEASED → ⊥)
-    → FirstLive t made (k + 1)
-idle-more t made k lt h p q =
-    rw (add-one k) (
-      omega arith,
-      λ u below.
-          ⊎-elim (λ e. subst (λ (x : ℕ). (status t x ≡ EXECUTING → ⊥) × (status t x ≡ RELEASED → ⊥)) (sym e) (p, q)) (λ l. h .1 u l) (below-suc below),
-    )
-
--- none of the vertices made does
-pub idle-end : (t : List ℕ) (made k : ℕ) → made ≤ k → FirstLive t made k → FirstLive t made made
-idle-end t made k le h = (omega arith, λ u lt. h .1 u (omega arith))
-
--- no vertex below the first that executes or is released can step
-pub idle-below :
-    (bytes v e : List ℕ) (t : Tally) (r : ℕ) → sound (lent v e t) ≡ true → FirstLive v (t .made) r → CannotBelow bytes (lent v e t) r
-idle-below bytes v e t r known first u lt =
-    idle-cannot bytes (lent v e t) u known (omega (arith, first .0)) (first .1 u lt .0) (inl (first .1 u lt .1))
-
--- what is due of a vertex that executes
-pub due-executing :
-    (bytes v e : List ℕ) (t : Tally) (k : ℕ) {d : Due} → sound (lent v e t) ≡ true → t .steps < stepLimit → k < t .made
-    → status v k ≡ EXECUTING → DueThere bytes v (t .made) k d → d ≡ due bytes (lent v e t) k
-due-executing bytes v e t k known few lt is there =
-    due-there bytes v e t k known few lt (λ q. omega arith) (λ q. omega arith) there
-
--- what holds of tables holds of equal ones
-pub sound-there :
-    (v e v' e' : List ℕ) (t : Tally) → v' ≡ v → e' ≡ e → sound (lent v e t) ≡ true → sound (lent v' e' t) ≡ true
-sound-there v e v' e' t p q known = ap sound (same-lent t p q) ∙ known
-
-pub cannot-there :
-    (bytes v e v' e' : List ℕ) (t : Tally) (k : ℕ) → v' ≡ v → e' ≡ e → CannotBelow bytes (lent v e t) k → CannotBelow bytes (lent v' e' t) k
-cannot-there bytes v e v' e' t k p q h = subst (λ (s : Lent). CannotBelow bytes s k) (sym (same-lent t p q)) h
-
-pub attempted-there :
-    (bytes v e v' e' : List ℕ) (t : Tally) (a : Attempt) (vs es : List ℕ) → v' ≡ v → e' ≡ e → Attempted bytes (lent v' e' t) a vs es
-    → Attempted bytes (lent v e t) a vs es
-attempted-there bytes v e v' e' t a vs es p q h = subst (λ (s : Lent). Attempted bytes s a vs es) (same-lent t p q) h
 
 -- a run whose budget is used, by what the look finds: a vertex,
 pub used-found :
@@ -175,29 +152,13 @@ used-refused (some u) x told is =
 used-refused none x told is =
     let e : choice-refused (x .number) (x .place) ≡ no-choice = sym (ap choiceOf is) ∙ told in clash cc
 
--- a run on unsound tables is refused,
-pub unsound-run :
-    (bytes : List ℕ) (s : Lent) (budget : ℕ) → sound s ≡ false → run bytes s budget ≡ ended (refused unsound-tables 0) none 0 s
-unfolding steppable
-unsound-run bytes s budget h = run-turned bytes s budget (both-false-left _ h)
-
--- and so is one on tables whose steps are used up
-pub late-run :
-    (bytes : List ℕ) (s : Lent) (budget : ℕ) → stepLimit ≤ s .steps → run bytes s budget ≡ ended (refused unsound-tables 0) none 0 s
-unfolding steppable
-late-run bytes s budget h = run-turned bytes s budget (both-false-right _ (le-ltb (s .steps) stepLimit h))
-
 -- none of the budget is used
 left-all : (budget : ℕ) → budget ≡ budget - 0
 left-all budget = omega arith
 
 -- a run at its start
-pub run-starts :
-    (bytes : List ℕ) (s : Lent) (budget : ℕ) → sound s ≡ true → s .steps < stepLimit
-    → run bytes s budget ≡ runOn bytes (budget - 0) s none 0
-unfolding steppable
-run-starts bytes s budget h q =
-    run-goes bytes s budget (both-true h (lt-ltb (s .steps) stepLimit q)) ∙ ap (λ (n : ℕ). runOn bytes n s none 0) (left-all budget)
+pub run-starts : (bytes : List ℕ) (s : Lent) (budget : ℕ) → steppable s ≡ true → run bytes s budget ≡ runOn bytes (budget - 0) s none 0
+run-starts bytes s budget h = run-goes bytes s budget h ∙ ap (λ (n : ℕ). runOn bytes n s none 0) (left-all budget)
 
 -- a run goes on behind a step
 on-step :

@@ -3,6 +3,7 @@ use crate::LoadDone;
 use crate::Loading;
 use graph::Tally;
 use graph::commands::open_by_value;
+use graph::rows::IN_COUNT;
 use graph::rows::PLACE;
 use graph::rows::RELEASED;
 use graph::rows::SCOPE;
@@ -18,7 +19,7 @@ use refusal::TOO_FEW_VERTEX_ROWS;
 ghost use mathlib.Core.Path.{_≡_};
 ghost use mathlib.Core.Bool.{not};
 ghost use Prim.Native.Nat.{_-_, _≤_};
-ghost use Rattle.graph.specs.Tables.{lent, vertexRows};
+ghost use Rattle.graph.specs.Tables.{lent, inCountWord, vertexRows, setVertexWord};
 ghost use Rattle.program.specs.Limits.{programBytes};
 ghost use Rattle.machine.specs.Loading.{placed};
 ghost use Rattle.machine.specs.Answers.{loading-refused, isLoaded};
@@ -78,10 +79,10 @@ pub(crate) fn loading_refused(answer: Loading) -> bool
     }
 }
 
-// Vertex 0 at the program's first byte and vertex 1 at its last, both released and with the scope 1.
+// Vertex 0 at the program's first byte and vertex 1 at its last, both released and with the scope 1, and one edge into vertex 1.
 fn place_first(vertices: &mut [u32], length: usize)
     requires { ⌜ (2 ≤ vertexRows (now vertices)) × (1 ≤ length) × (length ≤ programBytes) ⌝ }
-    ensures { λ _. ⌜ now (vertices .exit) ≡ placed (placed (now (vertices .entry)) 0 0) 1 (length - 1) ⌝ }
+    ensures { λ _. ⌜ now (vertices .exit) ≡ setVertexWord (placed (placed (now (vertices .entry)) 0 0) 1 (length - 1)) 1 inCountWord 1 ⌝ }
 {
     vertices[STATUS] = RELEASED;
     vertices[PLACE] = 0;
@@ -89,4 +90,5 @@ fn place_first(vertices: &mut [u32], length: usize)
     vertices[VERTEX_WORDS + STATUS] = RELEASED;
     vertices[VERTEX_WORDS + PLACE] = (length - 1) as u32;
     vertices[VERTEX_WORDS + SCOPE] = 1;
+    vertices[VERTEX_WORDS + IN_COUNT] = 1;
 }

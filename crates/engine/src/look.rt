@@ -2,6 +2,7 @@
 use crate::Due;
 use crate::Lowest;
 use crate::next::STEP_LIMIT;
+use crate::next::is_steppable;
 use crate::next::marked_due;
 use graph::Command;
 use graph::Tally;
@@ -12,14 +13,11 @@ use graph::refusals::release_refusal;
 use graph::refusals::start_refusal;
 use graph::refusals::stop_refusal;
 use graph::refusals::transfer_refusal;
-use graph::rows::EDGE_WORDS;
 use graph::rows::EXECUTING;
+use graph::rows::IN_COUNT;
 use graph::rows::RELEASED;
 use graph::rows::STATUS;
-use graph::rows::TARGET;
-use graph::rows::USABLE_LIMIT;
 use graph::rows::VERTEX_WORDS;
-use graph::sound::is_sound;
 use program::format::PROGRAM_BYTES;
 use program::starts::mark_starts;
 use refusal::Refusal;
@@ -27,11 +25,10 @@ use refusal::UNSOUND_TABLES;
 ghost use mathlib.Core.Path.{_≡_};
 ghost use mathlib.Core.Bool.{true};
 ghost use lib.Dec.{eqb};
-ghost use lib.ListN.{length, replicate};
-ghost use Rattle.graph.specs.Tests.{both, either};
-ghost use Rattle.graph.specs.Tables.{lent, RELEASED, EXECUTING, usableLimit};
+ghost use lib.ListN.{length};
+ghost use Prim.Native.Nat.{_+_, _*_, _≤_};
+ghost use Rattle.graph.specs.Tables.{lent, vertexWords};
 ghost use Rattle.graph.specs.Sound.{sound};
-ghost use Rattle.graph.specs.Internal.Search.{Rows};
 ghost use Rattle.graph.specs.Commands.{command};
 ghost use Rattle.graph.specs.Answers as of-graph;
 ghost use Rattle.program.specs.Limits.{programBytes};
@@ -39,16 +36,13 @@ ghost use Rattle.program.specs.Located.{MarksStarts};
 ghost use Rattle.refusal.specs.Refusals.{unsound-tables};
 ghost use Rattle.machine.specs.Running.{lowest, chosen, choice, choice-refused};
 ghost use Rattle.engine.specs.Answers.{dueOf, choiceOf};
-ghost use Rattle.engine.specs.Internal.Underway.{Blocked, takes};
+ghost use Rattle.engine.specs.Internal.Underway.{mayStart, takes};
 
 // The lowest vertex whose step would be accepted.
 pub fn lowest_vertex(program: &[u8], vertices: &[u32], edges: &[u32], tally: Tally) -> Lowest
     ensures { λ r. ⌜ choiceOf r ≡ choice (now (program .entry)) (lent (now (vertices .entry)) (now (edges .entry)) tally) ⌝ }
 {
-    if !is_sound(vertices, edges, tally) {
-        return refused();
-    }
-    if STEP_LIMIT <= tally.steps {
+    if !is_steppable(vertices, edges, tally) {
         return refused();
     }
     let mut marks = [0u8; PROGRAM_BYTES];
@@ -79,11 +73,11 @@ pub(crate) fn lowest_marked(
     if STEP_LIMIT <= tally.steps {
         return Lowest::NoVertex;
     }
-    let mut blocked = [0u8; USABLE_LIMIT];
-    mark_blocked(edges, tally.held as usize, &mut blocked);
     for v in 0..tally.made {
-        let vertex = v as usize;
-        if !may_step(vertices[VERTEX_WORDS * vertex + STATUS], blocked[vertex]) {
+        if may_start(vertices, v as usize) {
+            return Lowest::Vertex(v);
+        }
+        if vertices[VERTEX_WORDS * (v as usize) + STATUS] != EXECUTING {
             continue;
         }
         let next = marked_due(program, marks, vertices, tally.made, v);
@@ -94,28 +88,15 @@ pub(crate) fn lowest_marked(
     Lowest::NoVertex
 }
 
-// Marks with 1 the vertices that an edge leads into.
-pub(crate) fn mark_blocked(edges: &[u32], held: usize, blocked: &mut [u8])
-    requires { ⌜ Rows (now edges) held × (now blocked ≡ replicate usableLimit 0) ⌝ }
-    ensures { λ _. ⌜ Blocked (now (edges .entry)) held (now (blocked .exit)) ⌝ }
+// A vertex may start: it is released, and its word says that no edge leads into it.
+pub(crate) fn may_start(vertices: &[u32], vertex: usize) -> bool
+    requires { ⌜ vertexWords * vertex + vertexWords ≤ length (now vertices) ⌝ }
+    ensures { λ r. ⌜ r ≡ mayStart (now (vertices .entry)) vertex ⌝ }
 {
-    for i in 0..held {
-        let target = edges[EDGE_WORDS * i + TARGET] as usize;
-        blocked[target] = 1;
-    }
-}
-
-// A vertex with this status may step: it executes, or it is released and no edge leads into it.
-pub(crate) fn may_step(status: u32, blocked: u8) -> bool
-    ensures { λ r. ⌜ r ≡ either (eqb status EXECUTING) (both (eqb status RELEASED) (eqb blocked 0)) ⌝ }
-{
-    if status == EXECUTING {
-        return true;
-    }
-    if status != RELEASED {
+    if vertices[VERTEX_WORDS * vertex + STATUS] != RELEASED {
         return false;
     }
-    blocked == 0
+    vertices[VERTEX_WORDS * vertex + IN_COUNT] == 0
 }
 
 // What is due would be accepted.

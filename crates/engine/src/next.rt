@@ -14,6 +14,7 @@ use graph::rows::SCOPE;
 use graph::rows::STATUS;
 use graph::rows::VERTEX_WORDS;
 use graph::sound::is_sound;
+use graph::sound::tally_fits;
 use program::ItemRead;
 use program::Reader;
 use program::starts::starts_at;
@@ -23,6 +24,7 @@ use refusal::UNSOUND_TABLES;
 use refusal::VERTEX_IS_FINISHED;
 use refusal::VERTEX_IS_NEW;
 ghost use mathlib.Core.Path.{_≡_};
+ghost use mathlib.Core.Bool.{false};
 ghost use Prim.Native.Nat.{_+_, _*_, _<_, _≤_};
 ghost use lib.Dec.{eqb};
 ghost use lib.ListN.{length, getD};
@@ -32,7 +34,7 @@ ghost use Rattle.program.specs.Limits.{programBytes};
 ghost use Rattle.program.specs.Answers.{Stands};
 ghost use Rattle.program.specs.Located.{startsAt, MarksStarts};
 ghost use Rattle.machine.specs.Stepping as machine;
-ghost use Rattle.machine.specs.Stepping.{due};
+ghost use Rattle.machine.specs.Stepping.{steppable, startDue, due};
 ghost use Rattle.engine.specs.Answers.{ownWords, dueOf};
 ghost use Rattle.engine.specs.Internal.Underway.{DueThere, OwnIn, Next, NextAt, EndNext, JobNext, AsyncNext, ForkNext, ForkLast};
 ghost use Rattle.engine.specs.Internal.Underway.{NextIn, FollowsTo};
@@ -50,14 +52,18 @@ const NONE_OPEN: u32 = 0;
 // A step is refused where this many were taken.
 pub const STEP_LIMIT: u32 = 8192;
 
-// What is due at a step of `vertex`.
-pub fn next_due(program: &[u8], vertices: &[u32], edges: &[u32], tally: Tally, vertex: u32) -> Due
+// What is due at a step of `vertex`, where no start is.
+pub(crate) fn next_due(
+    program: &[u8],
+    vertices: &[u32],
+    edges: &[u32],
+    tally: Tally,
+    vertex: u32,
+) -> Due
+    requires { ⌜ startDue (lent (now vertices) (now edges) tally) vertex ≡ false ⌝ }
     ensures { λ r. ⌜ dueOf r ≡ due (now (program .entry)) (lent (now (vertices .entry)) (now (edges .entry)) tally) vertex ⌝ }
 {
-    if !is_sound(vertices, edges, tally) {
-        return Due::Refused(UNSOUND_TABLES);
-    }
-    if STEP_LIMIT <= tally.steps {
+    if !is_steppable(vertices, edges, tally) {
         return Due::Refused(UNSOUND_TABLES);
     }
     if tally.made <= vertex {
@@ -71,12 +77,6 @@ pub fn next_due(program: &[u8], vertices: &[u32], edges: &[u32], tally: Tally, v
         return Due::Refused(VERTEX_IS_FINISHED);
     }
     let own = own_words(vertices, vertex as usize);
-    if vertices[at + STATUS] == RELEASED {
-        return Due::Command {
-            command: Command::Start { vertex },
-            own,
-        };
-    }
     executing(
         program,
         starts_at(program, own.place),
@@ -88,7 +88,33 @@ pub fn next_due(program: &[u8], vertices: &[u32], edges: &[u32], tally: Tally, v
     )
 }
 
-// The same of a vertex that is released or executing, in a program with these marks where its items and end bytes start.
+// A start is due: only the tally and the vertex's own row are looked at.
+pub(crate) fn start_due(vertices: &[u32], edges: &[u32], tally: Tally, vertex: u32) -> bool
+    ensures { λ r. ⌜ r ≡ startDue (lent (now (vertices .entry)) (now (edges .entry)) tally) vertex ⌝ }
+{
+    if !tally_fits(vertices, edges, tally.made, tally.held) {
+        return false;
+    }
+    if STEP_LIMIT <= tally.steps {
+        return false;
+    }
+    if tally.made <= vertex {
+        return false;
+    }
+    vertices[VERTEX_WORDS * (vertex as usize) + STATUS] == RELEASED
+}
+
+// Other steps look at everything first: the tables are sound, and steps are left to take.
+pub(crate) fn is_steppable(vertices: &[u32], edges: &[u32], tally: Tally) -> bool
+    ensures { λ r. ⌜ r ≡ steppable (lent (now (vertices .entry)) (now (edges .entry)) tally) ⌝ }
+{
+    if !is_sound(vertices, edges, tally) {
+        return false;
+    }
+    tally.steps < STEP_LIMIT
+}
+
+// What is due at a step of a vertex that executes, in a program with these marks where its items and end bytes start.
 pub(crate) fn marked_due(
     program: &[u8],
     marks: &[u8],
@@ -99,20 +125,13 @@ pub(crate) fn marked_due(
     requires { ⌜ MarksStarts (now program) (now marks) × (length (now marks) ≡ programBytes) × (vertex < made) × (vertexWords * made ≤ length (now vertices)) ⌝ }
     ensures { λ r. ⌜ DueThere (now (program .entry)) (now (vertices .entry)) made vertex (dueOf r) ⌝ }
 {
-    let at = VERTEX_WORDS * (vertex as usize);
     let own = own_words(vertices, vertex as usize);
-    if vertices[at + STATUS] == RELEASED {
-        return Due::Command {
-            command: Command::Start { vertex },
-            own,
-        };
-    }
     executing(
         program,
         is_marked(marks, own.place),
         vertices,
         vertex,
-        vertices[at + SCOPE],
+        vertices[VERTEX_WORDS * (vertex as usize) + SCOPE],
         own,
         made,
     )

@@ -7,19 +7,17 @@ use crate::Lowest;
 use crate::RunAnswer;
 use crate::RunDone;
 use crate::look::lowest_marked;
-use crate::look::mark_blocked;
-use crate::look::may_step;
+use crate::look::may_start;
 use crate::next::STEP_LIMIT;
+use crate::next::is_steppable;
 use crate::next::marked_due;
 use crate::steps::do_due;
+use crate::steps::start_step;
 use graph::Tally;
 use graph::rows::EXECUTING;
 use graph::rows::FINISHED;
-use graph::rows::RELEASED;
 use graph::rows::STATUS;
-use graph::rows::USABLE_LIMIT;
 use graph::rows::VERTEX_WORDS;
-use graph::sound::is_sound;
 use program::format::PROGRAM_BYTES;
 use program::starts::mark_starts;
 use refusal::Refusal;
@@ -27,7 +25,7 @@ use refusal::UNSOUND_TABLES;
 ghost use mathlib.Core.Path.{_≡_};
 ghost use mathlib.Core.Bool.{true, not};
 ghost use mathlib.Core.Option.{none};
-ghost use Prim.Native.Nat.{_*_, _<_, _≤_};
+ghost use Prim.Native.Nat.{_*_, _≤_};
 ghost use lib.Dec.{eqb};
 ghost use lib.ListN.{length};
 ghost use Rattle.graph.specs.Tests.{every};
@@ -38,10 +36,9 @@ ghost use Rattle.program.specs.Located.{MarksStarts};
 ghost use Rattle.refusal.specs.Refusals.{unsound-tables};
 ghost use Rattle.machine.specs.Answers.{accepted};
 ghost use Rattle.machine.specs.Running as of-run;
-ghost use Rattle.machine.specs.Stepping.{stepLimit};
 ghost use Rattle.machine.specs.Traces.{Ran};
 ghost use Rattle.engine.specs.Answers.{said, endingOf, lastOf};
-ghost use Rattle.engine.specs.Internal.Underway.{Attempted, FirstLive, CannotBelow, atRest, whenUsed};
+ghost use Rattle.engine.specs.Internal.Underway.{Attempted, atRest, whenUsed};
 
 // A run, with the tally by value.
 pub fn run_by_value(
@@ -53,10 +50,7 @@ pub fn run_by_value(
 ) -> RunDone
     ensures { λ r. ⌜ Ran (now (program .entry)) (lent (now (vertices .entry)) (now (edges .entry)) tally) budget (endingOf (r .answer .ending)) (lastOf (r .answer .last)) (r .answer .taken) (lent (now (vertices .exit)) (now (edges .exit)) (r .tally)) ⌝ }
 {
-    if !is_sound(vertices, edges, tally) {
-        return refused(tally);
-    }
-    if STEP_LIMIT <= tally.steps {
+    if !is_steppable(vertices, edges, tally) {
         return refused(tally);
     }
     let mut marks = [0u8; PROGRAM_BYTES];
@@ -113,8 +107,7 @@ fn ended(ending: Ending, last: LastStep, taken: u32, tally: Tally) -> RunDone
     }
 }
 
-// Steps the lowest vertex whose step is accepted, in a program with these marks where its items and end bytes start. No vertex below the
-// first that executes or is released can step; where that one executes and its step is accepted, no edge has to be looked at.
+// Steps the lowest vertex whose step is accepted, in a program with these marks where its items and end bytes start.
 fn take_lowest(
     program: &[u8],
     marks: &[u8],
@@ -128,55 +121,11 @@ fn take_lowest(
     if STEP_LIMIT <= tally.steps {
         return Attempt::NoStep;
     }
-    let first = first_live(vertices, tally.made);
-    if first == tally.made {
-        return Attempt::NoStep;
-    }
-    if vertices[VERTEX_WORDS * (first as usize) + STATUS] == EXECUTING {
-        let next = marked_due(program, marks, vertices, tally.made, first);
-        let done = do_due(vertices, edges, tally, first, next);
-        let answer = done.answer;
-        if !step_refused(answer) {
-            return Attempt::Taken(done);
+    for v in 0..tally.made {
+        if may_start(vertices, v as usize) {
+            return Attempt::Taken(start_step(vertices, edges, tally, v));
         }
-    }
-    take_lowest_from(program, marks, vertices, edges, tally, first)
-}
-
-// The lowest vertex that executes or is released, or the number made where there is none.
-fn first_live(vertices: &[u32], made: u32) -> u32
-    requires { ⌜ vertexWords * made ≤ length (now vertices) ⌝ }
-    ensures { λ r. ⌜ FirstLive (now (vertices .entry)) made r ⌝ }
-{
-    for v in 0..made {
-        let status = vertices[VERTEX_WORDS * (v as usize) + STATUS];
-        if status == EXECUTING {
-            return v;
-        }
-        if status == RELEASED {
-            return v;
-        }
-    }
-    made
-}
-
-// The same where no vertex below `first` can step.
-fn take_lowest_from(
-    program: &[u8],
-    marks: &[u8],
-    vertices: &mut [u32],
-    edges: &mut [u32],
-    tally: Tally,
-    first: u32,
-) -> Attempt
-    requires { ⌜ MarksStarts (now program) (now marks) × (length (now marks) ≡ programBytes) × (sound (lent (now vertices) (now edges) tally) ≡ true) × (tally .steps < stepLimit) × (first ≤ tally .made) × CannotBelow (now program) (lent (now vertices) (now edges) tally) first ⌝ }
-    ensures { λ r. ⌜ Attempted (now (program .entry)) (lent (now (vertices .entry)) (now (edges .entry)) tally) r (now (vertices .exit)) (now (edges .exit)) ⌝ }
-{
-    let mut blocked = [0u8; USABLE_LIMIT];
-    mark_blocked(edges, tally.held as usize, &mut blocked);
-    for v in first..tally.made {
-        let vertex = v as usize;
-        if !may_step(vertices[VERTEX_WORDS * vertex + STATUS], blocked[vertex]) {
+        if vertices[VERTEX_WORDS * (v as usize) + STATUS] != EXECUTING {
             continue;
         }
         let next = marked_due(program, marks, vertices, tally.made, v);

@@ -7,8 +7,10 @@ use crate::next::FIRST;
 use crate::next::SECOND;
 use crate::next::THIRD;
 use crate::next::next_due;
+use crate::next::start_due;
 use graph::Tally;
-use graph::commands::command_on_sound;
+use graph::commands::command_checked;
+use graph::commands::start;
 use graph::rows::FUTURE;
 use graph::rows::PHASE;
 use graph::rows::PLACE;
@@ -16,14 +18,14 @@ use graph::rows::VERTEX_WORDS;
 use refusal::Refusal;
 ghost use mathlib.Core.Path.{_≡_};
 ghost use Prim.Native.Nat.{_+_, _<_};
-ghost use mathlib.Core.Bool.{not};
+ghost use mathlib.Core.Bool.{true, not};
 ghost use Rattle.graph.specs.Tables.{lent, vertexRows};
 ghost use Rattle.graph.specs.Answers as of-graph;
 ghost use Rattle.machine.specs.Answers.{saidAs};
-ghost use Rattle.machine.specs.Stepping.{stepLimit, stored};
+ghost use Rattle.machine.specs.Stepping.{stepLimit, startDue, stored};
 ghost use Rattle.machine.specs.Traces.{Stepped};
 ghost use Rattle.engine.specs.Answers.{said, ownWords, dueOf};
-ghost use Rattle.engine.specs.Internal.Underway.{IsDue, DoesDue};
+ghost use Rattle.engine.specs.Internal.Underway.{IsDue, DoesDue, Starts};
 
 // One step of `vertex`, with the tally by value.
 pub fn step_by_value(
@@ -35,8 +37,31 @@ pub fn step_by_value(
 ) -> Done
     ensures { λ r. ⌜ Stepped (now (program .entry)) (lent (now (vertices .entry)) (now (edges .entry)) tally) vertex (said (r .answer)) (lent (now (vertices .exit)) (now (edges .exit)) (r .tally)) ⌝ }
 {
+    if start_due(vertices, edges, tally, vertex) {
+        return start_step(vertices, edges, tally, vertex);
+    }
     let next = next_due(program, vertices, edges, tally, vertex);
     do_due(vertices, edges, tally, vertex, next)
+}
+
+// The step of a vertex at which a start is due: the command start. It changes none of the vertex's own words.
+pub(crate) fn start_step(vertices: &mut [u32], edges: &[u32], tally: Tally, vertex: u32) -> Done
+    requires { ⌜ startDue (lent (now vertices) (now edges) tally) vertex ≡ true ⌝ }
+    ensures { λ r. ⌜ Starts (lent (now (vertices .entry)) (now (edges .entry)) tally) vertex (said (r .answer)) (lent (now (vertices .exit)) (now (edges .entry)) (r .tally)) ⌝ }
+{
+    let done = start(vertices, edges, tally, vertex);
+    let answer = done.answer;
+    let after = done.tally;
+    if command_refused(answer) {
+        return Done {
+            answer: as_step(answer),
+            tally: after,
+        };
+    }
+    Done {
+        answer: as_step(answer),
+        tally: counted(after),
+    }
 }
 
 // Does what is due at a step of `vertex`.
@@ -67,7 +92,7 @@ pub(crate) fn do_due(
             }
         }
         Due::Command { command, own } => {
-            let done = command_on_sound(vertices, edges, tally, command);
+            let done = command_checked(vertices, edges, tally, command);
             let answer = done.answer;
             let after = done.tally;
             if command_refused(answer) {

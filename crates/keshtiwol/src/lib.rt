@@ -22,7 +22,7 @@ ghost use Rattle.machine.specs.Running.{run, choice};
 ghost use Rattle.keshtiwol.specs.Numbers.{OpenReplied, Commanded, LoadReplied, Replied, RunReplied, LowestReplied, ChainReplied, byNumbers, version};
 
 // 10,000 times the major number, 100 times the minor one, and the patch's.
-pub const VERSION: u32 = 20_000;
+pub const VERSION: u32 = 30_000;
 
 // What was said, and its values: vertices, a job's number and offset, or a refusal's number and place. `replies` has the numbers.
 #[repr(C)]

@@ -1,9 +1,8 @@
 -- Which line a call gives, by the returns of the code: a refusal, a heading, a step's line, or none.
 use Prim.Native.Nat.{ℕ}
 use mathlib.Core.Path.{_≡_, refl, sym, ap, _∙_}
-use mathlib.Core.Bool.{Bool, true, false, cond}
+use mathlib.Core.Bool.{true}
 use mathlib.Core.List.{List, []}
-use mathlib.Core.Option.{Option, none, some}
 use Rattle.refusal.specs.declared.Refusal.{Refusal}
 use Rattle.graph.specs.declared.Tally.{Tally}
 use Rattle.graph.specs.Tables.{Lent, lent}
@@ -12,15 +11,12 @@ use Rattle.program.specs.Encodings.{vertexFormula, stepFormula}
 use Rattle.program.specs.Reader.{reading}
 use Rattle.program.specs.Answers.{loads, told}
 use Rattle.program.specs.Answers as of-program
-use Rattle.refusal.specs.Refusals.{unsound-tables}
 use Rattle.machine.specs.Answers.{StepSaid, LoadingSaid, loading-refused, isLoaded}
-use Rattle.machine.specs.Stepping.{steppable, dueIf, due, step}
-use Rattle.machine.specs.Running.{lowest, chosen, choice, choose, no-choice, choice-refused}
+use Rattle.machine.specs.Running.{choice, choose, no-choice, choice-refused}
 use Rattle.machine.specs.Demand2.{unread}
 use Rattle.machine.specs.Traces.{Loaded, Stepped}
 use Rattle.machine.proofs.GhostMachine.GhostLaws.{clash}
 use Rattle.machine.proofs.LoadLaws.{load-refused, load-keeps}
-use Rattle.machine.proofs.LookLaws.{lowest-none}
 use Rattle.engine.specs.declared.Lowest.{Lowest}
 use Rattle.engine.specs.declared.Lowest.the-variants as of-lowest
 use Rattle.engine.specs.Answers.{choiceOf}
@@ -58,48 +54,23 @@ heading-line bytes s n tally c is h taken r =
     (ap isLoaded (sym (h .says)) ∙ taken, h .leaves, (found .tree, found .is-read, r ∙ same))
 
 -- THE NEXT LINE
--- what the look finds
-finds : (b : Bool) (o : Option ℕ) {v : ℕ} → choose v ≡ cond b (chosen o) (choice-refused unsound-tables 0) → o ≡ some v
-unfolding chosen
-finds true (some u) h = cc
-finds true none h = clash cc
-finds false o h = clash cc
-
+-- the look chooses a vertex
 pub stepped-line :
     (bytes : List ℕ) (s : Lent) (n : ℕ) {v : ℕ} {a : StepSaid} {text vs es : List ℕ} (tally : Tally) (x : Lowest)
     → choiceOf x ≡ choice bytes s → x ≡ of-lowest.Vertex v → Stepped bytes s v a (lent vs es tally) → text ≡ stepText v a
     → NextLine bytes s (of-line.Text n tally) text vs es
-unfolding choice
-stepped-line bytes s n {v = v} tally x found is h r =
-    (v, finds (steppable s) (lowest bytes s) (ap choiceOf (sym is) ∙ found), h .leaves, r ∙ ap (stepText v) (h .says))
+stepped-line bytes s n {v = v} tally x found is h r = (v, sym found ∙ ap choiceOf is, h .leaves, r ∙ ap (stepText v) (h .says))
 
--- none can step
-finds-none : (b : Bool) (o : Option ℕ) → no-choice ≡ cond b (chosen o) (choice-refused unsound-tables 0) → o ≡ none
-unfolding chosen
-finds-none true (some u) h = clash cc
-finds-none true none h = refl
-finds-none false o h = clash cc
-
+-- it chooses none
 pub no-line :
     (bytes : List ℕ) (s : Lent) (x : Lowest) → choiceOf x ≡ choice bytes s → x ≡ of-lowest.NoVertex
     → NextLine bytes s (of-line.Last 0) [] (s .vertices) (s .edges)
-unfolding choice
-no-line bytes s x found is = (finds-none (steppable s) (lowest bytes s) (ap choiceOf (sym is) ∙ found), refl, (refl, refl))
+no-line bytes s x found is =
+    (λ v h. let e : no-choice ≡ choose v = sym (ap choiceOf is) ∙ found ∙ h in clash cc, refl, (refl, refl))
 
--- nor where the tables take no step
-unsteppable : (b : Bool) (o : Option ℕ) {n p : ℕ} → choice-refused n p ≡ cond b (chosen o) (choice-refused unsound-tables 0) → b ≡ false
-unfolding chosen
-unsteppable true (some u) h = clash cc
-unsteppable true none h = clash cc
-unsteppable false o h = refl
-
-unsteppable-none : (bytes : List ℕ) (s : Lent) → steppable s ≡ false → lowest bytes s ≡ none
-unfolding step due dueIf
-unsteppable-none bytes s h = lowest-none bytes s (λ u lt. rw h refl)
-
-pub unsteppable-line :
-    (bytes : List ℕ) (s : Lent) (x : Lowest) {r : Refusal} → choiceOf x ≡ choice bytes s → x ≡ of-lowest.Refused r
+-- or is refused
+pub unchosen-line :
+    (bytes : List ℕ) (s : Lent) (x : Lowest) (r : Refusal) → choiceOf x ≡ choice bytes s → x ≡ of-lowest.Refused r
     → NextLine bytes s (of-line.Last 0) [] (s .vertices) (s .edges)
-unfolding choice
-unsteppable-line bytes s x found is =
-    (unsteppable-none bytes s (unsteppable (steppable s) (lowest bytes s) (ap choiceOf (sym is) ∙ found)), refl, (refl, refl))
+unchosen-line bytes s x r found is =
+    (λ v h. let e : choice-refused (r .number) (r .place) ≡ choose v = sym (ap choiceOf is) ∙ found ∙ h in clash cc, refl, (refl, refl))

@@ -4,7 +4,6 @@ use Prim.Native.Nat.{ℕ}
 use mathlib.Core.Path.{_≡_}
 use mathlib.Core.Bool.{true}
 use mathlib.Core.List.{List, []}
-use mathlib.Core.Option.{none, some}
 use Rattle.graph.specs.Tables.{Lent, lent}
 use Rattle.program.specs.Trees.{Body, counts}
 use Rattle.program.specs.Encodings.{vertexFormula, stepFormula}
@@ -12,7 +11,7 @@ use Rattle.program.specs.Reader.{program, reading}
 use Rattle.machine.specs.Answers.{isLoaded, loading-refused}
 use Rattle.machine.specs.Loading.{load}
 use Rattle.machine.specs.Stepping.{step}
-use Rattle.machine.specs.Running.{lowest}
+use Rattle.machine.specs.Running.{choose, choice}
 use Rattle.listing.specs.declared.Line.{Line}
 use Rattle.listing.specs.declared.Line.the-variants as of-line
 use Rattle.listing.specs.Text.{headingText, stepText, refusalText}
@@ -40,9 +39,10 @@ FirstLine bytes s (of-line.Last n) text vertices edges =
     ((number : ℕ) × (place : ℕ) × (load bytes s .answer ≡ loading-refused number place) × (text ≡ refusalText number place))
     × Kept s vertices edges
 
--- A step of the lowest vertex that can step; the listing ends, without a line, where none can.
+-- A step of the lowest vertex that can step, as a look chooses it; the listing ends, without a line, where it chooses none or is refused.
 abbrev pub NextLine : List ℕ → Lent → Line → List ℕ → List ℕ → List ℕ → Type 0
 NextLine bytes s (of-line.Text n tally) text vertices edges =
-    (v : ℕ) × (lowest bytes s ≡ some v) × (lent vertices edges tally ≡ step bytes s v .after)
+    (v : ℕ) × (choice bytes s ≡ choose v) × (lent vertices edges tally ≡ step bytes s v .after)
     × (text ≡ stepText v (step bytes s v .answer))
-NextLine bytes s (of-line.Last n) text vertices edges = (lowest bytes s ≡ none) × (text ≡ []) × Kept s vertices edges
+NextLine bytes s (of-line.Last n) text vertices edges =
+    ((v : ℕ) → choice bytes s ≡ choose v → ⊥) × (text ≡ []) × Kept s vertices edges

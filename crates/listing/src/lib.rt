@@ -73,7 +73,8 @@ pub fn first_line(
     }
 }
 
-// Steps the lowest vertex that can step. The line is that step's; there is none where no vertex can step.
+// Steps the lowest vertex that can step, as `lowest_vertex` finds it. The line is that step's; there is none where that finds none or is
+// refused.
 pub fn next_line(
     program: &[u8],
     vertices: &mut [u32],

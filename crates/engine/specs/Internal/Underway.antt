@@ -1,21 +1,21 @@
 -- A step and a run under way: what is due, from a vertex's own words, and which vertex is looked at.
-use Prim.Native.Nat.{ℕ, zero, suc, _-_, _<_, _≤_}
+use Prim.Native.Nat.{ℕ, zero, suc, _-_}
 use mathlib.Core.Path.{_≡_}
 use mathlib.Core.Bool.{Bool, true, false, cond}
 use mathlib.Core.List.{List}
 use mathlib.Core.Option.{Option, none, some}
-use lib.ListN.{length, getD}
-use Rattle.graph.specs.Tables.{Lent, lent, RELEASED, EXECUTING, usableLimit, status}
-use Rattle.graph.specs.Paths.{leadsInto}
+use lib.Dec.{eqb}
+use lib.ListN.{length}
+use Rattle.graph.specs.Tests.{both}
+use Rattle.graph.specs.Tables.{Lent, lent, RELEASED, status, inCount}
 use Rattle.graph.specs.Answers as of-graph
-use Rattle.graph.specs.Commands.{hasStatus, command}
-use Rattle.graph.specs.declared.Command.the-variants.{Start}
+use Rattle.graph.specs.Commands.{command}
 use Rattle.program.specs.Answers.{Stands}
 use Rattle.program.specs.Located.{itemAt}
 use Rattle.machine.specs.Answers.{StepSaid}
 use Rattle.machine.specs.Stepping.{scope, place, latest, openFuture, further, task, Own, ownOf, Due, refusal-due, job-due, command-due}
 use Rattle.machine.specs.Stepping.{nextAt, due}
-use Rattle.machine.specs.Running.{canStep, lowest, allFinished, Ending, done, stuck, spent}
+use Rattle.machine.specs.Running.{lowest, allFinished, Ending, done, stuck, spent}
 use Rattle.machine.specs.Traces.{Stepped}
 use Rattle.engine.specs.declared.Attempt.{Attempt}
 use Rattle.engine.specs.declared.Attempt.the-variants as of-attempt
@@ -55,11 +55,10 @@ FollowsTo t made word n r = (s : Lent) → s .vertices ≡ t → s .made ≡ mad
 abbrev pub OwnIn : List ℕ → ℕ → Own → Type 0
 OwnIn t k w = (s : Lent) → s .vertices ≡ t → w ≡ ownOf s k
 
--- d is due at the step of the vertex v, which is released or executing, where these are the vertex rows and so many are made
+-- d is due at the step of the executing vertex v, where these are the vertex rows and so many are made
 abbrev pub DueThere : List ℕ → List ℕ → ℕ → ℕ → Due → Type 0
 DueThere bytes t made v d =
-    (s : Lent) → s .vertices ≡ t → s .made ≡ made
-    → d ≡ cond (hasStatus s v RELEASED) (command-due (Start v) (ownOf s v)) (nextAt s v (task (length bytes - 1) (itemAt bytes (place s v))))
+    (s : Lent) → s .vertices ≡ t → s .made ≡ made → d ≡ nextAt s v (task (length bytes - 1) (itemAt bytes (place s v)))
 
 -- d is due at the step of v, in some program
 pub data IsDue (s : Lent) (v : ℕ) (d : Due) : Type 0 where
@@ -69,24 +68,19 @@ pub data IsDue (s : Lent) (v : ℕ) (d : Due) : Type 0 where
 abbrev pub DoesDue : Lent → ℕ → Due → StepSaid → Lent → Type 0
 DoesDue s v d answer after = (bytes : List ℕ) → d ≡ due bytes s v → Stepped bytes s v answer after
 
+-- a start was due and done: this is the step, in every program
+abbrev pub Starts : Lent → ℕ → StepSaid → Lent → Type 0
+Starts s v answer after = (bytes : List ℕ) → Stepped bytes s v answer after
+
 -- what is due would be accepted
 unfoldable pub takes : Lent → Due → Bool
 takes s (refusal-due n) = false
 takes s (job-due n o w) = true
 takes s (command-due c w) = of-graph.accepted (command c s .answer)
 
--- marks that tell of each vertex that can be made whether one of the first n edges leads into it
-abbrev pub Blocked : List ℕ → ℕ → List ℕ → Type 0
-Blocked e n marks = (length marks ≡ usableLimit) × ((v : ℕ) → v < usableLimit → getD marks v 0 ≡ cond (leadsInto e n v) 1 0)
-
--- the vertices below n cannot step
-abbrev pub CannotBelow : List ℕ → Lent → ℕ → Type 0
-CannotBelow bytes s n = (u : ℕ) → u < n → canStep bytes s u ≡ false
-
--- r is the lowest of the vertices made that executes or is released, or their number where none does
-abbrev pub FirstLive : List ℕ → ℕ → ℕ → Type 0
-FirstLive t made r =
-    (r ≤ made) × ((u : ℕ) → u < r → (status t u ≡ EXECUTING → ⊥) × (status t u ≡ RELEASED → ⊥))
+-- vertex k is released, and its word says that no edge leads into it
+unfoldable pub mayStart : List ℕ → ℕ → Bool
+mayStart t k = both (eqb (status t k) RELEASED) (eqb (inCount t k) 0)
 
 -- a step of the lowest vertex whose step would be accepted, if there is one
 abbrev pub Attempted : List ℕ → Lent → Attempt → List ℕ → List ℕ → Type 0

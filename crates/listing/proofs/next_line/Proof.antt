@@ -2,7 +2,7 @@
 use borrow.Author.Needs.{needs}
 use Prim.Native.Nat.{zero-le}
 use mathlib.Core.Path.{refl}
-use Rattle.listing.proofs.LineLaws.{stepped-line, no-line, unsteppable-line}
+use Rattle.listing.proofs.LineLaws.{stepped-line, no-line, unchosen-line}
 use Rattle.listing.proofs.next_line.Statement.{statement}
 use Rattle.listing.proofs.next_line.Tie as tie
 
@@ -22,7 +22,7 @@ returns-2 c =
 returns-3 : tie.Need-returns-3
 returns-3 c =
     let look = c .before .before .before .lowest-vertex in
-    ((zero-le, refl), unsteppable-line _ _ (look .result) (look .ensures) (c .before .lowest2 .given .1))
+    ((zero-le, refl), unchosen-line _ _ (look .result) _ (look .ensures) (c .before .lowest2 .given .1))
 
 pub next-line-spec : {M : Type 1} → statement M
 next-line-spec =

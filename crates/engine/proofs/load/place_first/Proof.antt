@@ -1,4 +1,4 @@
--- Six words are stored one after the other.
+-- Seven words are stored one after the other.
 use borrow.Author.Needs.{needs}
 use native.Mathlib.Omega.{arith}
 use lib.ListN.{length-set}
@@ -20,6 +20,9 @@ slice-write-vertices-5 c = simp length-set (omega arith)
 slice-write-vertices-6 : tie.Need-slice-write-vertices-6
 slice-write-vertices-6 c = simp length-set (omega arith)
 
+slice-write-vertices-7 : tie.Need-slice-write-vertices-7
+slice-write-vertices-7 c = simp length-set (omega arith)
+
 pub place-first-spec : {M : Type 1} → statement M
 place-first-spec =
     tie.close
@@ -38,5 +41,8 @@ place-first-spec =
     (λ c. search needs)
     (λ c. search needs)
     slice-write-vertices-6
+    (λ c. search needs)
+    (λ c. search needs)
+    slice-write-vertices-7
     (λ c. search needs)
     (λ c. search needs))

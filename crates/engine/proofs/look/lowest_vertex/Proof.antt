@@ -1,33 +1,29 @@
 -- Refused where no step is taken; else a look with the marks just made.
-use borrow.Author.Needs.{needs}
 use Prim.Native.Nat.{ℕ}
 use mathlib.Core.Path.{_∙_}
+use borrow.Author.Needs.{needs}
 use lib.ListN.{length-replicate}
 use Rattle.graph.proofs.CallLaws.{answered-yes, answered-no}
 use Rattle.program.specs.Limits.{programBytes}
-use Rattle.engine.proofs.LowestLaws.{choice-unsound, choice-late, choice-looks}
+use Rattle.engine.proofs.DueLaws.{steppable-sound}
+use Rattle.engine.proofs.LowestLaws.{choice-turned, choice-looks}
 use Rattle.engine.proofs.look.lowest_vertex.Statement.{statement}
 use Rattle.engine.proofs.look.lowest_vertex.Tie as tie
 
 returns : tie.Need-returns
-returns c = choice-unsound _ _ (answered-no (c .before .before .is-sound .ensures) (c .before .if1 .taken)) (c .refused .ensures)
-
-returns-2 : tie.Need-returns-2
-returns-2 c = choice-late _ _ (c .before .if2 .taken) (c .refused2 .ensures)
+returns c = choice-turned _ _ (answered-no (c .before .before .is-steppable .ensures) (c .before .if1 .taken)) (c .refused .ensures)
 
 lowest-marked-requires : tie.Need-lowest-marked-requires
 lowest-marked-requires c κs = (
   c .before .before .mark-starts .ensures .1,
   c .before .before .mark-starts .ensures .0 ∙ length-replicate {A = ℕ} programBytes 0,
-  answered-yes (c .before .before .before .before .before .before .before .is-sound .ensures) (c .before .before .before .before .before .before .if1 .left),
+  steppable-sound _ (answered-yes (c .before .before .before .before .before .is-steppable .ensures) (c .before .before .before .before .if1 .left)),
 )
 
-returns-3 : tie.Need-returns-3
-returns-3 c =
+returns-2 : tie.Need-returns-2
+returns-2 c =
     choice-looks _ _
-    (answered-yes (c .before .before .before .before .before .before .before .before .is-sound .ensures)
-    (c .before .before .before .before .before .before .before .if1 .left))
-    (c .before .before .before .before .before .if2 .left)
+    (answered-yes (c .before .before .before .before .before .before .is-steppable .ensures) (c .before .before .before .before .before .if1 .left))
     (c .lowest-marked .ensures)
 
 pub lowest-vertex-spec : {M : Type 1} → statement M
@@ -37,10 +33,8 @@ lowest-vertex-spec =
     (λ c κs. search needs)
     (λ c κs. search needs)
     returns
-    (λ c κs. search needs)
-    returns-2
     (λ c. search needs)
     (λ c κs. search needs)
     (λ c. search needs)
     lowest-marked-requires
-    returns-3)
+    returns-2)

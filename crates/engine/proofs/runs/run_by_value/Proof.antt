@@ -1,16 +1,18 @@
 -- After so many turns the tables are sound, and the run from the start is the run that goes on from there.
 use Prim.Native.Nat.{_-_, _≤_}
-use mathlib.Core.Path.{_≡_, refl, sym, _∙_}
+use mathlib.Core.Path.{_≡_, refl, _∙_}
 use mathlib.Core.Bool.{true}
 use borrow.Author.Needs.{needs}
-use borrow.Author.Tests.{not-true, not-false}
 use native.Mathlib.Omega.{arith}
 use lib.ListN.{length}
 use Rattle.graph.specs.Tables.{lent}
 use Rattle.graph.specs.Sound.{sound}
+use Rattle.graph.proofs.CallLaws.{answered-yes, answered-no}
 use Rattle.machine.specs.Running.{runOn, run}
+use Rattle.machine.proofs.LookLaws.{run-turned}
 use Rattle.engine.specs.Answers.{lastOf}
-use Rattle.engine.proofs.RunLaws.{unsound-run, late-run, run-starts, run-turn, run-rests, run-used, rest-rows, ran}
+use Rattle.engine.proofs.DueLaws.{steppable-sound}
+use Rattle.engine.proofs.RunLaws.{run-starts, run-turn, run-rests, run-used, rest-rows, ran}
 use Rattle.engine.proofs.runs.run_by_value.Statement.{statement}
 use Rattle.engine.proofs.runs.run_by_value.Tie as tie
 
@@ -25,19 +27,13 @@ abbrev μ-loop : tie.MeasureT-loop
 returns : tie.Need-returns Inv-loop μ-loop
 returns c =
     let refused = c .refused .ensures in
-    ran _ _ _ _ _ (unsound-run _ _ _ (sym (c .before .before .is-sound .ensures) ∙ not-true _ (c .before .if1 .taken))) (refused .0) (refused .1)
+    ran _ _ _ _ _ (run-turned _ _ _ (answered-no (c .before .before .is-steppable .ensures) (c .before .if1 .taken))) (refused .0) (refused .1)
     (refused .2) (refused .3)
-
-returns-2 : tie.Need-returns-2 Inv-loop μ-loop
-returns-2 c =
-    let refused = c .refused2 .ensures in
-    ran _ _ _ _ _ (late-run _ _ _ (c .before .if2 .taken)) (refused .0) (refused .1) (refused .2) (refused .3)
 
 loop-holds : tie.Need-loop-holds Inv-loop μ-loop
 loop-holds c =
-    let known = sym (c .before .before .before .before .before .before .is-sound .ensures)
-    ∙ not-false _ (c .before .before .before .before .before .if1 .left) in
-    (omega arith, refl, refl, known, run-starts _ _ _ known (c .before .before .before .if2 .left))
+    let takes-steps = answered-yes (c .before .before .before .before .is-steppable .ensures) (c .before .before .before .if1 .left) in
+    (omega arith, refl, refl, steppable-sound _ takes-steps, run-starts _ _ _ takes-steps)
 
 take-lowest-requires : tie.Need-take-lowest-requires Inv-loop μ-loop
 take-lowest-requires c κs = (
@@ -51,18 +47,18 @@ at-rest-requires c κs =
     rest-rows _ _ _ _ _ _ (c .before .before .before .before .before .before .before .before .before .before .before .before .before .loop .inv .3)
     (c .before .before .before .before .before .before .before .before .take-lowest .ensures) (c .before .before .enum-told .given .1)
 
-same-length-5 : tie.Need-same-length-5 Inv-loop μ-loop
-same-length-5 c =
+same-length-3 : tie.Need-same-length-3 Inv-loop μ-loop
+same-length-3 c =
     c .before .before .before .before .before .before .before .before .before .before .take-lowest .kept .1 .1 .0
     ∙ c .before .before .before .before .before .before .before .before .before .before .before .before .before .before .before .loop .inv .1
 
-same-length-6 : tie.Need-same-length-6 Inv-loop μ-loop
-same-length-6 c =
+same-length-4 : tie.Need-same-length-4 Inv-loop μ-loop
+same-length-4 c =
     c .before .before .before .before .before .before .before .before .before .before .take-lowest .kept .1 .1 .1 .0
     ∙ c .before .before .before .before .before .before .before .before .before .before .before .before .before .before .before .loop .inv .2
 
-returns-3 : tie.Need-returns-3 Inv-loop μ-loop
-returns-3 c =
+returns-2 : tie.Need-returns-2 Inv-loop μ-loop
+returns-2 c =
     let ended = c .ended .ensures in
     ran _ _ _ _ _
     (run-rests _ _ _ _ _ _ _ _ _
@@ -95,14 +91,14 @@ when-used-requires c κs = (
   c .before .before .before .before .loop .inv .3,
 )
 
-same-length-7 : tie.Need-same-length-7 Inv-loop μ-loop
-same-length-7 c = c .before .before .before .before .before .before .loop .inv .1
+same-length-5 : tie.Need-same-length-5 Inv-loop μ-loop
+same-length-5 c = c .before .before .before .before .before .before .loop .inv .1
 
-same-length-8 : tie.Need-same-length-8 Inv-loop μ-loop
-same-length-8 c = c .before .before .before .before .before .before .loop .inv .2
+same-length-6 : tie.Need-same-length-6 Inv-loop μ-loop
+same-length-6 c = c .before .before .before .before .before .before .loop .inv .2
 
-returns-4 : tie.Need-returns-4 Inv-loop μ-loop
-returns-4 c =
+returns-3 : tie.Need-returns-3 Inv-loop μ-loop
+returns-3 c =
     let ended = c .ended2 .ensures in
     ran _ _ _ _ _ (run-used _ _ _ _ _ (c .before .before .before .before .before .loop-test .left)
     (c .before .before .before .before .before .before .loop .inv .4) (c .before .when-used .ensures)) (ended .0) (ended .1) (ended .2) (ended .3)
@@ -115,10 +111,6 @@ run-by-value-spec = tie.close (tie.spec Inv-loop
     (λ c. search needs)
     (λ c. search needs)
     returns
-    (λ c κs. search needs)
-    (λ c. search needs)
-    (λ c. search needs)
-    returns-2
     (λ c. search needs)
     (λ c κs. search needs)
     loop-holds
@@ -128,20 +120,20 @@ run-by-value-spec = tie.close (tie.spec Inv-loop
     (λ c. search needs)
     at-rest-requires
     (λ c κs. search needs)
-    same-length-5
-    same-length-6
-    returns-3
+    same-length-3
+    same-length-4
+    returns-2
     (λ c. search needs)
     (λ c. omega (
       arith,
       c .before .before .before .before .before .before .before .before .before .before .before .before .before .before .before
-          .before .before .before .before .before .before .before .before .before .before .before .fits,
+          .before .before .before .before .before .before .before .before .before .fits,
     ))
     (λ c. omega arith)
     loop-again
     (λ c. search needs)
     when-used-requires
     (λ c κs. search needs)
-    same-length-7
-    same-length-8
-    returns-4)
+    same-length-5
+    same-length-6
+    returns-3)

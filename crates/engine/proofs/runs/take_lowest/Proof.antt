@@ -1,125 +1,146 @@
--- No vertex below the first that executes or is released can step. Where the step of this one is not taken, the tables are as at entry.
-use Prim.Native.Nat.{_<_}
+-- Before vertex v is looked at the tables are as at entry, and none of the vertices below v can step.
+use Prim.Native.Nat.{_-_, _*_, _<_, _≤_}
 use mathlib.Core.Path.{_≡_, refl, _∙_, ap}
-use mathlib.Core.Logic.{⊎-elim}
-use borrow.Author.Needs.{needs}
+use mathlib.Core.Bool.{true}
 use native.Mathlib.Omega.{arith}
+use borrow.Author.Needs.{needs}
 use lib.ListN.{length}
-use Rattle.graph.specs.Tables.{lent}
+use Rattle.graph.specs.Tables.{lent, usableLimit, vertexWords}
+use Rattle.graph.specs.Sound.{sound}
 use Rattle.graph.proofs.SoundChecks.{sound-rows}
-use Rattle.machine.specs.Stepping.{due}
+use Rattle.machine.specs.Stepping.{stepLimit, due}
 use Rattle.machine.proofs.LookLaws.{late-none}
 use Rattle.engine.specs.Answers.{dueOf}
-use Rattle.engine.specs.Internal.Underway.{CannotBelow, is-due}
-use Rattle.engine.proofs.RunLaws.{idle-below, due-executing, turned-down, taken-up, none-left, sound-there, cannot-there, attempted-there}
+use Rattle.engine.specs.Internal.Underway.{is-due}
+use Rattle.engine.proofs.LowestLaws.{CannotBelow}
+use Rattle.engine.proofs.RunLaws.{start-here, started-up, passed-by, due-here, turned-down, taken-up, none-left}
 use Rattle.engine.proofs.runs.take_lowest.Statement.{statement}
 use Rattle.engine.proofs.runs.take_lowest.Tie as tie
 
--- none below the first can step
-below :
-    (c : tie.After-first-live) → CannotBelow (c .before .before .before .before .before .before .before .before .args .program .now)
-    (lent (c .before .before .before .before .before .before .before .before .args .vertices .now)
-    (c .before .before .before .before .before .before .before .before .args .edges .now)
-    (c .before .before .before .before .before .before .before .before .args .tally)) (c .first-live .result)
-below c = idle-below _ _ _ _ _ (c .before .before .before .before .before .before .before .before .pre .2) (c .first-live .ensures)
+abbrev Inv-loop : tie.InvT-loop
+Inv-loop program marks vertices₀ edges₀ tally v₀ v-end vertices edges v =
+    (v ≤ tally .made) × (vertices ≡ vertices₀) × (edges ≡ edges₀) × CannotBelow program (lent vertices₀ edges₀ tally) v
 
--- where it is not the number made, it is a vertex made
-live :
-    (c : tie.Else2) → c .before .before .first-live .result <
-    c .before .before .before .before .before .before .before .before .before .before .args .tally .made
-live c = omega (arith, c .before .before .first-live .ensures .0, c .if2 .left)
+abbrev μ-loop : tie.MeasureT-loop
+μ-loop program marks vertices₀ edges₀ tally v₀ v-end vertices edges v = tally .made - v
 
--- this is due of it
-next :
-    (c : tie.After-marked-due) → dueOf (c .marked-due .result)
-    ≡ due (c .before .before .before .before .before .before .before .before .before .before .before .before .before .before .args .program .now)
-    (lent (c .before .before .before .before .before .before .before .before .before .before .before .before .before .before .args .vertices .now)
-    (c .before .before .before .before .before .before .before .before .before .before .before .before .before .before .args .edges .now)
-    (c .before .before .before .before .before .before .before .before .before .before .before .before .before .before .args .tally))
-    (c .before .before .before .before .before .before .first-live .result)
-next c =
-    due-executing _ _ _ _ _
-    (c .before .before .before .before .before .before .before .before .before .before .before .before .before .before .pre .2)
-    (c .before .before .before .before .before .before .before .before .if1 .left) (live (c .before .before .before .before))
-    (c .before .before .if3 .taken) (c .marked-due .ensures)
+-- at a turn
+module _ (c : tie.In-loop Inv-loop μ-loop) where
+  abbrev start : tie.Start Inv-loop μ-loop
+  start = c .before .before .before .before .before .before .before .before
 
--- behind its try the tables are as at entry
-same :
-    (c : tie.Joined3) → (c .if3 .vertices
-    ≡ c .before .before .before .before .before .before .before .before .before .before .before .before .args .vertices .now)
-    × (c .if3 .edges ≡ c .before .before .before .before .before .before .before .before .before .before .before .before .args .edges .now)
-same c =
-    ⊎-elim
-    (λ w.
-    let due-now = due-executing
-    (c .before .before .before .before .before .before .before .before .before .before .before .before .args .program .now) _ _ _ _
-    (c .before .before .before .before .before .before .before .before .before .before .before .before .pre .2)
-    (c .before .before .before .before .before .before .if1 .left) (live (c .before .before)) (w .0 .taken) (w .2 .ensures) in
-    let kept = turned-down _ _ _ _ _ _ _ _ _ _ _ refl refl (w .5 .ensures _ due-now) (w .10 .ensures) (w .11 .left)
-    (below (c .before .before .before .before)) in
-    (w .12 ∙ kept .0, w .13 ∙ kept .1))
-    (λ w. (w .1, w .2))
-    (c .if3 .came)
+  known : sound (lent (start .args .vertices .now) (start .args .edges .now) (start .args .tally)) ≡ true
+  known = start .pre .2
 
-returns-2 : tie.Need-returns-2
-returns-2 c = (none-left _ _ _ _ _ (c .before .before .first-live .ensures .0) (omega arith) (below (c .before .before)), refl, refl)
+  few : start .args .tally .steps < stepLimit
+  few = c .before .before .if1 .left
 
-slice-read-if3 : tie.Need-slice-read-if3
-slice-read-if3 c =
-    omega (arith, sound-rows _ (c .before .before .before .before .before .before .before .before .before .before .before .pre .2), live (c .before))
+  rows : (vertexWords * start .args .tally .made ≤ length (c .before .loop .vertices)) × (start .args .tally .made ≤ usableLimit)
+  rows = omega (arith, sound-rows _ known, ap length (c .before .loop .inv .1))
 
-marked-due-requires : tie.Need-marked-due-requires
-marked-due-requires c κs = (
-  c .before .before .before .before .before .before .before .before .before .before .before .before .before .pre .0,
-  c .before .before .before .before .before .before .before .before .before .before .before .before .before .pre .1,
-  live (c .before .before .before),
-  sound-rows _ (c .before .before .before .before .before .before .before .before .before .before .before .before .before .pre .2) .0,
-)
+-- a vertex that may start
+start-step-requires : tie.Need-start-step-requires Inv-loop μ-loop
+start-step-requires c κs =
+    let turn = c .before .before .before .before .before in
+    start-here _ _ _ _ _ _ (known turn) (turn .before .loop .inv .1) (turn .before .loop .inv .2) (few turn) (turn .loop-test .taken)
+    (c .before .before .before .may-start .ensures) (c .before .before .if2 .taken)
 
-returns-3 : tie.Need-returns-3
-returns-3 c =
-    taken-up _ _ _ _ _ _ _ _ _ _ _
-    refl refl (live (c .before .before .before .before .before .before .before .before .before .before .before .before .before))
-    (c .before .before .before .before .before .before .do-due .ensures _
-    (next (c .before .before .before .before .before .before .before .before .before))) (c .before .step-refused .ensures) (c .if4 .taken)
-    (below (c .before .before .before .before .before .before .before .before .before .before .before .before .before .before .before))
+same-length : tie.Need-same-length Inv-loop μ-loop
+same-length c = c .before .before .start-step .kept .0 ∙ ap length (c .before .before .before .before .before .before .before .before .before .loop .inv .1)
 
-take-lowest-from-requires : tie.Need-take-lowest-from-requires
-take-lowest-from-requires c κs =
-    let (v, e) = same (c .before .before) in (
-      c .before .before .before .before .before .before .before .before .before .before .before .before .before .before .pre .0,
-      c .before .before .before .before .before .before .before .before .before .before .before .before .before .before .pre .1,
-      sound-there _ _ _ _ _ v e (c .before .before .before .before .before .before .before .before .before .before .before .before .before .before .pre .2),
-      c .before .before .before .before .before .before .before .before .if1 .left,
-      c .before .before .before .before .before .before .first-live .ensures .0,
-      cannot-there _ _ _ _ _ _ _ v e (below (c .before .before .before .before .before .before)),
+same-length-2 : tie.Need-same-length-2 Inv-loop μ-loop
+same-length-2 c = ap length (c .before .before .before .before .before .before .before .before .before .loop .inv .2)
+
+returns-2 : tie.Need-returns-2 Inv-loop μ-loop
+returns-2 c =
+    let turn = c .before .before .before .before .before .before .before .before in
+    started-up _ _ _ _ _ _ _ _ _ _ _ (known turn) (turn .before .loop .inv .1) (turn .before .loop .inv .2) (few turn) (turn .loop-test .taken)
+    (c .before .before .before .before .before .before .may-start .ensures) (c .before .before .before .before .before .if2 .taken) (c .before .before .start-step .ensures) (turn .before .loop .inv .3)
+
+-- another one that does not execute
+loop-again : tie.Need-loop-again Inv-loop μ-loop
+loop-again c =
+    let turn = c .before .before .before .before .before in (
+      omega (arith, turn .loop-test .taken),
+      turn .before .loop .inv .1,
+      turn .before .loop .inv .2,
+      passed-by _ _ _ _ _ _ (known turn) (turn .before .loop .inv .1) (turn .loop-test .taken) (c .before .before .before .may-start .ensures) (c .before .before .if2 .left)
+          (c .if3 .taken) (turn .before .loop .inv .3),
     )
 
-returns-4 : tie.Need-returns-4
-returns-4 c =
-    let (v, e) = same (c .before .before .before .before .before .before .before) in
-    attempted-there _ _ _ _ _ _ (c .before .before .before .before .take-lowest-from .result) _ _
-    v e (c .before .before .before .before .take-lowest-from .ensures)
+-- this is due at the step of one that does
+next :
+    (c : tie.After-marked-due Inv-loop μ-loop)
+    → dueOf (c .marked-due .result)
+    ≡ due (start (c .before .before .before .before .before .before .before) .args .program .now) (lent (c .before .before .before .before .before .before .before .before .loop .vertices) (c .before .before .before .before .before .before .before .before .loop .edges) (start (c .before .before .before .before .before .before .before) .args .tally)) (c .before .before .before .before .before .before .before .before .loop .v)
+next c =
+    let turn = c .before .before .before .before .before .before .before in
+    due-here _ _ _ _ _ _ _ (known turn) (turn .before .loop .inv .1) (turn .before .loop .inv .2) (few turn) (turn .loop-test .taken)
+    (c .before .before .if3 .left) (c .marked-due .ensures)
+
+marked-due-requires : tie.Need-marked-due-requires Inv-loop μ-loop
+marked-due-requires c κs = let turn = c .before .before .before .before .before .before in (start turn .pre .0, start turn .pre .1, turn .loop-test .taken, rows turn .0)
+
+same-length-3 : tie.Need-same-length-3 Inv-loop μ-loop
+same-length-3 c = c .before .before .before .before .before .before .do-due .kept .0 ∙ ap length (c .before .before .before .before .before .before .before .before .before .before .before .before .before .before .before .before .before .loop .inv .1)
+
+same-length-4 : tie.Need-same-length-4 Inv-loop μ-loop
+same-length-4 c = c .before .before .before .before .before .before .do-due .kept .1 .0 ∙ ap length (c .before .before .before .before .before .before .before .before .before .before .before .before .before .before .before .before .before .loop .inv .2)
+
+returns-3 : tie.Need-returns-3 Inv-loop μ-loop
+returns-3 c =
+    let turn = c .before .before .before .before .before .before .before .before .before .before .before .before .before .before .before .before in
+    taken-up _ _ _ _ _ _ _ _ _ _ _ (turn .before .loop .inv .1) (turn .before .loop .inv .2) (turn .loop-test .taken)
+    (c .before .before .before .before .before .before .do-due .ensures _ (next (c .before .before .before .before .before .before .before .before .before))) (c .before .step-refused .ensures) (c .if4 .taken) (turn .before .loop .inv .3)
+
+loop-again-2 : tie.Need-loop-again-2 Inv-loop μ-loop
+loop-again-2 c =
+    let turn = c .before .before .before .before .before .before .before .before .before .before .before .before .before .before .before .before in
+    let kept =
+    turned-down _ _ _ _ _ _ _ _ _ _ _ (turn .before .loop .inv .1) (turn .before .loop .inv .2) (c .before .before .before .before .before .before .do-due .ensures _ (next (c .before .before .before .before .before .before .before .before .before)))
+    (c .before .step-refused .ensures) (c .if4 .left) (turn .before .loop .inv .3)
+    in
+    (omega (arith, turn .loop-test .taken), kept .0, kept .1, kept .2)
+
+-- all were looked at
+returns-4 : tie.Need-returns-4 Inv-loop μ-loop
+returns-4 c = (
+  none-left _ _ _ _ _ (c .before .loop .inv .0) (c .loop-test .left) (c .before .loop .inv .3),
+  c .before .loop .inv .1,
+  c .before .loop .inv .2,
+)
 
 pub take-lowest-spec : {M : Type 1} → statement M
-take-lowest-spec = tie.close (tie.spec (λ c. (late-none _ _ (c .if1 .taken), refl, refl))
-    (λ c κs. sound-rows _ (c .before .before .before .before .before .before .before .pre .2) .0)
+take-lowest-spec =
+    tie.close
+    (tie.spec
+    Inv-loop
+    μ-loop
+    (λ c. (late-none _ _ (c .if1 .taken), refl, refl))
+    (λ c. (omega arith, refl, refl, λ u lt. absurd (omega arith)))
     (λ c. search needs)
+    (λ c κs. omega (arith, c .before .loop-test .taken, rows (c .before)))
+    start-step-requires
+    same-length
+    same-length-2
     returns-2
     (λ c. search needs)
     (λ c. search needs)
     (λ c. search needs)
     (λ c. search needs)
-    slice-read-if3
+    (λ c. omega (arith, c .before .before .before .before .loop-test .taken, rows (c .before .before .before .before)))
+    (λ c. omega (arith, c .before .before .before .before .before .loop-test .taken, rows (c .before .before .before .before .before)))
+    (λ c. omega (arith, c .before .before .before .before .before .loop-test .taken))
+    loop-again
     marked-due-requires
-    (λ c κs. is-due (c .before .before .before .before .before .before .before .before .before .before .before .before .before .before .before .before
-    .args .program .now) (next (c .before .before)))
+    (λ c κs. is-due _ (next (c .before .before)))
     (λ c κs. search needs)
-    (λ c. search needs)
-    (λ c. search needs)
+    same-length-3
+    same-length-4
     returns-3
-    take-lowest-from-requires
-    (λ c. c .before .before .before .before .take-lowest-from .kept .1 .1 .0 ∙ ap length (same (c .before .before .before .before .before .before .before) .0))
-    (λ c. c .before .before .before .before .take-lowest-from .kept .1 .1 .1 .0
-    ∙ ap length (same (c .before .before .before .before .before .before .before) .1))
+    (λ c. omega (arith, c .before .before .before .before .before .before .before .before .before .before .before .before .before .before .before .before .loop-test .taken, rows (c .before .before .before .before .before .before .before .before .before .before .before .before .before .before .before .before)))
+    (λ c. omega (arith, c .before .before .before .before .before .before .before .before .before .before .before .before .before .before .before .before .loop-test .taken))
+    loop-again-2
+    (λ c. ap length (c .before .loop .inv .1))
+    (λ c. ap length (c .before .loop .inv .2))
     returns-4)

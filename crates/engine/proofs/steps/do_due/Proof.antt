@@ -13,9 +13,9 @@ counted-requires c κs =
     job-ready _ _ _ _ _ _ _ _ (c .before .before .before .before .before .next2 .given .1)
     (c .before .before .before .before .before .before .before .before .before .pre) .1
 
--- a command: sound tables
-command-on-sound-requires : tie.Need-command-on-sound-requires
-command-on-sound-requires c κs =
+-- a command: it is a start, or the tables are sound
+command-checked-requires : tie.Need-command-checked-requires
+command-checked-requires c κs =
     command-ready _ _ _ _ _ _ _ (c .before .before .before .next3 .given .1) (c .before .before .before .before .before .before .before .pre) .2
 
 -- a command that is refused
@@ -23,8 +23,8 @@ returns : tie.Need-returns
 returns c =
     turned-path _ _ _ _ _ _ _
     (c .before .before .before .before .before .before .before .before .before .before .before .before .next3 .given .1) _ _
-    (c .before .before .before .before .before .before .before .before .command-on-sound .result)
-    (c .before .before .before .before .before .before .before .before .command-on-sound .ensures) _ (c .before .before .command-refused .ensures) _
+    (c .before .before .before .before .before .before .before .before .command-checked .result)
+    (c .before .before .before .before .before .before .before .before .command-checked .ensures) _ (c .before .before .command-refused .ensures) _
     (c .before .if1 .taken) (c .as-step .ensures)
 
 -- a command that is taken
@@ -32,21 +32,19 @@ store-requires-2 : tie.Need-store-requires-2
 store-requires-2 c κs =
     taken-ready _ _ _ _ _ _ _
     (c .before .before .before .before .before .before .before .before .before .before .before .before .next3 .given .1) _ _
-    (c .before .before .before .before .before .before .before .before .command-on-sound .result)
-    (c .before .before .before .before .before .before .before .before .command-on-sound .ensures) _ (c .before .before .command-refused .ensures)
-    (c .before .before .before .before .before .before .before .before .before .before .before .before .before .before .before .before .pre)
-    (c .before .if1 .left) .0
+    (c .before .before .before .before .before .before .before .before .command-checked .result)
+    (c .before .before .before .before .before .before .before .before .command-checked .ensures) _ (c .before .before .command-refused .ensures)
+    (c .before .before .before .before .before .before .before .before .before .before .before .before .before .before .before .before .pre) .0
 
 counted-requires-2 : tie.Need-counted-requires-2
 counted-requires-2 c κs =
     taken-ready _ _ _ _ _ _ _
     (c .before .before .before .before .before .before .before .before .before .before .before .before .before .before .before .before .next3 .given .1) _ _
-    (c .before .before .before .before .before .before .before .before .before .before .before .before .command-on-sound .result)
-    (c .before .before .before .before .before .before .before .before .before .before .before .before .command-on-sound .ensures) _
+    (c .before .before .before .before .before .before .before .before .before .before .before .before .command-checked .result)
+    (c .before .before .before .before .before .before .before .before .before .before .before .before .command-checked .ensures) _
     (c .before .before .before .before .before .before .command-refused .ensures)
     (c .before .before .before .before .before .before .before .before .before .before .before .before .before .before .before .before .before
-    .before .before .before .pre)
-    (c .before .before .before .before .before .if1 .left) .1
+    .before .before .before .pre) .1
 
 -- a refusal
 returns-2 : tie.Need-returns-2
@@ -64,8 +62,8 @@ returns-4 c =
     taken-path _ _ _ _ _ _ _
     (c .before .before .before .before .before .before .before .before .before .before .before .before .before .before .before .before .before .next3 .given .1)
     _ _
-    (c .before .before .before .before .before .before .before .before .before .before .before .before .before .command-on-sound .result)
-    (c .before .before .before .before .before .before .before .before .before .before .before .before .before .command-on-sound .ensures) _
+    (c .before .before .before .before .before .before .before .before .before .before .before .before .before .command-checked .result)
+    (c .before .before .before .before .before .before .before .before .before .before .before .before .before .command-checked .ensures) _
     (c .before .before .before .before .before .before .before .command-refused .ensures) _ _ _ (c .before .before .before .before .before .before .if1 .left)
     (c .before .as-step2 .ensures) (c .before .before .before .before .store2 .ensures) (c .counted2 .ensures)
 
@@ -76,7 +74,7 @@ do-due-spec = tie.close (tie.spec
     store-requires
     counted-requires
     (λ c. search needs)
-    command-on-sound-requires
+    command-checked-requires
     (λ c κs. search needs)
     (λ c κs. search needs)
     (λ c. search needs)
