@@ -164,12 +164,16 @@ GOES_PAST = "job", "async", "future"  # the others go to the last byte
 
 
 class Vertex:
-    def __init__(self, status, place, scope, phase=0, first=0, second=0, third=0, future=0):
+    def __init__(self, status, place, scope, phase=0, first=0, second=0, third=0, future=0, in_count=0):
         self.status, self.place, self.scope, self.phase = status, place, scope, phase
-        self.made, self.future = [first, second, third], future
+        self.made, self.future, self.in_count = [first, second, third], future, in_count
 
     def words(self):
-        return [self.status, self.place, self.scope, self.phase] + self.made + [self.future]
+        return [self.status, self.place, self.scope, self.phase] + self.made + [self.future, self.in_count]
+
+    def one_edge(self, more):
+        """One edge more into it, or one less. "The word stops at 0 and at its largest number." """
+        self.in_count = min(max(self.in_count + more, 0), 2**32 - 1)
 
 
 class Edge:
@@ -183,12 +187,10 @@ class Shop:
     def __init__(self, data, vertex_words, edge_words, made, held, steps):
         self.data, self.vertex_rows, self.edge_rows = data, len(vertex_words) // VERTEX_WORDS, len(edge_words) // EDGE_WORDS
         self.first_words, self.tally = (vertex_words, edge_words), (made, held, steps)
-        self.sound = made <= self.vertex_rows and held <= self.edge_rows
+        self.fits = made <= self.vertex_rows and held <= self.edge_rows
         rows = [vertex_words[VERTEX_WORDS * k : VERTEX_WORDS * (k + 1)] for k in range(self.vertex_rows)]
         ends = [edge_words[EDGE_WORDS * k : EDGE_WORDS * (k + 1)] for k in range(self.edge_rows)]
-        if self.sound:
-            self.sound = all(row[0] in (1, 2, 3, 4) for row in rows[:made]) and all(max(pair) < made for pair in ends[:held])
-        if self.sound:
+        if self.fits:
             self.vertices = [Vertex(*row) for row in rows[:made]]
             self.edges = [Edge(*pair) for pair in ends[:held]]
             self.steps = steps
@@ -200,20 +202,28 @@ class Shop:
         vertices, edges, _ = cost(main)
         need(2 + vertices <= self.vertex_rows, 10)
         need(1 + edges <= self.edge_rows, 11)
-        self.vertices = [Vertex(RELEASED, 0, 1), Vertex(RELEASED, len(self.data) - 1, 1)]
-        self.edges, self.steps, self.sound = [Edge(0, 1)], 0, True
+        self.vertices = [Vertex(RELEASED, 0, 1), Vertex(RELEASED, len(self.data) - 1, 1, in_count=1)]
+        self.edges, self.steps, self.fits = [Edge(0, 1)], 0, True
         self.spare = [[0] * VERTEX_WORDS * (self.vertex_rows - 2), [0] * EDGE_WORDS * (self.edge_rows - 1)]
         return "loaded"
 
     def words(self):
-        if not self.sound:
+        if not self.fits:
             return self.first_words
         vertices = [word for vertex in self.vertices for word in vertex.words()] + self.spare[0]
         edges = [word for edge in self.edges for word in (edge.source, edge.target)] + self.spare[1]
         return vertices + self.tails[0], edges + self.tails[1]
 
     def numbers(self):
-        return (len(self.vertices), len(self.edges), self.steps) if self.sound else self.tally
+        return (len(self.vertices), len(self.edges), self.steps) if self.fits else self.tally
+
+    def need_tally(self):
+        need(self.fits and self.steps < 8192, 12)
+
+    def need_sound(self):
+        self.need_tally()
+        need(all(vertex.status in (NEW, RELEASED, EXECUTING, FINISHED) for vertex in self.vertices), 12)
+        need(all(max(edge.source, edge.target) < len(self.vertices) for edge in self.edges), 12)
 
     def named(self, number):
         need(number < len(self.vertices), 20)
@@ -241,6 +251,7 @@ class Shop:
             need(a not in self.behind(b) | {b}, 35)
             need(len(self.edges) < self.edge_rows, 32)
             self.edges.append(Edge(a, b))
+            target.one_edge(1)
             del self.spare[1][:EDGE_WORDS]
         return f"edge {a} {b}"
 
@@ -271,19 +282,26 @@ class Shop:
     def stop(self, own, me):
         own.status = FINISHED
         kept = [edge for edge in self.edges if edge.source != me]
+        for edge in self.edges:
+            if edge.source == me:
+                self.vertices[edge.target].one_edge(-1)
         self.spare[1] = [0, 0] * (len(self.edges) - len(kept)) + self.spare[1]
         self.edges = kept
         return "stop"
 
     def step(self, me):
-        need(self.sound and self.steps < 8192, 12)
-        own = self.named(me)
-        need(own.status != NEW, 22)
-        need(own.status != FINISHED, 23)
-        if own.status == RELEASED:
-            need(me not in [edge.target for edge in self.edges], 21)
+        """ "For .. a step of a released vertex, 12 then looks at the tally and that vertex's row only; on altered tables 21 follows the
+        word." """
+        self.need_tally()
+        if me < len(self.vertices) and self.vertices[me].status == RELEASED:
+            own = self.vertices[me]
+            need(own.in_count == 0, 21)
             own.status, answer = EXECUTING, "start"
         else:
+            self.need_sound()
+            own = self.named(me)
+            need(own.status != NEW, 22)
+            need(own.status != FINISHED, 23)
             answer = self.command(own, me)
         self.steps += 1
         return answer
@@ -313,11 +331,16 @@ class Shop:
             own.place = past if kind in GOES_PAST else last
         return answer
 
+    def counted(self):
+        """Whether the word of each vertex is the number of edges into it."""
+        targets = [edge.target for edge in self.edges]
+        return all(vertex.in_count == targets.count(me) for me, vertex in enumerate(self.vertices))
+
     def can(self, me):
         """Whether a step would be accepted; an executing vertex's is tried on a copy."""
         own = self.vertices[me]
         if own.status == RELEASED:
-            return me not in [edge.target for edge in self.edges]
+            return own.in_count == 0
         if own.status != EXECUTING:
             return False
         try:
@@ -327,12 +350,12 @@ class Shop:
         return True
 
     def lowest(self):
-        need(self.sound and self.steps < 8192, 12)
+        self.need_sound()
         return next((me for me in range(len(self.vertices)) if self.can(me)), None)
 
     def run(self, budget):
         """The ending, the last step and the steps taken."""
-        need(self.sound and self.steps < 8192, 12)
+        self.need_sound()
         last, taken = "none", 0
         while True:
             if all(vertex.status == FINISHED for vertex in self.vertices):
@@ -363,6 +386,11 @@ def ran(shop, budget):
     print("{}, last {}, taken {}".format(*answer), left(shop))
 
 
+def looked(shop):
+    lowest = attempt(shop.lowest)
+    print("lowest", "none" if lowest is None else lowest)
+
+
 def drawn(length, seed):
     words = []
     for k in range(length):
@@ -376,8 +404,7 @@ def run(text, vertex_rows, edge_rows, seed):
     print(" ".join(["program"] + text.split()).lower())
     shop = Shop(bytes.fromhex(text), drawn(VERTEX_WORDS * vertex_rows + 3, seed), drawn(EDGE_WORDS * edge_rows + 1, seed), 5, 6, 8172)
     print(attempt(shop.load), left(shop))
-    lowest = attempt(shop.lowest)
-    print("lowest", "none" if lowest is None else lowest)
+    looked(shop)
     ran(shop, 3)
     turned(shop)
 
@@ -452,6 +479,47 @@ def examples():
         shop = loaded(bytes.fromhex(program), 8, 8, steps)
         shop.vertices[vertex].future = word
         turned(shop)
+
+
+LARGEST = 2**32 - 1
+# steps of a run, and what is altered then: a vertex's or an edge's word, by its number and name, or the tally
+MOMENTS = [
+    (4, "vertex", 1, "status", 0),
+    (4, "vertex", 1, "status", 5),
+    (4, "vertex", 0, "status", LARGEST),
+    (4, "vertex", 2, "status", 5),
+    (4, "edge", 1, "source", 3),
+    (4, "edge", 0, "target", 3),
+    (4, "edge", 0, "target", LARGEST),
+    (4, "tally", 3, 2, 8192),
+    (4, "tally", 3, 2, 8191),
+    (4, "tally", 5, 2, 4),
+    (4, "tally", 3, 4, 4),
+    (4, "tally", 2, 2, 4),
+    (4, "vertex", 2, "in_count", 5),
+    (4, "vertex", 1, "in_count", 0),
+    (2, "vertex", 1, "in_count", LARGEST),
+    (2, "vertex", 1, "in_count", LARGEST - 1),
+    (6, "vertex", 2, "in_count", 5),
+    (6, "vertex", 1, "in_count", 0),
+    (6, "vertex", 1, "in_count", LARGEST),
+]
+WORDS = {"status": 0, "in_count": 8, "source": 0, "target": 1}
+
+
+def moments():
+    for steps, what, a, b, c in MOMENTS:
+        print(f"after {steps} steps {what} {a} {WORDS.get(b, b)} {c}: ", end="")
+        shop = loaded(bytes([2, 1, 1, 0, 1, 2, 0]), 4, 3, steps)
+        if what == "tally":
+            shop = Shop(shop.data, *shop.words(), a, b, c)
+        else:
+            setattr({"vertex": shop.vertices, "edge": shop.edges}[what][a], b, c)
+        looked(shop)
+        for vertex in 2, 1, 0, 3:
+            print(vertex, attempt(shop.step, vertex), left(shop))
+        looked(shop)
+        ran(shop, 60)
 
 
 def draw_program(seed, room):
@@ -533,7 +601,7 @@ def needed(program):
 
 
 def turns(shop, order, seed):
-    jobs, refused = [], 0
+    jobs, refused, counted = [], 0, 0
     for turn in range(30000):
         if shop.steps == needed(shop.data):
             break
@@ -542,10 +610,13 @@ def turns(shop, order, seed):
         answer = attempt(shop.step, shop.lowest() if order == 0 else vertex)
         if isinstance(answer, Refused):
             refused += 1
-        elif answer.startswith("job"):
+            continue
+        counted += shop.counted()
+        if answer.startswith("job"):
             _, number, offset = answer.split()
             jobs.append((int(offset), int(number)))
-    print(f"order {order} jobs", *[f"{offset}:{number}" for offset, number in jobs], "refused", refused, left(shop))
+    assert counted == shop.steps
+    print(f"order {order} jobs", *[f"{offset}:{number}" for offset, number in jobs], "refused", refused, "counted", counted, left(shop))
     check(shop.data, shop.steps, [offset for offset, _ in jobs])
 
 
@@ -561,10 +632,14 @@ def soak():
                 turns(shop, order, seed)
                 continue
             print("order 4 runs")
+            counted = 0
             for turn in range(300):
                 ran(shop, turn * 5 % 17)
+                counted += shop.counted()
                 if shop.steps == needed(program):
                     break
+            assert counted == turn + 1
+            print("counted", counted)
 
 
 # bytes | vertex rows, edge rows, tables that it is tried on
@@ -617,6 +692,7 @@ def main():
         for seed in range(tables):
             run(text.strip(), vertex_rows, edge_rows, seed)
     examples()
+    moments()
     soak()
 
 

@@ -10,7 +10,8 @@ from cases import next_state, total
 from rows import EDGE_TABLE, EDGE_WORDS, USABLE, VERTEX_TABLE, VERTEX_WORDS
 
 NEW, RELEASED, EXECUTING, FINISHED = 1, 2, 3, 4
-FUTURE = 7
+FUTURE, IN_COUNT = 7, 8
+LARGEST = 2**32 - 1
 
 
 class Refused(Exception):
@@ -33,10 +34,12 @@ class Machine:
     def edges(self):
         return [tuple(self.e[EDGE_WORDS * i : EDGE_WORDS * (i + 1)]) for i in range(self.held)]
 
+    def fits(self):
+        return self.made <= self.vertex_rows() and self.held <= self.edge_rows()
+
     def sound(self):
         return (
-            self.made <= self.vertex_rows()
-            and self.held <= self.edge_rows()
+            self.fits()
             and all(self.status(k) in (1, 2, 3, 4) for k in range(self.made))
             and all(a < self.made and b < self.made for a, b in self.edges())
         )
@@ -51,6 +54,11 @@ class Machine:
                     seen.add(t)
                     todo.append(t)
         return b in seen
+
+    def count(self, k, more):
+        """One edge more into vertex k, or one less. "The word stops at 0 and at its largest number." """
+        at = VERTEX_WORDS * k + IN_COUNT
+        self.v[at] = max(0, min(LARGEST, self.v[at] + more))
 
     def need(self, test, number):
         if not test:
@@ -86,6 +94,7 @@ class Machine:
             self.need(self.held < self.edge_rows(), 32)
             self.e[EDGE_WORDS * self.held : EDGE_WORDS * (self.held + 1)] = [a, b]
             self.held += 1
+            self.count(b, 1)
         return f"edge {a} {b}"
 
     def release(self, t, k):
@@ -107,11 +116,14 @@ class Machine:
         return f"transfer {k}"
 
     def start(self, k):
-        self.begin(k)
+        """ "For start .. 12 then looks at the tally and that vertex's row only; on altered tables 21 follows the word." """
+        self.need(self.fits(), 12)
+        self.need(k < self.made, 20)
+        self.need(self.status(k) in (1, 2, 3, 4), 12)
         self.need(self.status(k) != NEW, 22)
         self.need(self.status(k) != EXECUTING, 39)
         self.need(self.status(k) != FINISHED, 23)
-        self.need(all(b != k for a, b in self.edges()), 21)
+        self.need(self.v[VERTEX_WORDS * k + IN_COUNT] == 0, 21)
         self.v[VERTEX_WORDS * k] = EXECUTING
         return "start"
 
@@ -119,6 +131,9 @@ class Machine:
         self.begin(t)
         self.need(self.status(t) == EXECUTING, 30)
         self.v[VERTEX_WORDS * t] = FINISHED
+        for a, b in self.edges():
+            if a == t:
+                self.count(b, -1)
         kept = [x for a, b in self.edges() if a != t for x in (a, b)]
         self.e[: EDGE_WORDS * self.held] = kept + [0] * (EDGE_WORDS * self.held - len(kept))
         self.held = len(kept) // EDGE_WORDS
@@ -161,14 +176,17 @@ def drawn(seed, repeats):
     if seed % 4 != 0:
         vertices[0] = EXECUTING
     edges, d = words(5 * EDGE_WORDS, d, 0)
-    n = min(d.below(600), len(vertices))
+    steps, made, held = d.below(9000), d.next().below(7), d.next(2).below(6)
+    d = d.next(3)
+    targets = edges[1 : EDGE_WORDS * held : EDGE_WORDS]
+    for k in range(5):
+        at = VERTEX_WORDS * k + IN_COUNT
+        vertices[at] = ([targets.count(k)] * 4 + [0, 0, LARGEST, vertices[at]])[d.below(8)]
+        d = d.next()
+    n, m = min(d.below(600), len(vertices)), min(d.next().below(200), len(edges))
+    machine = Machine(vertices[:n], edges[:m], 4 if made < 4 else made - 1, held, steps)
     d = d.next()
-    m = min(d.below(200), len(edges))
-    d = d.next()
-    made = d.next().below(7)
-    machine = Machine(vertices[:n], edges[:m], 4 if made < 4 else made - 1, d.next(2).below(6), d.below(9000))
-    d = d.next()
-    kind, caller, a, b = d.next().below(12), d.next(2).below(9), d.next(3).below(17), d.next(4).below(4)
+    kind, caller, a, b = d.next().below(16), d.next(2).below(9), d.next(3).below(17), d.next(4).below(4)
     caller, a = max(caller - 4, 0), a % 4 if a < 16 else 4
     if repeats:
         row = d.next(3).below(max(machine.held, 1))
@@ -177,26 +195,37 @@ def drawn(seed, repeats):
         machine.call("new", caller, a, b)
     elif kind < 5:
         machine.call("edge", caller, a, b)
-    elif kind == 5:
+    elif kind < 7:
         machine.call("release", caller, a)
-    elif kind < 9:
+    elif kind < 10:
         machine.call("transfer", caller, a)
-    elif kind < 11:
+    elif kind < 14:
         machine.call("start", a)
     else:
         machine.call("stop", caller)
 
 
+VERTEX_WORD = {"status": 0, "future": FUTURE, "count": IN_COUNT}
+EDGE_WORD = {"source": 0, "target": 1}
+
+
 def run(machine, calls):
+    """Calls, and what is altered between them: the tally, or a word of a row, where 9000 to 9999 stand for the largest numbers of a word."""
     for line in calls.strip().split("\n"):
         word, *numbers = line.split()
+        numbers = list(map(int, numbers))
         if word == "tally":
-            machine.made, machine.held, machine.steps = map(int, numbers)
-        elif word == "future":
-            vertex, future = map(int, numbers)
-            machine.v[VERTEX_WORDS * vertex + FUTURE] = future
+            machine.made, machine.held, machine.steps = numbers
+        elif word in VERTEX_WORD:
+            machine.v[VERTEX_WORDS * numbers[0] + VERTEX_WORD[word]] = written(numbers[1])
+        elif word in EDGE_WORD:
+            machine.e[EDGE_WORDS * numbers[0] + EDGE_WORD[word]] = written(numbers[1])
         else:
-            machine.call(word, *map(int, numbers))
+            machine.call(word, *numbers)
+
+
+def written(number):
+    return number if number < 9000 else LARGEST - 9999 + number
 
 
 def executing_first(row):
@@ -314,6 +343,135 @@ stop 1
 open
 start 0
 new 0 1 1""")
+print("counted")
+run(Machine([77] * (5 * VERTEX_WORDS + 2), [77] * (4 * EDGE_WORDS + 1)), """open
+start 0
+new 0 1 0
+new 0 2 0
+new 0 3 0
+edge 0 1 3
+edge 0 2 3
+edge 0 2 3
+edge 0 0 3
+edge 0 1 2
+release 0 1
+release 0 2
+release 0 3
+start 3
+start 2
+start 1
+stop 1
+edge 0 1 3
+edge 0 1 2
+count 4 5
+new 0 4 0
+transfer 0 4
+release 0 4
+stop 0
+start 3
+start 4
+stop 4
+start 3
+start 2
+stop 2
+start 3
+stop 3
+open
+start 0""")
+print("counts altered")
+run(Machine([77] * (4 * VERTEX_WORDS + 2), [77] * (3 * EDGE_WORDS + 1)), """open
+start 0
+new 0 1 0
+new 0 2 0
+new 0 3 0
+edge 0 0 1
+release 0 1
+release 0 2
+count 1 0
+start 1
+count 2 5
+start 2
+count 3 9998
+edge 0 0 3
+edge 0 2 3
+stop 0
+count 2 0
+start 2
+tally 4 3 0
+source 1 2
+target 1 3
+source 2 1
+target 2 3
+count 3 3
+stop 2
+status 2 3
+tally 4 3 0
+source 1 2
+target 1 3
+source 2 2
+target 2 3
+count 3 1
+stop 2
+status 3 2
+start 3""")
+print("bad elsewhere")
+run(Machine([77] * (4 * VERTEX_WORDS + 2), [77] * (EDGE_WORDS + 1)), """open
+start 0
+new 0 1 0
+new 0 2 0
+new 0 3 0
+edge 0 2 3
+release 0 1
+release 0 3
+status 2 0
+start 1
+new 0 5 0
+edge 0 1 2
+edge 0 2 3
+release 0 2
+transfer 0 2
+stop 0
+start 0
+start 2
+start 3
+start 4
+status 1 2
+status 2 5
+start 1
+stop 0
+start 2
+status 1 2
+status 2 1
+source 0 4
+start 1
+new 0 5 0
+edge 0 1 2
+edge 0 2 3
+release 0 2
+transfer 0 2
+stop 0
+start 0
+start 2
+start 3
+start 4
+status 1 2
+source 0 2
+target 0 9999
+start 1
+stop 0
+status 1 2
+tally 4 2 0
+start 1
+start 4
+stop 0
+tally 5 1 0
+start 1
+start 5
+stop 0
+target 0 3
+tally 4 1 9000
+start 1
+stop 0""")
 print("short")
 run(Machine([2] * (VERTEX_WORDS - 1), [2] * (EDGE_WORDS - 1)), """open
 start 0

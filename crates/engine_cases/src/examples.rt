@@ -19,7 +19,7 @@ ghost use Prim.Native.Nat.{_*_, _<_, _≤_};
 ghost use lib.ListN.{length};
 
 // An async of job 1, and job 2.
-const ASYNC: [u8; 7] = [2, 1, 1, 0, 1, 2, 0];
+pub(crate) const ASYNC: [u8; 7] = [2, 1, 1, 0, 1, 2, 0];
 
 // A future, vertex 2, and a force of it.
 const FORCED: [u8; 5] = [5, 0, 6, 0, 0];
@@ -68,7 +68,12 @@ fn to_the_end(program: &[u8]) {
 }
 
 // A loading, and a run, whose tally it hands on.
-fn loaded(program: &[u8], vertices: &mut [u32], edges: &mut [u32], budget: u32) -> Tally {
+pub(crate) fn loaded(
+    program: &[u8],
+    vertices: &mut [u32],
+    edges: &mut [u32],
+    budget: u32,
+) -> Tally {
     let none = Tally {
         made: 0,
         held: 0,

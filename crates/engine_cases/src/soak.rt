@@ -1,5 +1,6 @@
 // Drawn programs, each stepped in several orders until it has taken all its steps. The order of its jobs is written down, each as its
-// offset and number.
+// offset and number, and after how many accepted steps, or runs, the word of each vertex was the number of edges into it.
+use crate::counts::are_true;
 use crate::show;
 use crate::turns::ran;
 use cases::number;
@@ -260,6 +261,7 @@ fn turns(
     let mut now = begun;
     let mut drawn = seed;
     let mut refused: u32 = 0;
+    let mut counted: u32 = 0;
     text(b" jobs");
     for turn in 0..30000u32 {
         if (now.steps as u64) == needed {
@@ -270,10 +272,23 @@ fn turns(
         let done = step_by_value(program, vertices, edges, now, vertex);
         let answer = done.answer;
         now = done.tally;
-        refused = refused % 65536 + written(answer);
+        let refusals = written(answer);
+        refused = refused % 65536 + refusals;
+        counted = counted % 65536 + true_after(refusals, vertices, edges, now);
     }
     number(b" refused ", refused);
+    number(b" counted ", counted);
     show::left(now, vertices, edges);
+}
+
+// A refused step is not counted: what it spoiled would show after the next one.
+fn true_after(refusals: u32, vertices: &[u32], edges: &[u32], tally: Tally) -> u32
+    ensures { λ r. ⌜ r ≤ 1 ⌝ }
+{
+    if 0 < refusals {
+        return 0;
+    }
+    are_true(vertices, edges, tally)
 }
 
 // The vertex of a turn: the lowest that can step; or of all that are made and the two next numbers each in turn, from below or from
@@ -338,11 +353,15 @@ fn written(answer: Answer) -> u32
 // Runs with budgets from 0 to 16.
 fn runs(program: &[u8], vertices: &mut [u32], edges: &mut [u32], begun: Tally, needed: u64) {
     let mut now = begun;
+    let mut counted: u32 = 0;
     text(b" runs\n");
     for turn in 0..300u32 {
-        now = ran(program, vertices, edges, now, turn * 5 % 17);
         if (now.steps as u64) == needed {
             break;
         }
+        now = ran(program, vertices, edges, now, turn * 5 % 17);
+        counted = counted % 65536 + are_true(vertices, edges, now);
     }
+    number(b"counted ", counted);
+    text(b"\n");
 }

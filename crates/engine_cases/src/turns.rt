@@ -24,7 +24,7 @@ pub(crate) fn run(program: &[u8], vertices: &mut [u32], edges: &mut [u32]) {
     let tally = done.tally;
     show::loading(answer);
     show::left(tally, vertices, edges);
-    lowest(lowest_vertex(program, vertices, edges, tally));
+    looked(program, vertices, edges, tally);
     loaded(program, vertices, edges, tally);
 }
 
@@ -39,6 +39,11 @@ pub(crate) fn turned(program: &[u8], vertices: &mut [u32], edges: &mut [u32], ta
     let mut counts = [0u32; 40];
     let now = all(program, vertices, edges, tally, &mut counts);
     ran(program, vertices, edges, now, 60);
+}
+
+// The lowest vertex that can step.
+pub(crate) fn looked(program: &[u8], vertices: &[u32], edges: &[u32], tally: Tally) {
+    lowest(lowest_vertex(program, vertices, edges, tally));
 }
 
 fn lowest(found: Lowest) {

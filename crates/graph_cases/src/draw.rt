@@ -4,11 +4,13 @@ use graph::Command;
 use graph::Tally;
 use graph::rows::EDGE_WORDS;
 use graph::rows::EXECUTING;
+use graph::rows::IN_COUNT;
 use graph::rows::SOURCE;
 use graph::rows::STATUS;
 use graph::rows::TARGET;
 use graph::rows::USABLE_LIMIT;
-ghost use Prim.Native.Nat.{_≤_};
+use graph::rows::VERTEX_WORDS;
+ghost use Prim.Native.Nat.{_≤_, _<_};
 
 // Mostly one of the four numbers from `low` on.
 fn word(d: Draw, low: u32) -> u32
@@ -55,6 +57,43 @@ pub(crate) fn tally(d: Draw) -> Tally {
     }
 }
 
+// The number of edges into each of the first five vertices: the true one, 0, the largest, or the word as it was.
+pub(crate) fn in_counts(vertices: &mut [u32], edges: &[u32], held: u32, d: Draw) -> Draw {
+    let mut now = d;
+    for row in 0..5 {
+        in_count(vertices, row, into(edges, held, row as u32), now.below(8));
+        now = now.next();
+    }
+    now
+}
+
+fn in_count(vertices: &mut [u32], row: usize, count: u32, kind: u32)
+    requires { ⌜ row < 5 ⌝ }
+{
+    let at = VERTEX_WORDS * row + IN_COUNT;
+    if vertices.len() <= at {
+        return;
+    }
+    if kind < 4 {
+        vertices[at] = count;
+    } else if kind < 6 {
+        vertices[at] = 0;
+    } else if kind == 6 {
+        vertices[at] = 4294967295;
+    }
+}
+
+// How many of the held edges lead into the vertex.
+fn into(edges: &[u32], held: u32, vertex: u32) -> u32 {
+    let mut count: u32 = 0;
+    for i in 0..edges.len() {
+        if i % EDGE_WORDS == TARGET && i / EDGE_WORDS < (held as usize) && edges[i] == vertex {
+            count = count % 1024 + 1;
+        }
+    }
+    count
+}
+
 // Any command, or one that repeats a held edge.
 pub(crate) fn command(d: Draw, edges: &[u32], held: u32, repeats: bool) -> Command {
     if repeats {
@@ -85,7 +124,7 @@ fn repeated(d: Draw, edges: &[u32], held: u32) -> Command {
 
 // The vertices are mostly of the first four.
 fn any_command(d: Draw) -> Command {
-    let kind = d.next().below(12);
+    let kind = d.next().below(16);
     let caller = caller(d);
     let v = d.next().next().next().below(17);
     let target = d.next().next().next().next().below(4);
@@ -104,13 +143,13 @@ fn any_command(d: Draw) -> Command {
             target,
         };
     }
-    if kind == 5 {
+    if kind < 7 {
         return Command::Release { caller, vertex };
     }
-    if kind < 9 {
+    if kind < 10 {
         return Command::Transfer { caller, vertex };
     }
-    if kind < 11 {
+    if kind < 14 {
         return Command::Start { vertex };
     }
     Command::Stop { caller }

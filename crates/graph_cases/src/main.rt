@@ -1,7 +1,8 @@
 // Runs the opening and the commands on many tables, and writes what each call answers and leaves: docs/ENGINE.md's bare example, full
-// and freed tables, edges named twice, on full tables and beside a cycle too, vertices made with a future open, tables shorter than a row
-// and longer than 1,024 rows, a long path, stops that leave gaps, a bad word in each row, and some hundred tables of drawn words.
+// and freed tables, edges named twice, on full tables and beside a cycle too, vertices made with a future open, edges counted, tables shorter
+// than a row and longer than 1,024 rows, a long path, stops that leave gaps, a bad word in each row, and some hundred tables of drawn words.
 // tests/graph_cases.py computes the same lines from a model of its own; `stdout` holds them.
+mod counts;
 mod draw;
 mod script;
 mod show;
@@ -21,7 +22,7 @@ use graph::rows::STATUS;
 use graph::rows::VERTEX_TABLE;
 use graph::rows::VERTEX_WORDS;
 
-fn none() -> Tally {
+pub(crate) fn none() -> Tally {
     Tally {
         made: 0,
         held: 0,
@@ -35,6 +36,7 @@ fn main() {
     twice();
     cycle();
     futures();
+    counts::all();
     short();
     long();
     path();
@@ -125,15 +127,15 @@ fn drawn(seed: u32, repeats: bool) {
     let d = draw::words(&mut vertices, begin(seed), 1);
     draw::mostly_executing(&mut vertices, seed);
     let d = draw::words(&mut edges, d, 0);
-    drawn_call(&mut vertices, &mut edges, d, repeats);
+    let tally = draw::tally(d);
+    let d = draw::in_counts(&mut vertices, &edges, tally.held, d.next().next().next());
+    drawn_call(&mut vertices, &mut edges, tally, d, repeats);
 }
 
-fn drawn_call(vertices: &mut [u32], edges: &mut [u32], d: Draw, repeats: bool) {
+fn drawn_call(vertices: &mut [u32], edges: &mut [u32], tally: Tally, d: Draw, repeats: bool) {
     let n = draw::length(d, vertices.len(), 600);
     let d = d.next();
     let m = draw::length(d, edges.len(), 200);
-    let d = d.next();
-    let tally = draw::tally(d);
-    let command = draw::command(d.next(), edges, tally.held, repeats);
+    let command = draw::command(d, edges, tally.held, repeats);
     script::call(&mut vertices[..n], &mut edges[..m], tally, command);
 }

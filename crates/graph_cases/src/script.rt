@@ -5,7 +5,7 @@ use graph::Command;
 use graph::Tally;
 use graph::commands::command_by_value;
 use graph::commands::open_by_value;
-use graph::rows::FUTURE;
+use graph::rows::EDGE_WORDS;
 use graph::rows::VERTEX_WORDS;
 ghost use Prim.Native.Nat.{_<_};
 
@@ -20,10 +20,13 @@ const EDGE: u32 = 3;
 const RELEASE: u32 = 4;
 
 const TRANSFER: u32 = 5;
-// 6 is stop; 7 and 8 are no calls: the tally, or the latest open future of a vertex, is altered
+// 6 is stop; 7, 8 and 9 are no calls: the tally, or a word of a vertex row or an edge row, told by row and word, is altered. There 9999 is
+// the largest number of a word, 9998 the one before it, and so on down to 9000.
 const TALLY: u32 = 7;
 
-const OPEN_FUTURE: u32 = 8;
+const VERTEX_WORD: u32 = 8;
+
+const EDGE_WORD: u32 = 9;
 
 // The bare example (docs/ENGINE.md, "Examples"): start 0, new 1, new 2, edge 1 2; then edge 2 1 and edge 1 1 give 35; edge 1 2 is
 // taken; edge 0 1 is taken; transfer to 1 gives 38, to 2 gives 35.
@@ -128,18 +131,18 @@ pub(crate) const FUTURES: [u64; 22] = [
     0_0000_0000_0000,
     1_0000_0000_0000,
     2_0000_0008_0000,
-    8_0000_0005_0000,
+    8_0000_0007_0005,
     2_0000_0009_0001,
-    8_0001_0006_0000,
-    8_0002_0007_0000,
+    8_0001_0007_0006,
+    8_0002_0007_0007,
     4_0000_0001_0000,
     1_0001_0000_0000,
     2_0001_0002_0000,
-    8_0003_9999_0000,
+    8_0003_0007_9999,
     2_0000_0001_0003,
     2_0002_0001_0000,
     2_0005_0001_0000,
-    8_0000_0000_0000,
+    8_0000_0007_0000,
     2_0000_0004_0001,
     2_0001_0000_0000,
     6_0000_0000_0000,
@@ -218,10 +221,13 @@ fn command(kind: u32, caller: u32, a: u32, b: u32) -> Command {
     }
 }
 
-fn open_future(vertices: &mut [u32], vertex: u32, future: u32) {
-    let at = VERTEX_WORDS * (vertex as usize) + FUTURE;
-    if at < vertices.len() {
-        vertices[at] = future;
+fn alter(table: &mut [u32], at: usize, number: u32) {
+    if at < table.len() {
+        table[at] = if number < 9000 {
+            number
+        } else {
+            4294957296 + number % 10000
+        };
     }
 }
 
@@ -241,8 +247,12 @@ fn one(
             steps: c,
         };
     }
-    if kind == OPEN_FUTURE {
-        open_future(vertices, a, b);
+    if kind == VERTEX_WORD {
+        alter(vertices, VERTEX_WORDS * (a as usize) + (b as usize), c);
+        return tally;
+    }
+    if kind == EDGE_WORD {
+        alter(edges, EDGE_WORDS * (a as usize) + (b as usize), c);
         return tally;
     }
     if kind == OPEN {

@@ -8,11 +8,11 @@ use mathlib.Core.Path.{_≡_}
 use native.Mathlib.Omega.{arith}
 
 abbrev Inv-loop : tie.InvT-loop
-Inv-loop program vertices₀ edges₀ order seed needed now₀ drawn₀ refused₀ turn₀ t16 vertices edges now drawn refused turn =
+Inv-loop program vertices₀ edges₀ order seed needed now₀ drawn₀ refused₀ counted₀ turn₀ t17 t18 vertices edges now drawn refused counted turn =
     (turn ≤ 30000) × ((length vertices ≡ length vertices₀) × (length edges ≡ length edges₀))
 
 abbrev μ-loop : tie.MeasureT-loop
-μ-loop program vertices₀ edges₀ order seed needed now₀ drawn₀ refused₀ turn₀ t16 vertices edges now drawn refused turn = 30000 - turn
+μ-loop program vertices₀ edges₀ order seed needed now₀ drawn₀ refused₀ counted₀ turn₀ t17 t18 vertices edges now drawn refused counted turn = 30000 - turn
 
 pub turns-spec : {M : Type 1} → statement M
 turns-spec = tie.close (tie.spec Inv-loop
@@ -26,9 +26,13 @@ turns-spec = tie.close (tie.spec Inv-loop
     (λ c κs. search needs)
     (λ c κs. search needs)
     (λ c. omega arith)
+    (λ c κs. search needs)
     (λ c. omega arith)
     (λ c. omega arith)
     (λ c. omega arith)
+    (λ c. omega arith)
+    (λ c. search needs)
+    (λ c κs. search needs)
     (λ c. search needs)
     (λ c κs. search needs)
     (λ c κs. search needs)
