@@ -46,7 +46,7 @@ extern "C" {
 
 /* THE VERSION of this header. The first number grows where hosts must be compiled anew (a call's parameters, the shape of what is lent, the
  * meaning of an answer), the second where something is added, the third otherwise. */
-#define KESHTIWOL_VERSION_MAJOR 2
+#define KESHTIWOL_VERSION_MAJOR 3
 #define KESHTIWOL_VERSION_MINOR 0
 #define KESHTIWOL_VERSION_PATCH 0
 /* As one number. */
@@ -57,16 +57,21 @@ uint32_t keshtiwol_version(void);
 
 /* THE TABLES, of 32-bit words. Only full rows among the first 1,024 of each are used; other words are never touched.
  * A vertex row: status, place (byte offset in the program), scope (a vertex), phase (commands of the item at hand already done), the
- * three vertices that this item made, 0 where none, and the latest open future, 0 where none: the vertex that finishes when that future
- * has ended, and whose own word names the next future out. An edge row: source, target. */
+ * three vertices that this item made, 0 where none, the latest open future, 0 where none (the vertex that finishes when that future has
+ * ended, and whose own word names the next future out), and the in-count, the number of edges held into it. An edge row: source, target.
+ *
+ * MAY IT START? A host may read that from the row, between calls: a released vertex with the in-count 0 can start, and no other can. That
+ * is so while only the engine writes the tables. A host must not alter in-counts: a start, and the step of a released vertex, believe the
+ * word, and for 12 they look at the tally and at that vertex's row only. */
 enum {
-    KESHTIWOL_VERTEX_WORDS = 8,
+    KESHTIWOL_VERTEX_WORDS = 9,
     KESHTIWOL_STATUS = 0,
     KESHTIWOL_PLACE = 1,
     KESHTIWOL_SCOPE = 2,
     KESHTIWOL_PHASE = 3,
     KESHTIWOL_MADE = 4,
     KESHTIWOL_FUTURE = 7,
+    KESHTIWOL_IN_COUNT = 8,
 
     KESHTIWOL_EDGE_WORDS = 2,
     KESHTIWOL_SOURCE = 0,
@@ -144,12 +149,13 @@ enum {
     /* the lender */
     KESHTIWOL_TOO_FEW_VERTEX_ROWS = 10,
     KESHTIWOL_TOO_FEW_EDGE_ROWS = 11,
-    KESHTIWOL_UNSOUND_TABLES = 12, /* tally over the rows, too many steps, an unknown status, or an edge's end that is no vertex */
+    KESHTIWOL_UNSOUND_TABLES = 12, /* tally over the rows, too many steps, an unknown status, or an edge's end that is no vertex; a start
+                                      and the step of a released vertex look at the tally and that vertex's status only */
     KESHTIWOL_NOTHING_STARTS = 13, /* at an executing vertex's place no item can be read, its phase is past the item, or the words for
                                       futures that a force follows lead to 0 or to no vertex */
     /* the host, choosing */
     KESHTIWOL_NO_SUCH_VERTEX = 20,
-    KESHTIWOL_EDGE_LEADS_IN = 21, /* released, but something must finish first */
+    KESHTIWOL_EDGE_LEADS_IN = 21, /* released, but something must finish first: its in-count is not 0 */
     KESHTIWOL_VERTEX_IS_NEW = 22,
     KESHTIWOL_VERTEX_IS_FINISHED = 23,
     KESHTIWOL_VERTEX_IS_EXECUTING = 39, /* start of an executing vertex */

@@ -135,6 +135,11 @@ static uint32_t status(const struct run *run, uint32_t vertex)
     return run->vertices[KESHTIWOL_VERTEX_WORDS * vertex + KESHTIWOL_STATUS];
 }
 
+static uint32_t in_count(const struct run *run, uint32_t vertex)
+{
+    return run->vertices[KESHTIWOL_VERTEX_WORDS * vertex + KESHTIWOL_IN_COUNT];
+}
+
 static struct keshtiwol_reply step(struct run *run, uint32_t vertex)
 {
     return keshtiwol_step(run->program->bytes, run->program->length,
@@ -155,8 +160,13 @@ static bool step_one(struct run *run, uint64_t *dice, uint32_t *stepped, struct 
             continue;
         }
         uint32_t steps = run->tally.steps;
+        uint32_t edges_in = in_count(run, vertex);
         *reply = step(run, vertex);
         *stepped = vertex;
+        if (before == KESHTIWOL_VERTEX_RELEASED && (edges_in == 0) != (reply->said == KESHTIWOL_START)) {
+            fault(run, "a step of vertex %u, released with %u edges into it, said %u", vertex, edges_in, reply->said);
+            return true;
+        }
         if (reply->said != KESHTIWOL_REFUSED) {
             if (run->tally.steps != steps + 1) {
                 fault(run, "the tally has %u steps after step %u", run->tally.steps, steps + 1);
@@ -316,8 +326,8 @@ static void look_at_end(struct run *run)
         fault(run, "at the end %u vertices are made and %u edges held", run->tally.made, run->tally.held);
     }
     for (uint32_t vertex = 0; vertex < run->tally.made; vertex++) {
-        if (status(run, vertex) != KESHTIWOL_VERTEX_FINISHED) {
-            fault(run, "at the end vertex %u is not finished", vertex);
+        if (status(run, vertex) != KESHTIWOL_VERTEX_FINISHED || in_count(run, vertex) != 0) {
+            fault(run, "at the end vertex %u has status %u and %u edges into it", vertex, status(run, vertex), in_count(run, vertex));
         }
     }
     struct keshtiwol_reply lowest = keshtiwol_lowest(program->bytes, program->length, run->vertices, vertex_words,

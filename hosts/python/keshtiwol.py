@@ -30,7 +30,7 @@ THREADS. Python goes on with other threads during a call, so the bargain of incl
 time for the same machine, reading included (one lock around the engine is enough), and after a step says `Job` do not step its vertex again
 before the job has ended. Different machines may be used from different threads at once. receiver.py shows a host with four threads.
 
-THE LIBRARY is libkeshtiwol.so.2: from the folder in the environment variable KESHTIWOL_LIB where that is set, else from the repository's
+THE LIBRARY is libkeshtiwol.so.3: from the folder in the environment variable KESHTIWOL_LIB where that is set, else from the repository's
 target/hosts/lib where it is there, else from where the system's loader finds it. Importing fails with an ImportError where there is none,
 or where its major version is not the one that this module was written for.
 """
@@ -44,16 +44,17 @@ import os
 from dataclasses import astuple, dataclass, fields
 from typing import NamedTuple, Optional, Union
 
-VERSION_MAJOR = 2
+VERSION_MAJOR = 3
 
 # THE TABLES, of 32-bit words: how many a row has, and where in it each stands.
-VERTEX_WORDS = 8
+VERTEX_WORDS = 9
 STATUS = 0
 PLACE = 1
 SCOPE = 2
 PHASE = 3
 MADE = 4
 FUTURE = 7
+IN_COUNT = 8
 
 EDGE_WORDS = 2
 SOURCE = 0
@@ -243,8 +244,8 @@ class Status(enum.IntEnum):
 
 class Row(NamedTuple):
     """A vertex's row: its status, its place (a byte offset in the program), its scope (a vertex), its phase (commands already done of the
-    item at its place), the three vertices that this item made, 0 where none, and the latest open future, 0 where none: the vertex that
-    finishes when that future has ended, and whose own word names the next future out."""
+    item at its place), the three vertices that this item made, 0 where none, the latest open future, 0 where none (the vertex that
+    finishes when that future has ended, and whose own word names the next future out), and the number of edges held into it."""
 
     status: Status
     place: int
@@ -252,6 +253,7 @@ class Row(NamedTuple):
     phase: int
     made: tuple[int, int, int]
     future: int
+    in_count: int
 
 
 # THE C INTERFACE, as include/keshtiwol.h declares it; the test holds it to that file.
@@ -424,11 +426,18 @@ class Graph:
         if not 0 <= vertex < self.made:
             raise IndexError(f"there is no vertex {vertex}")
         words = self._vertices[VERTEX_WORDS * vertex : VERTEX_WORDS * (vertex + 1)]
-        return Row(Status(words[STATUS]), words[PLACE], words[SCOPE], words[PHASE], tuple(words[MADE:FUTURE]), words[FUTURE])
+        made = tuple(words[MADE:FUTURE])
+        return Row(Status(words[STATUS]), words[PLACE], words[SCOPE], words[PHASE], made, words[FUTURE], words[IN_COUNT])
 
     def status(self, vertex: int) -> Status:
         """The status of a vertex that was made."""
         return self.row(vertex).status
+
+    def may_start(self, vertex: int) -> bool:
+        """Whether a vertex can start: it was made, is released, and no edge leads into it. That stands in two words of its row, so the
+        engine is not called."""
+        at = VERTEX_WORDS * vertex
+        return 0 <= vertex < self.made and self._vertices[at + STATUS] == Status.RELEASED and self._vertices[at + IN_COUNT] == 0
 
     def edges(self) -> list[tuple[int, int]]:
         """The edges held, each a source and a target, in order of making."""

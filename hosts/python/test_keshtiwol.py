@@ -25,7 +25,7 @@ from dataclasses import FrozenInstanceError
 import keshtiwol
 import receiver
 from keshtiwol import (
-    EDGE_WORDS, FUTURE, PHASE, ROWS, SOURCE, STATUS, STEP_LIMIT, VERTEX_WORDS,
+    EDGE_WORDS, FUTURE, IN_COUNT, PHASE, ROWS, SOURCE, STATUS, STEP_LIMIT, VERTEX_WORDS,
     Bare, Do, Edge, Ending, Job, Machine, New, Refusal, Release, Reply, Row, Run, RunReply, Said, Start, Status, Stop, Tally, Transfer,
     library,
 )
@@ -242,12 +242,12 @@ class Programs(Case):
     def test_rows(self):
         machine = Machine(LISTED)
         self.assertEqual(machine.program, LISTED)
-        self.assertEqual(machine.row(0), Row(Status.RELEASED, 0, 1, 0, (0, 0, 0), 0))
-        self.assertEqual(machine.row(1), Row(Status.RELEASED, 8, 1, 0, (0, 0, 0), 0))
+        self.assertEqual(machine.row(0), Row(Status.RELEASED, 0, 1, 0, (0, 0, 0), 0, 0))
+        self.assertEqual(machine.row(1), Row(Status.RELEASED, 8, 1, 0, (0, 0, 0), 0, 1))
         self.assertEqual(machine.edges(), [(0, 1)])
         machine.run(4)
-        self.assertEqual(machine.row(0), Row(Status.EXECUTING, 0, 1, 3, (2, 3, 0), 0))
-        self.assertEqual(machine.row(3), Row(Status.NEW, 1, 2, 0, (0, 0, 0), 0))
+        self.assertEqual(machine.row(0), Row(Status.EXECUTING, 0, 1, 3, (2, 3, 0), 0, 0))
+        self.assertEqual(machine.row(3), Row(Status.NEW, 1, 2, 0, (0, 0, 0), 0, 0))
         self.assertEqual(machine.edges(), [(0, 1), (3, 2)])
         self.assertEqual((machine.made, machine.held, machine.steps), (4, 2, 4))
         for vertex in (4, -1, -2, LARGEST):
@@ -257,10 +257,33 @@ class Programs(Case):
     def test_rows_of_futures(self):
         machine = Machine(bytes.fromhex("05 00 06 00 00"))
         machine.run(7)
-        self.assertEqual(machine.row(0), Row(Status.EXECUTING, 2, 1, 1, (4, 0, 0), 2))
-        self.assertEqual(machine.row(2), Row(Status.RELEASED, 4, 1, 0, (0, 0, 0), 0))
-        self.assertEqual(machine.row(3), Row(Status.RELEASED, 1, 2, 0, (0, 0, 0), 0))
-        self.assertEqual(machine.row(4), Row(Status.NEW, 4, 1, 0, (0, 0, 0), 2))
+        self.assertEqual(machine.row(0), Row(Status.EXECUTING, 2, 1, 1, (4, 0, 0), 2, 0))
+        self.assertEqual(machine.row(2), Row(Status.RELEASED, 4, 1, 0, (0, 0, 0), 0, 1))
+        self.assertEqual(machine.row(3), Row(Status.RELEASED, 1, 2, 0, (0, 0, 0), 0, 0))
+        self.assertEqual(machine.row(4), Row(Status.NEW, 4, 1, 0, (0, 0, 0), 2, 0))
+
+    def test_which_vertices_may_start(self):
+        for program in (LISTED, FORK, bytes.fromhex("05 00 05 00 06 01 00")):
+            machine = Machine(program)
+            while machine.lowest() is not None:
+                for vertex in range(machine.made):
+                    self.assertEqual(machine.row(vertex).in_count, sum(target == vertex for _, target in machine.edges()))
+                    self.assertEqual(machine.may_start(vertex), copy.deepcopy(machine).try_step(vertex) == Start())
+                self.assertFalse(any(map(machine.may_start, (-1, machine.made, LARGEST))))
+                machine.step(machine.lowest())
+        machine = Machine(LISTED)
+        machine.run(8)
+        self.assertEqual([vertex for vertex in range(machine.made) if machine.may_start(vertex)], [3])
+
+    def test_something_wrong_elsewhere(self):
+        for spoil in (lambda machine: machine._vertices.__setitem__(VERTEX_WORDS + STATUS, 5),
+                      lambda machine: machine._edges.__setitem__(SOURCE, 9)):
+            machine = Machine(LISTED)
+            spoil(machine)
+            for call, *values in [(machine.step, 2), (machine.run, 1), (machine.lowest,), (machine.chain, 0, 1)]:
+                self.assert_refused(keshtiwol.UNSOUND_TABLES, call, *values)
+            self.assertEqual(machine.step(0), Start())  # it looks at the tally and its own row only
+            self.assert_refused(keshtiwol.UNSOUND_TABLES, machine.step, 0)
 
     def test_a_copy_is_another_machine(self):
         machine = Machine(LISTED)
@@ -296,11 +319,11 @@ class Commands(Case):
 
     def test_commands(self):
         bare = Bare()
-        self.assertEqual(bare.row(0), Row(Status.RELEASED, 0, 0, 0, (0, 0, 0), 0))
+        self.assertEqual(bare.row(0), Row(Status.RELEASED, 0, 0, 0, (0, 0, 0), 0, 0))
         self.assert_refused(keshtiwol.CALLER_NOT_EXECUTING, bare.new, 0)
         bare.start(0)
         self.assertEqual(bare.new(0, 7, LARGEST), New(1))
-        self.assertEqual(bare.row(1), Row(Status.NEW, 7, LARGEST, 0, (0, 0, 0), 0))
+        self.assertEqual(bare.row(1), Row(Status.NEW, 7, LARGEST, 0, (0, 0, 0), 0, 0))
         self.assertEqual([bare.new(0), bare.new(0)], [New(2), New(3)])
         self.assert_refused(keshtiwol.VERTEX_IS_NEW, bare.start, 1)
         self.assertEqual(bare.release(0, 1), Release(1))
@@ -318,6 +341,21 @@ class Commands(Case):
         self.assert_refused(keshtiwol.VERTEX_IS_FINISHED, bare.start, 3)
         self.assertEqual(bare.start(1), Start())
         self.assertEqual((bare.made, bare.held, bare.steps), (4, 0, 0))
+
+    def test_altered_in_counts(self):
+        bare = self.opened(2)
+        bare.release(0, 1)
+        self.assertTrue(bare.may_start(1))
+        self.assertEqual([bare.edge(0, 0, 1), bare.row(1).in_count, bare.may_start(1)], [Edge(0, 1), 1, False])
+        word = VERTEX_WORDS + IN_COUNT
+        for altered, fewer in [(LARGEST, LARGEST - 1), (5, 4), (0, 0)]:
+            other = copy.deepcopy(bare)
+            other._vertices[word] = altered
+            self.assertEqual([other.stop(0), other.row(1).in_count], [Stop(), fewer])
+            if fewer:
+                self.assert_refused(keshtiwol.EDGE_LEADS_IN, other.start, 1)
+        bare._vertices[word] = 0
+        self.assertEqual(bare.start(1), Start())
 
     def test_full_tables(self):
         bare = self.opened(ROWS)
@@ -469,7 +507,7 @@ class OneList(unittest.TestCase):
             factors = value.strip().replace("KESHTIWOL_", "").split(" * ")
             in_header[name] = math.prod(in_header[factor] if factor in in_header else int(factor) for factor in factors)
         here = [(name, value) for name, value in vars(keshtiwol).items() if name.isupper() and type(value) is int]
-        here.remove(("VERSION_MAJOR", 2))
+        here.remove(("VERSION_MAJOR", 3))
         for prefix, names in [("", Said), ("", Ending), ("VERTEX_", Status), ("DO_", Do)]:
             here += [(prefix + name, int(value)) for name, value in names.__members__.items()]
         self.assertEqual(len(here), len(in_header))
@@ -512,7 +550,7 @@ class OneList(unittest.TestCase):
 class TheLibrary(unittest.TestCase):
     """Where the module looks for the library, and what it says where there is none to use."""
 
-    FILE = "libkeshtiwol.so.2"
+    FILE = "libkeshtiwol.so.3"
 
     def setUp(self):
         # A repository of its own, and folders for other libraries beside it.
@@ -564,7 +602,7 @@ class TheLibrary(unittest.TestCase):
         self.copy_library(self.built)
         path = os.path.join(self.other, self.FILE)
         said = self.load(KESHTIWOL_LIB=self.other)
-        self.assertTrue(said.startswith(f"ImportError: no engine of version 2; looked for {path}: "), said)
+        self.assertTrue(said.startswith(f"ImportError: no engine of version 3; looked for {path}: "), said)
         self.assertIn("No such file", said)
 
     def test_none_anywhere(self):
@@ -573,22 +611,22 @@ class TheLibrary(unittest.TestCase):
             file.write("no library" * 100)
         built = os.path.join(self.built, self.FILE)
         said = self.load(LD_LIBRARY_PATH=self.other)
-        self.assertTrue(said.startswith(f"ImportError: no engine of version 2; looked for {built}, then for {self.FILE}: "), said)
+        self.assertTrue(said.startswith(f"ImportError: no engine of version 3; looked for {built}, then for {self.FILE}: "), said)
 
     def test_another_major_version(self):
-        for number, version in [(30405, "3.4.5"), (10203, "1.2.3"), (9999, "0.99.99")]:
+        for number, version in [(40506, "4.5.6"), (20304, "2.3.4"), (9999, "0.99.99")]:
             self.compile_library(self.other, f"unsigned keshtiwol_version(void) {{ return {number}; }}")
             path = os.path.join(self.other, self.FILE)
             said = self.load(KESHTIWOL_LIB=self.other)
-            self.assertEqual(said, f"ImportError: {path} is version {version} of the engine, and this module was written for version 2")
+            self.assertEqual(said, f"ImportError: {path} is version {version} of the engine, and this module was written for version 3")
 
     def test_a_library_without_a_call(self):
         path = os.path.join(self.other, self.FILE)
-        version = "unsigned keshtiwol_version(void) { return 20000; }"
+        version = "unsigned keshtiwol_version(void) { return 30000; }"
         for code, missing in [("int other;", "keshtiwol_version"), (version, "keshtiwol_load")]:
             self.compile_library(self.other, code)
             said = self.load(KESHTIWOL_LIB=self.other)
-            self.assertTrue(said.startswith(f"ImportError: no engine of version 2; looked for {path}: "), said)
+            self.assertTrue(said.startswith(f"ImportError: no engine of version 3; looked for {path}: "), said)
             self.assertTrue(said.endswith(f"undefined symbol: {missing}"), said)
 
 

@@ -64,7 +64,7 @@ fn lowest_first(side: &mut impl Side, program: &[u8]) -> Vec<u32> {
     side.load(program);
     let mut order = Vec::new();
     while let Some(vertex) = side.lowest(program) {
-        side.step(program, vertex);
+        side.step(program, vertex).unwrap();
         order.push(vertex);
     }
     order
@@ -73,7 +73,7 @@ fn lowest_first(side: &mut impl Side, program: &[u8]) -> Vec<u32> {
 fn load_and_step(side: &mut impl Side, program: &[u8], order: &[u32]) {
     side.load(program);
     for &vertex in order {
-        side.step(program, vertex);
+        side.step(program, vertex).unwrap();
     }
 }
 

@@ -2,7 +2,10 @@
 
 use std::hint::black_box;
 
-use keshtiwol::{EDGE_TABLE, ROWS, STEP_LIMIT, VERTEX_TABLE};
+use keshtiwol::{
+    EDGE_TABLE, EDGE_WORDS, IN_COUNT, ROWS, SOURCE, STATUS, STEP_LIMIT, TARGET, VERTEX_EXECUTING, VERTEX_RELEASED, VERTEX_TABLE,
+    VERTEX_WORDS,
+};
 
 /// A bare machine's command, as far as the benchmark needs them.
 #[derive(Clone, Copy)]
@@ -10,13 +13,15 @@ pub enum Do {
     Start(u32),
     New,
     Edge(u32, u32),
+    Release(u32),
     Stop(u32),
 }
 
 pub trait Side {
     fn new() -> Self;
     fn load(&mut self, program: &[u8]);
-    fn step(&mut self, program: &[u8], vertex: u32);
+    /// A step, or its refusal's number.
+    fn step(&mut self, program: &[u8], vertex: u32) -> Result<(), u32>;
     /// Runs to the end and tells the steps taken.
     fn run(&mut self, program: &[u8]) -> u32;
     /// The lowest vertex that can step.
@@ -27,8 +32,10 @@ pub trait Side {
     /// The chain from target back to source, as it stands in the list.
     fn chain(&mut self, source: u32, target: u32) -> &[u32];
     fn edges(&self) -> &[u32];
-    /// Undoes a stop of vertex 0: its status, the edges and their number.
+    /// Undoes a stop of vertex 0: its status, the edges and their number, and the in-counts of those that it dropped.
     fn unstop(&mut self, edges: &[u32], held: u32);
+    /// Undoes a start: the vertex's status and the steps.
+    fn unstart(&mut self, vertex: u32);
 }
 
 /// Both crates have the same shapes, so one text serves for both.
@@ -50,10 +57,11 @@ macro_rules! side {
                 black_box($made_by::load(black_box(program), &mut self.vertices, &mut self.edges, &mut self.tally));
             }
 
-            fn step(&mut self, program: &[u8], vertex: u32) {
+            fn step(&mut self, program: &[u8], vertex: u32) -> Result<(), u32> {
                 let answer = $made_by::step(program, &mut self.vertices, &mut self.edges, &mut self.tally, black_box(vertex));
-                if let $made_by::Answer::Refused { number, .. } = black_box(answer) {
-                    panic!("a step of {vertex} was refused: {number}");
+                match black_box(answer) {
+                    $made_by::Answer::Refused { number, .. } => Err(number),
+                    _ => Ok(()),
                 }
             }
 
@@ -79,6 +87,7 @@ macro_rules! side {
                     Do::Start(vertex) => $made_by::Command::Start { vertex },
                     Do::New => $made_by::Command::NewTd { caller: 0, place: 0, scope: 0 },
                     Do::Edge(source, target) => $made_by::Command::NewEdge { caller: 0, source, target },
+                    Do::Release(vertex) => $made_by::Command::Release { caller: 0, vertex },
                     Do::Stop(caller) => $made_by::Command::Stop { caller },
                 };
                 match black_box($made_by::command(&mut self.vertices, &mut self.edges, &mut self.tally, command)) {
@@ -100,9 +109,17 @@ macro_rules! side {
             }
 
             fn unstop(&mut self, edges: &[u32], held: u32) {
-                self.vertices[0] = keshtiwol::VERTEX_EXECUTING;
+                self.vertices[STATUS] = VERTEX_EXECUTING;
                 self.edges.copy_from_slice(black_box(edges));
                 self.tally.held = held;
+                for row in edges.chunks(EDGE_WORDS).take(held as usize).filter(|row| row[SOURCE] == 0) {
+                    self.vertices[VERTEX_WORDS * row[TARGET] as usize + IN_COUNT] += 1;
+                }
+            }
+
+            fn unstart(&mut self, vertex: u32) {
+                self.vertices[VERTEX_WORDS * vertex as usize + STATUS] = VERTEX_RELEASED;
+                self.tally.steps = 0;
             }
         }
     };

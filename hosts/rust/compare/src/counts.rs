@@ -39,6 +39,12 @@ pub struct Counts {
     gaps: Gaps,
     /// What the words led to that forces followed.
     forces: Forces,
+    /// Released vertices that were to start, by commands and by steps.
+    starts: [Starts; 2],
+    /// What became of in-counts.
+    in_counts: InCounts,
+    /// By call, 12 for a status or an edge alone.
+    unsound: [u64; CALLS.len()],
 }
 
 /// How often an edge that was held already was taken.
@@ -119,28 +125,80 @@ impl Forces {
     }
 }
 
+/// How often a released vertex was to start, where the tally refuses nothing, and whether its in-count was true.
+#[derive(Clone, Copy, Debug, Default)]
+pub struct Starts {
+    /// No edge leads in, and it started.
+    pub started: u64,
+    /// An edge leads in, and it was refused with 21.
+    pub waited: u64,
+    /// An edge leads in, and it started: its in-count was 0.
+    pub against_edges: u64,
+    /// No edge leads in, and it was refused with 21: its in-count was not 0.
+    pub without_edges: u64,
+    /// Of all these, where another vertex has a status that is none.
+    pub bad_status: u64,
+    /// Where an edge's end is no vertex made.
+    pub bad_edge: u64,
+}
+
+impl Starts {
+    fn add(&mut self, more: Starts) {
+        self.started += more.started;
+        self.waited += more.waited;
+        self.against_edges += more.against_edges;
+        self.without_edges += more.without_edges;
+        self.bad_status += more.bad_status;
+        self.bad_edge += more.bad_edge;
+    }
+}
+
+/// How often a step or a command changed how many edges lead into a vertex, and what its in-count was.
+#[derive(Clone, Copy, Debug, Default)]
+pub struct InCounts {
+    /// All in-counts were true, and are.
+    pub true_words: u64,
+    /// One edge more leads in, and the word was the largest number, and is.
+    pub largest: u64,
+    /// An edge went, and the word was 0, and is.
+    pub none: u64,
+    /// Several edges went.
+    pub several: u64,
+}
+
+impl InCounts {
+    fn add(&mut self, more: InCounts) {
+        self.true_words += more.true_words;
+        self.largest += more.largest;
+        self.none += more.none;
+        self.several += more.several;
+    }
+}
+
+/// Where in `CALLS` a call stands.
+fn index(call: Call) -> usize {
+    match call {
+        Call::Open => 0,
+        Call::Load => 1,
+        Call::Step(_) => 2,
+        Call::Run(_) => 3,
+        Call::Lowest => 4,
+        Call::Command(Command::NewTd { .. }) => 5,
+        Call::Command(Command::NewEdge { .. }) => 6,
+        Call::Command(Command::Release { .. }) => 7,
+        Call::Command(Command::Transfer { .. }) => 8,
+        Call::Command(Command::Start { .. }) => 9,
+        Call::Command(Command::Stop { .. }) => 10,
+        Call::Chain { .. } => 11,
+    }
+}
+
 impl Counts {
     pub fn add(&mut self, call: Call, said: Said) {
-        let call = match call {
-            Call::Open => 0,
-            Call::Load => 1,
-            Call::Step(_) => 2,
-            Call::Run(_) => 3,
-            Call::Lowest => 4,
-            Call::Command(Command::NewTd { .. }) => 5,
-            Call::Command(Command::NewEdge { .. }) => 6,
-            Call::Command(Command::Release { .. }) => 7,
-            Call::Command(Command::Transfer { .. }) => 8,
-            Call::Command(Command::Start { .. }) => 9,
-            Call::Command(Command::Stop { .. }) => 10,
-            Call::Chain { words, .. } => {
-                if let Said::Chain(Chain::Written(vertices)) = said {
-                    self.longest_chain = vertices.max(self.longest_chain);
-                    self.lists_filled += u64::from(vertices == words);
-                }
-                11
-            }
-        };
+        if let (Call::Chain { words, .. }, Said::Chain(Chain::Written(vertices))) = (call, said) {
+            self.longest_chain = vertices.max(self.longest_chain);
+            self.lists_filled += u64::from(vertices == words);
+        }
         let (word, refusal) = match said {
             Said::Answer(answer) => match answer {
                 Answer::Refused { number, .. } => (0, number),
@@ -176,7 +234,7 @@ impl Counts {
                 Chain::Refused { number, .. } => (0, number),
             },
         };
-        *self.seen.entry((call, word, refusal)).or_default() += 1;
+        *self.seen.entry((index(call), word, refusal)).or_default() += 1;
     }
 
     /// Notes a program that loaded.
@@ -215,6 +273,21 @@ impl Counts {
         self.forces.add(forces);
     }
 
+    /// Notes a released vertex that was to start, by a command or by a step.
+    pub fn started(&mut self, by_step: bool, starts: Starts) {
+        self.starts[usize::from(by_step)].add(starts);
+    }
+
+    /// Notes a step or a command by the edges that it added or took away.
+    pub fn in_counts(&mut self, in_counts: InCounts) {
+        self.in_counts.add(in_counts);
+    }
+
+    /// Notes a call that was refused with 12 though the tally refuses nothing.
+    pub fn unsound(&mut self, call: Call) {
+        self.unsound[index(call)] += 1;
+    }
+
     fn enlarge(&mut self, by: [usize; 3]) {
         for (largest, number) in self.largest.iter_mut().zip(by) {
             *largest = number.max(*largest);
@@ -241,6 +314,13 @@ impl Counts {
         }
         self.gaps.add(other.gaps);
         self.forces.add(other.forces);
+        for (starts, more) in self.starts.iter_mut().zip(other.starts) {
+            starts.add(more);
+        }
+        self.in_counts.add(other.in_counts);
+        for (unsound, more) in self.unsound.iter_mut().zip(other.unsound) {
+            *unsound += more;
+        }
     }
 
     pub fn calls(&self) -> u64 {
@@ -291,6 +371,21 @@ impl Counts {
     pub fn forces(&self) -> Forces {
         self.forces
     }
+
+    /// What came of released vertices that were to start, by commands and by steps.
+    pub fn starts(&self) -> [Starts; 2] {
+        self.starts
+    }
+
+    /// What became of in-counts that steps and commands changed.
+    pub fn edges_in(&self) -> InCounts {
+        self.in_counts
+    }
+
+    /// The calls that can be refused with 12 though the tally refuses nothing, and how often they were.
+    pub fn unsound_beside_the_tally(&self) -> impl Iterator<Item = (&'static str, u64)> {
+        CALLS.into_iter().zip(self.unsound).skip(2)
+    }
 }
 
 impl fmt::Display for Counts {
@@ -327,6 +422,29 @@ impl fmt::Display for Counts {
         write!(f, "forces said their edge {taken} times, {finished} of these from a finished future, over {farthest} words at most; ")?;
         write!(f, "their newEdge was refused {refused} times, their words led to 0 {none} times, to no vertex made {not_made} times, ")?;
         writeln!(f, "{later} of these behind the first word")?;
+        for (by, starts) in ["start", "a step"].iter().zip(self.starts) {
+            let Starts { started, waited, against_edges, without_edges, bad_status, bad_edge } = starts;
+            write!(
+                f,
+                "{by} of a released vertex was taken {started} times, refused with 21 {waited} times; on altered in-counts it was taken "
+            )?;
+            write!(
+                f,
+                "{against_edges} times with edges in and refused {without_edges} times with none; beside a bad status {bad_status} "
+            )?;
+            writeln!(f, "times, beside a bad edge {bad_edge} times")?;
+        }
+        let InCounts { true_words, largest, none, several } = self.in_counts;
+        write!(
+            f,
+            "in-counts followed the edges {true_words} times from true ones, stayed the largest number {largest} times and 0 {none} "
+        )?;
+        writeln!(f, "times; several edges into one vertex went {several} times")?;
+        write!(f, "12 for a status or an edge:")?;
+        for (call, times) in self.unsound_beside_the_tally() {
+            write!(f, " {call} {times}")?;
+        }
+        writeln!(f)?;
         write!(f, "refusals")?;
         for number in REFUSALS {
             write!(f, " {number}: {}", self.refusals(number))?;

@@ -4,10 +4,11 @@ use std::fmt::Write;
 use std::ops::Range;
 
 use keshtiwol::{
-    refusal, Answer, Chain, Command, Ending, Lowest, Run, Tally, EDGE_WORDS, FUTURE, ROWS, SOURCE, STATUS, VERTEX_FINISHED, VERTEX_WORDS,
+    refusal, Answer, Chain, Command, Ending, Lowest, Run, Tally, EDGE_WORDS, FUTURE, IN_COUNT, ROWS, SOURCE, STATUS, STEP_LIMIT, TARGET,
+    VERTEX_FINISHED, VERTEX_NEW, VERTEX_RELEASED, VERTEX_WORDS,
 };
 
-use crate::counts::{Counts, Forces, Repeats};
+use crate::counts::{Counts, Forces, InCounts, Repeats, Starts};
 
 #[derive(Clone, Copy, Debug, PartialEq)]
 pub enum Call {
@@ -43,6 +44,73 @@ pub struct State {
     pub vertices: Vec<u32>,
     pub edges: Vec<u32>,
     pub tally: Tally,
+}
+
+impl State {
+    /// The rows of the vertices made, as far as the table goes.
+    pub fn made(&self) -> impl ExactSizeIterator<Item = &[u32]> {
+        self.vertices.chunks_exact(VERTEX_WORDS).take(ROWS).take(self.tally.made as usize)
+    }
+
+    /// The rows of the edges held, likewise.
+    pub fn held(&self) -> impl ExactSizeIterator<Item = &[u32]> {
+        self.edges.chunks_exact(EDGE_WORDS).take(ROWS).take(self.tally.held as usize)
+    }
+
+    /// How many held edges lead into each vertex made.
+    pub fn edges_into(&self) -> Vec<u32> {
+        let mut into = vec![0; self.made().len()];
+        for edge in self.held() {
+            if let Some(number) = into.get_mut(edge[TARGET] as usize) {
+                *number += 1;
+            }
+        }
+        into
+    }
+
+    /// For each vertex made its in-count, and what that should be.
+    fn in_counts(&self) -> Vec<(u32, u32)> {
+        self.made().map(|row| row[IN_COUNT]).zip(self.edges_into()).collect()
+    }
+
+    fn tally_fits(&self) -> bool {
+        (self.made().len(), self.held().len()) == (self.tally.made as usize, self.tally.held as usize)
+    }
+
+    fn has_bad_status(&self) -> bool {
+        self.made().any(|row| !is_status(row[STATUS]))
+    }
+
+    fn has_bad_edge(&self) -> bool {
+        self.held().any(|row| row[SOURCE] >= self.tally.made || row[TARGET] >= self.tally.made)
+    }
+
+    /// Whether a call is refused with 12: for the tally, for its steps, or for what else it looks at.
+    fn is_unsound_for(&self, call: Call) -> bool {
+        let late = self.tally.steps >= STEP_LIMIT;
+        let row = |vertex: u32| self.made().nth(vertex as usize);
+        match call {
+            Call::Open | Call::Load => false,
+            _ if !self.tally_fits() => true,
+            Call::Step(_) | Call::Run(_) | Call::Lowest if late => true,
+            // These two look at one row.
+            Call::Command(Command::Start { vertex }) => row(vertex).is_some_and(|row| !is_status(row[STATUS])),
+            Call::Step(vertex) if row(vertex).is_some_and(|row| row[STATUS] == VERTEX_RELEASED) => false,
+            _ => self.has_bad_status() || self.has_bad_edge(),
+        }
+    }
+}
+
+fn is_status(word: u32) -> bool {
+    (VERTEX_NEW..=VERTEX_FINISHED).contains(&word)
+}
+
+/// A released vertex that is about to start, on tables whose tally refuses nothing.
+struct Starting {
+    in_count: u32,
+    edges_in: u32,
+    bad_status: bool,
+    bad_edge: bool,
 }
 
 /// Words around the engine's tables and list that no call may touch.
@@ -113,6 +181,9 @@ impl Pair {
     /// Makes a call on both sides.
     pub fn call(&mut self, call: Call) -> Result<Said, Difference> {
         let before = self.state.tally;
+        let in_counts = self.state.in_counts();
+        let unsound = self.state.is_unsound_for(call);
+        let tally_fits = self.state.tally_fits();
         self.lend_lists(call);
         let paper = on_paper(call, &self.program, &mut self.state, &mut self.paper_list);
         let (v, e, l) = (inside(&self.vertices), inside(&self.edges), inside(&self.list));
@@ -138,7 +209,76 @@ impl Pair {
             return Err(self.difference(call, engine, paper, before));
         }
         self.history.push((call, engine));
+        if unsound != (refusal_of(engine) == Some(refusal::UNSOUND_TABLES)) {
+            return Err(self.disagreement("12 is not given where it is due, or is given elsewhere"));
+        }
+        if unsound && tally_fits && before.steps < STEP_LIMIT {
+            self.counts.unsound(call);
+        }
+        self.check_in_counts(call, engine, &in_counts)?;
         Ok(engine)
+    }
+
+    /// In-counts follow the edges held: where a step or a command changes how many lead into a vertex, its word changes by as much, as far as
+    /// 0 and the largest number. An opening and a loading leave true words, and a run does where they were true.
+    fn check_in_counts(&mut self, call: Call, said: Said, before: &[(u32, u32)]) -> Result<(), Difference> {
+        let after = self.state.in_counts();
+        let are_true = |in_counts: &[(u32, u32)]| in_counts.iter().all(|(word, edges_in)| word == edges_in);
+        let follow = match call {
+            Call::Step(_) | Call::Command(_) => {
+                let old = before.iter().copied().chain(std::iter::repeat((0, 0)));
+                after.iter().zip(old).all(|(&(word, edges_in), (old_word, old_edges_in))| {
+                    let more = old_word.saturating_add(edges_in.saturating_sub(old_edges_in));
+                    word == more.saturating_sub(old_edges_in.saturating_sub(edges_in))
+                })
+            }
+            _ => said != Said::Answer(Answer::Ready) && !are_true(before) || are_true(&after),
+        };
+        if !follow {
+            return Err(self.disagreement("an in-count does not follow the edges held"));
+        }
+        if matches!(call, Call::Step(_) | Call::Command(_)) {
+            let changed = || before.iter().zip(&after).filter(|(old, new)| old.1 != new.1);
+            self.counts.in_counts(InCounts {
+                true_words: (changed().next().is_some() && are_true(before)).into(),
+                largest: changed().any(|(old, new)| old.0 == u32::MAX && new.1 > old.1).into(),
+                none: changed().any(|(old, new)| old.0 == 0 && new.1 < old.1).into(),
+                several: changed().any(|(old, new)| new.1 + 1 < old.1).into(),
+            });
+        }
+        Ok(())
+    }
+
+    /// A vertex that is about to start by a step or a command, if it is released and the tally refuses nothing.
+    fn starting(&self, vertex: u32, by_step: bool) -> Option<Starting> {
+        let state = &self.state;
+        let row = state.made().nth(vertex as usize)?;
+        let late = by_step && state.tally.steps >= STEP_LIMIT;
+        (row[STATUS] == VERTEX_RELEASED && state.tally_fits() && !late).then(|| Starting {
+            in_count: row[IN_COUNT],
+            edges_in: state.edges_into()[vertex as usize],
+            bad_status: state.has_bad_status(),
+            bad_edge: state.has_bad_edge(),
+        })
+    }
+
+    /// It starts exactly where its in-count is 0, whatever the edges are and whatever else is wrong with the tables.
+    fn check_start(&mut self, starting: Starting, said: Said, by_step: bool) -> Result<(), Difference> {
+        let Starting { in_count, edges_in, bad_status, bad_edge } = starting;
+        let started = in_count == 0;
+        let refused = Answer::Refused { number: refusal::EDGE_LEADS_IN, place: 0 };
+        if said != Said::Answer(if started { Answer::Start } else { refused }) {
+            return Err(self.disagreement("the start of a released vertex does not follow its in-count"));
+        }
+        let mut starts = Starts { bad_status: bad_status.into(), bad_edge: bad_edge.into(), ..Starts::default() };
+        *match (started, edges_in) {
+            (true, 0) => &mut starts.started,
+            (true, _) => &mut starts.against_edges,
+            (false, 0) => &mut starts.without_edges,
+            (false, _) => &mut starts.waited,
+        } = 1;
+        self.counts.started(by_step, starts);
+        Ok(())
     }
 
     /// A command on both sides. Before one with a cycle test the chain is asked for that this test is about: where the command gets as
@@ -148,6 +288,14 @@ impl Pair {
         let (source, target) = match command {
             Command::NewEdge { source, target, .. } => (source, target),
             Command::Transfer { caller, vertex } => (vertex, caller),
+            Command::Start { vertex } => {
+                let starting = self.starting(vertex, false);
+                let said = self.call(Call::Command(command))?;
+                if let Some(starting) = starting {
+                    self.check_start(starting, said, false)?;
+                }
+                return Ok(said);
+            }
             _ => return self.call(Call::Command(command)),
         };
         let chain = self.call(Call::Chain { source, target, words: ROWS as u32 })?;
@@ -181,7 +329,11 @@ impl Pair {
     /// A step on both sides. After one that took an edge held already the chain is asked for that leads back from its target.
     pub fn step(&mut self, vertex: u32) -> Result<Said, Difference> {
         let held = self.state.tally.held;
+        let starting = self.starting(vertex, true);
         let said = self.call(Call::Step(vertex))?;
+        if let Some(starting) = starting {
+            self.check_start(starting, said, true)?;
+        }
         if let Said::Answer(Answer::Edge(source, target)) = said {
             if self.is_repeated(source, target, held)? {
                 let chain = self.call(Call::Chain { source, target, words: ROWS as u32 })?;
@@ -193,8 +345,7 @@ impl Pair {
 
     /// A call on both sides that may be a stop of this vertex. The gaps that it left in the edge table are noted.
     pub fn stop(&mut self, call: Call, vertex: u32) -> Result<Said, Difference> {
-        let rows = self.state.edges.chunks_exact(EDGE_WORDS).take(self.state.tally.held as usize);
-        let own: Vec<bool> = rows.map(|row| row[SOURCE] == vertex).collect();
+        let own: Vec<bool> = self.state.held().map(|row| row[SOURCE] == vertex).collect();
         let said = self.call(call)?;
         if said == Said::Answer(Answer::Stop) {
             self.counts.stopped(&own);
@@ -336,6 +487,17 @@ fn differing(text: &mut String, table: &str, engine: &[u32], paper: &[u32], row_
     let words = engine[MARGIN..].iter().zip(paper).enumerate();
     for (at, (engine, paper)) in words.filter(|(_, (engine, paper))| engine != paper).take(20) {
         let _ = writeln!(text, "{table} row {}, word {}: engine {engine}, paper {paper}", at / row_words, at % row_words);
+    }
+}
+
+/// The number of a refusal.
+fn refusal_of(said: Said) -> Option<u32> {
+    match said {
+        Said::Answer(Answer::Refused { number, .. })
+        | Said::Run(Run { ending: Ending::Refused { number, .. }, .. })
+        | Said::Lowest(Lowest::Refused { number, .. })
+        | Said::Chain(Chain::Refused { number, .. }) => Some(number),
+        _ => None,
     }
 }
 

@@ -161,6 +161,11 @@ pub fn with_futures(draw: &mut Draw, size: Size) -> Vec<u8> {
     grow(draw, &Shape { weights, vertices: shape.vertices.max(5), full: true, ..shape })
 }
 
+/// So many futures with nothing in them, and a force with this number.
+pub fn far_force(futures: u32, number: u32) -> Vec<u8> {
+    [[FUTURE, 0].repeat(futures as usize), vec![FORCE], number_bytes(number), vec![0]].concat()
+}
+
 fn shape_of(draw: &mut Draw, size: Size) -> Shape {
     match size {
         Size::Small => shape(draw, 3, 48, 16),

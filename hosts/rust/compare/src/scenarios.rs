@@ -1,8 +1,8 @@
 //! The scenarios. All that one does follows from its seed.
 
 use keshtiwol::{
-    Answer, Chain, Command, Ending, Tally, EDGE_TABLE, EDGE_WORDS, FUTURE, MADE, PHASE, PLACE, ROWS, SCOPE, SOURCE, STATUS, STEP_LIMIT,
-    TARGET, VERTEX_EXECUTING, VERTEX_NEW, VERTEX_RELEASED, VERTEX_TABLE, VERTEX_WORDS,
+    Answer, Chain, Command, Ending, Tally, EDGE_TABLE, EDGE_WORDS, FUTURE, IN_COUNT, MADE, PHASE, PLACE, ROWS, SCOPE, SOURCE, STATUS,
+    STEP_LIMIT, TARGET, VERTEX_EXECUTING, VERTEX_NEW, VERTEX_RELEASED, VERTEX_TABLE, VERTEX_WORDS,
 };
 
 use crate::counts::Counts;
@@ -16,7 +16,7 @@ type Kind = fn(&mut Scene) -> Outcome;
 /// Plays the scenario of a seed: what was called and said, or the first difference.
 pub fn play(seed: u64) -> Result<Counts, Difference> {
     let mut draw = Draw::new(seed);
-    let kinds: [(&str, u32, Kind); 10] = [
+    let kinds: [(&str, u32, Kind); 11] = [
         ("a bare machine", 3, Scene::bare),
         ("random tables", 3, Scene::random_tables),
         ("a schedule", 4, Scene::schedule),
@@ -27,6 +27,7 @@ pub fn play(seed: u64) -> Result<Counts, Difference> {
         ("the same edge twice", 4, Scene::repeats),
         ("gaps in the edge table", 3, Scene::gaps),
         ("futures", 4, Scene::futures),
+        ("may it start", 5, Scene::starts),
     ];
     let (name, _, kind) = kinds[draw.weighted(&kinds.map(|kind| kind.1))];
     let size = [Size::Small, Size::Middle, Size::Large][draw.weighted(&[80, 14, 6])];
@@ -221,6 +222,7 @@ impl Scene {
             make_all(&mut state);
         }
         let ends = self.shape_edges(&mut state);
+        self.count_edges(&mut state);
         self.pair.set(state);
         if let Some((source, target)) = ends {
             self.chain_between(source, target)?;
@@ -270,6 +272,7 @@ impl Scene {
         if self.draw.one_in(2) {
             self.fill(&mut state);
         }
+        self.count_edges(&mut state);
         self.pair.set(state);
         for _ in 0..self.draw.between(5, 25) {
             let command = match (self.caller(), self.held_edge()) {
@@ -356,6 +359,7 @@ impl Scene {
         if self.draw.one_in(2) {
             self.fill(&mut state);
         }
+        self.count_edges(&mut state);
         self.pair.set(state);
     }
 
@@ -374,11 +378,26 @@ impl Scene {
     /// follows are altered.
     fn futures(&mut self) -> Outcome {
         self.pair.program = programs::with_futures(&mut self.draw, self.size);
-        if self.draw.one_in(4) {
-            self.forces_on_random_tables()
-        } else {
-            self.forces_of_a_schedule()
+        match self.draw.below(16) {
+            0 => self.far_force(),
+            1..5 => self.forces_on_random_tables(),
+            _ => self.forces_of_a_schedule(),
         }
+    }
+
+    /// A force of a future behind many others.
+    fn far_force(&mut self) -> Outcome {
+        let futures = self.draw.between(100, 400);
+        let number = self.draw.to_the_edges(0, futures - 1);
+        self.pair.program = programs::far_force(futures, number);
+        self.load()?;
+        // Vertex 0 starts, takes five steps for each future, and does the force's newTd.
+        self.call(Call::Run(2 + 5 * futures))?;
+        if self.draw.one_in(2) {
+            self.alter_future(0, number);
+        }
+        self.pair.force(0, number)?;
+        Ok(())
     }
 
     fn forces_of_a_schedule(&mut self) -> Outcome {
@@ -502,6 +521,7 @@ impl Scene {
         let mut sound = self.random_state();
         if sound.tally.made == 0 {
             make_all(&mut sound);
+            self.count_edges(&mut sound);
         }
         let end = self.pair.program.len() as u32 - 1;
         for _ in 0..self.draw.between(4, 12) {
@@ -522,6 +542,142 @@ impl Scene {
             }
         }
         Ok(())
+    }
+
+    /// May it start? In-counts are altered, and something is made wrong elsewhere in the tables; then released vertices are started and
+    /// stepped, and edges come and go.
+    fn starts(&mut self) -> Outcome {
+        let loaded = self.draw.one_in(2);
+        if loaded {
+            self.load()?;
+        } else {
+            let mut state = self.random_state();
+            self.shape_edges(&mut state);
+            self.count_edges(&mut state);
+            self.pair.set(state);
+        }
+        for _ in 0..self.draw.between(4, 16) {
+            if loaded {
+                let most = self.draw.pick(&[5, 30, 200]);
+                let budget = self.draw.below(most);
+                self.call(Call::Run(budget))?;
+            }
+            let sound = self.pair.state().clone();
+            match (self.draw.below(4), loaded) {
+                (0, true) => self.step_to_the_ends()?,
+                (0, false) => self.command_to_the_ends()?,
+                _ => self.start_one()?,
+            }
+            if !self.draw.one_in(4) {
+                self.pair.set(sound);
+            }
+        }
+        Ok(())
+    }
+
+    /// Calls for a released vertex whose in-count is altered, or beside which something is wrong.
+    fn start_one(&mut self) -> Outcome {
+        let vertex = self.released_or_name();
+        if self.draw.one_in(2) {
+            self.alter_in_count(vertex);
+        }
+        if self.draw.one_in(2) {
+            self.spoil_beside(vertex);
+        }
+        for _ in 0..self.draw.between(1, 5) {
+            let call = match self.draw.below(8) {
+                0..3 => Call::Command(Command::Start { vertex }),
+                3..6 => Call::Step(vertex),
+                _ => self.any_call(),
+            };
+            self.call(call)?;
+        }
+        Ok(())
+    }
+
+    /// A newEdge, or a stop, where the in-count of the edge's target is at one of its ends or near.
+    fn command_to_the_ends(&mut self) -> Outcome {
+        let mut state = self.pair.state().clone();
+        let made = state.made().len() as u32;
+        if made < 2 {
+            return Ok(());
+        }
+        let source = self.draw.below(made);
+        let target = (source + 1 + self.draw.below(made - 1)) % made;
+        let command = if self.draw.one_in(2) {
+            for _ in 0..self.draw.between(1, 3) {
+                self.hold(&mut state, source, target);
+            }
+            Command::Stop { caller: source }
+        } else {
+            let one_more = EDGE_WORDS * (state.held().len() + 1);
+            state.edges.resize(state.edges.len().max(one_more), 0);
+            Command::NewEdge { caller: source, source, target }
+        };
+        state.vertices[VERTEX_WORDS * source as usize + STATUS] = VERTEX_EXECUTING;
+        state.vertices[VERTEX_WORDS * target as usize + STATUS] = VERTEX_RELEASED;
+        state.vertices[VERTEX_WORDS * target as usize + IN_COUNT] = self.draw.pick(&IN_COUNT_ENDS);
+        self.pair.set(state);
+        self.call(Call::Command(command))?;
+        self.call(Call::Command(Command::Start { vertex: target }))?;
+        Ok(())
+    }
+
+    /// The step of a loaded program that is a newEdge, likewise.
+    fn step_to_the_ends(&mut self) -> Outcome {
+        if let Some((vertex, [_, target])) = self.step_to_an_edge()? {
+            let at = VERTEX_WORDS * self.pair.state().vertices[target] as usize + IN_COUNT;
+            // An altered row may name no vertex.
+            if at < self.pair.state().vertices.len() {
+                let word = self.draw.pick(&IN_COUNT_ENDS);
+                self.pair.set_vertex_word(at, word);
+            }
+            self.call(Call::Step(vertex))?;
+        }
+        Ok(())
+    }
+
+    /// A released vertex, whatever its in-count, often one that edges lead into; any where there is none.
+    fn released_or_name(&mut self) -> u32 {
+        let released = self.having(|row| row[STATUS] == VERTEX_RELEASED);
+        let into = self.pair.state().edges_into();
+        let waiting: Vec<u32> = released.iter().copied().filter(|&vertex| into[vertex as usize] > 0).collect();
+        match (released.is_empty(), waiting.is_empty()) {
+            (true, _) => self.name(),
+            (_, false) if self.draw.one_in(2) => self.draw.pick(&waiting),
+            _ => self.draw.pick(&released),
+        }
+    }
+
+    /// Gives a vertex another in-count, if it was made.
+    fn alter_in_count(&mut self, vertex: u32) {
+        if let Some(&edges_in) = self.pair.state().edges_into().get(vertex as usize) {
+            let word = in_count_word(&mut self.draw, edges_in);
+            self.pair.set_vertex_word(VERTEX_WORDS * vertex as usize + IN_COUNT, word);
+        }
+    }
+
+    /// Puts what is no status into the row of another vertex, or what is no vertex made into a held edge, where there is one.
+    fn spoil_beside(&mut self, vertex: u32) {
+        let state = self.pair.state();
+        let (made, held) = (state.made().len() as u32, state.held().len());
+        if made > 1 && self.draw.one_in(2) {
+            let other = (vertex % made + 1 + self.draw.below(made - 1)) % made;
+            let word = self.draw.pick(&[0, 5, u32::MAX]);
+            self.pair.set_vertex_word(VERTEX_WORDS * other as usize + STATUS, word);
+        } else if held > 0 {
+            let word = self.draw.pick(&[made, made + 1, u32::MAX]);
+            self.pair.set_edge_word(self.draw.index(EDGE_WORDS * held), word);
+        }
+    }
+
+    /// Gives the vertices made in-counts: true ones, true but for a few, or any.
+    fn count_edges(&mut self, state: &mut State) {
+        let altered_one_in = self.draw.pick(&[u32::MAX, u32::MAX, 6, 1]);
+        let into = state.edges_into();
+        for (row, edges_in) in state.vertices.chunks_exact_mut(VERTEX_WORDS).zip(into) {
+            row[IN_COUNT] = if self.draw.one_in(altered_one_in) { in_count_word(&mut self.draw, edges_in) } else { edges_in };
+        }
     }
 
     /// Makes held edges those of a vertex: none, all, the first, the last, one in so many, every other stretch, or any.
@@ -620,8 +776,7 @@ impl Scene {
 
     /// An edge that is held, often that of the first row or the last.
     fn held_edge(&mut self) -> Option<(u32, u32)> {
-        let State { edges, tally, .. } = self.pair.state();
-        let mut rows = edges.chunks_exact(EDGE_WORDS).take(tally.held as usize);
+        let mut rows = self.pair.state().held();
         let at = match self.draw.below(4) {
             0 => 0,
             1 => rows.len().saturating_sub(1),
@@ -699,7 +854,9 @@ impl Scene {
             (row[SOURCE], row[TARGET]) = if acyclic { (a.min(b), a.max(b)) } else { (a, b) };
         }
         let steps = if draw.one_in(8) { draw.between(8189, 8193) } else { draw.below(8192) };
-        State { vertices, edges, tally: Tally { made, held, steps } }
+        let mut state = State { vertices, edges, tally: Tally { made, held, steps } };
+        self.count_edges(&mut state);
+        state
     }
 
     /// Gives sound tables other edges, where there are vertices: one line through all of them, whose source and target are answered;
@@ -776,7 +933,7 @@ impl Scene {
             2 => draw.pick(&[0, 1, 1024, 1025, 8190, 8191, 8192, u32::MAX]),
             _ => draw.wild(),
         };
-        match draw.below(14) {
+        match draw.below(16) {
             0 => self.pair.set_tally(Tally { made: near(draw, tally.made), ..tally }),
             1 => self.pair.set_tally(Tally { held: near(draw, tally.held), ..tally }),
             2 => self.pair.set_tally(Tally { steps: near(draw, tally.steps), ..tally }),
@@ -789,6 +946,7 @@ impl Scene {
                 let word = future_word(draw, vertex as u32, tally.made);
                 self.pair.set_vertex_word(VERTEX_WORDS * vertex + FUTURE, word);
             }
+            7 | 8 => self.alter_in_count((vertex_at / VERTEX_WORDS) as u32),
             _ if vertex_words > 0 => {
                 let word = match vertex_at % VERTEX_WORDS {
                     _ if draw.one_in(8) => draw.wild(),
@@ -843,7 +1001,7 @@ impl Scene {
 
     /// An executing vertex if there is one, now and then another.
     fn caller(&mut self) -> Option<u32> {
-        let executing = self.having(|status| status == VERTEX_EXECUTING);
+        let executing = self.having(|row| row[STATUS] == VERTEX_EXECUTING);
         if executing.is_empty() {
             return None;
         }
@@ -869,23 +1027,14 @@ impl Scene {
         }
     }
 
-    /// The vertices that execute, or are released with no edge into them.
+    /// The vertices that execute, or are released with the in-count 0.
     fn able(&self) -> Vec<u32> {
-        let State { edges, tally, .. } = self.pair.state();
-        let mut waiting = vec![false; ROWS];
-        for row in edges.chunks_exact(EDGE_WORDS).take(tally.held as usize) {
-            if let Some(waits) = waiting.get_mut(row[TARGET] as usize) {
-                *waits = true;
-            }
-        }
-        let mut able = self.having(|status| status == VERTEX_EXECUTING || status == VERTEX_RELEASED);
-        able.retain(|&vertex| self.status(vertex) == VERTEX_EXECUTING || !waiting[vertex as usize]);
-        able
+        self.having(|row| row[STATUS] == VERTEX_EXECUTING || row[STATUS] == VERTEX_RELEASED && row[IN_COUNT] == 0)
     }
 
-    fn having(&self, status: impl Fn(u32) -> bool) -> Vec<u32> {
-        let made = (self.pair.state().tally.made as usize).min(ROWS).min(self.pair.state().vertices.len() / VERTEX_WORDS);
-        (0..made as u32).filter(|&vertex| status(self.status(vertex))).collect()
+    /// The vertices made with such rows.
+    fn having(&self, is: impl Fn(&[u32]) -> bool) -> Vec<u32> {
+        (0..).zip(self.pair.state().made()).filter(|(_, row)| is(row)).map(|(vertex, _)| vertex).collect()
     }
 
     fn status(&self, vertex: u32) -> u32 {
@@ -901,6 +1050,20 @@ fn future_word(draw: &mut Draw, vertex: u32, made: u32) -> u32 {
         2 => made,
         3 => draw.wild(),
         _ => draw.below(made),
+    }
+}
+
+/// In-counts that one or two edges more or fewer bring to an end.
+const IN_COUNT_ENDS: [u32; 6] = [0, 1, 2, u32::MAX - 1, u32::MAX, u32::MAX];
+
+/// An in-count for a vertex that so many edges lead into: that number, one more or fewer, 0, 1, 5, the largest number, or any.
+fn in_count_word(draw: &mut Draw, edges_in: u32) -> u32 {
+    match draw.below(8) {
+        0 => edges_in,
+        1 => edges_in + 1,
+        2 => edges_in.saturating_sub(1),
+        3 => draw.wild(),
+        _ => draw.pick(&[0, 0, 1, 5, u32::MAX]),
     }
 }
 

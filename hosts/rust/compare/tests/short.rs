@@ -1,6 +1,6 @@
 //! A short comparison that yet sees every word, every refusal and programs at the limits.
 
-use compare::counts::{Forces, Gaps, Repeats, REFUSALS, WORDS};
+use compare::counts::{Forces, Gaps, InCounts, Repeats, Starts, REFUSALS, WORDS};
 
 #[test]
 fn no_difference() {
@@ -36,6 +36,17 @@ fn no_difference() {
     assert!([taken, finished, refused, none, not_made, later].iter().all(|&times| times > 100), "what forces followed: {forces:?}");
     assert!(farthest > 100, "what forces followed: {forces:?}");
     assert!(counts.refusals(43) > 300);
+    for (by, starts) in ["commands", "steps"].iter().zip(counts.starts()) {
+        let Starts { started, waited, against_edges, without_edges, bad_status, bad_edge } = starts;
+        let all = [started, waited, against_edges, without_edges, bad_status, bad_edge];
+        assert!(all.iter().all(|&times| times > 150), "released vertices that were to start, by {by}: {starts:?}");
+    }
+    let edges_in = counts.edges_in();
+    let InCounts { true_words, largest, none, several } = edges_in;
+    assert!([true_words, largest, none, several].iter().all(|&times| times > 80), "what became of in-counts: {edges_in:?}");
+    for (call, times) in counts.unsound_beside_the_tally() {
+        assert!(times > 50, "12 for a status or an edge: {call}, {times} times");
+    }
 }
 
 /// The generator's valid programs do load, its damaged ones mostly don't, and the mixed one is what the benchmark says of it.

@@ -37,7 +37,7 @@ pub use refusal::Refusal;
 use std::fmt;
 
 /// Words in a vertex row.
-pub const VERTEX_WORDS: usize = 8;
+pub const VERTEX_WORDS: usize = 9;
 /// Where in a vertex row its status stands: 1 new, 2 released, 3 executing, 4 finished.
 pub const STATUS: usize = 0;
 /// Where its place stands, a byte offset in the program.
@@ -51,6 +51,10 @@ pub const MADE: usize = 4;
 /// Where the latest open future stands, 0 where none: the vertex that finishes when that future has ended, and whose own word names the next
 /// future out.
 pub const FUTURE: usize = 7;
+/// Where the in-count stands, the number of edges held into the vertex. While only the engine writes the tables, a released vertex with 0
+/// there can start, and no other can. It must not be altered: a start, and the step of a released vertex, believe it, and for 12 they look
+/// at the tally and at that vertex's row only.
+pub const IN_COUNT: usize = 8;
 
 /// Words in an edge row.
 pub const EDGE_WORDS: usize = 2;

@@ -1,4 +1,6 @@
-use crate::{Answer, Chain, Lowest, Refusal, Run, Tally, EDGE_TABLE, ROWS, VERTEX_TABLE};
+use crate::{
+    Answer, Chain, Lowest, Refusal, Run, Tally, EDGE_TABLE, EDGE_WORDS, IN_COUNT, ROWS, STATUS, VERTEX_RELEASED, VERTEX_TABLE, VERTEX_WORDS,
+};
 
 /// A loaded program with tables of its own, large enough for every program.
 #[derive(Clone, Debug)]
@@ -35,6 +37,13 @@ impl Machine {
         crate::lowest(&self.program, &self.vertices, &self.edges, &self.tally)
     }
 
+    /// Whether a vertex can start: it is released, and no edge leads into it. That stands in two words of its row, so the engine is not
+    /// called.
+    pub fn may_start(&self, vertex: u32) -> bool {
+        let row = self.vertices().chunks(VERTEX_WORDS).nth(vertex as usize);
+        row.is_some_and(|row| row[STATUS] == VERTEX_RELEASED && row[IN_COUNT] == 0)
+    }
+
     /// The shortest chain of held edges that leads from target back to source, target first, and of equally short ones the first in
     /// vertex numbers; or why there is none.
     pub fn chain(&self, source: u32, target: u32) -> Result<Vec<u32>, Refusal> {
@@ -57,13 +66,13 @@ impl Machine {
         &self.program
     }
 
-    /// The rows of the vertices made, [`crate::VERTEX_WORDS`] words each.
+    /// The rows of the vertices made, [`VERTEX_WORDS`] words each.
     pub fn vertices(&self) -> &[u32] {
-        &self.vertices[..crate::VERTEX_WORDS * self.tally.made as usize]
+        &self.vertices[..VERTEX_WORDS * self.tally.made as usize]
     }
 
-    /// The rows of the edges held, [`crate::EDGE_WORDS`] words each.
+    /// The rows of the edges held, [`EDGE_WORDS`] words each.
     pub fn edges(&self) -> &[u32] {
-        &self.edges[..crate::EDGE_WORDS * self.tally.held as usize]
+        &self.edges[..EDGE_WORDS * self.tally.held as usize]
     }
 }

@@ -141,7 +141,7 @@ mod tests {
             in_header.push((name, value[..end].trim_end_matches([',', ' ']).split(" * ").map(factor).product()));
         }
         let here = named![
-            VERTEX_WORDS STATUS PLACE SCOPE PHASE MADE FUTURE
+            VERTEX_WORDS STATUS PLACE SCOPE PHASE MADE FUTURE IN_COUNT
             EDGE_WORDS SOURCE TARGET
             VERTEX_NEW VERTEX_RELEASED VERTEX_EXECUTING VERTEX_FINISHED
             PROGRAM_BYTES ROWS VERTEX_TABLE EDGE_TABLE STEP_LIMIT

@@ -1,6 +1,6 @@
 //! The examples of docs/ENGINE.md, through the safe functions.
 
-use keshtiwol::{Answer, Ending, Lowest, Machine, Refusal, Run, FUTURE, STEP_LIMIT, VERTEX_WORDS};
+use keshtiwol::{Answer, Ending, Lowest, Machine, Refusal, Run, EDGE_WORDS, FUTURE, IN_COUNT, STEP_LIMIT, TARGET, VERTEX_WORDS};
 
 /// Steps the lowest vertex until none can step: each step's vertex and answer.
 fn steps(machine: &mut Machine) -> Vec<(u32, Answer)> {
@@ -115,6 +115,28 @@ fn words_for_futures() {
     assert_eq!(machine.run(1).last, Some(Answer::Edge(2, 6)));
     machine.run(STEP_LIMIT);
     assert_eq!(words(&machine), [4, 0, 0, 0, 2, 2, 4]);
+}
+
+/// At each moment of some programs: a vertex may start exactly where its next step starts it, and its word is the number of edges into it.
+#[test]
+fn which_vertices_may_start() {
+    let programs: [&[u8]; 3] = [&LISTED, &[4, 1, 1, 0, 1, 2, 0, 1, 3, 0], &[5, 0, 5, 0, 6, 1, 0]];
+    for program in programs {
+        let mut machine = Machine::load(program).unwrap();
+        loop {
+            for (vertex, row) in (0..).zip(machine.vertices().chunks(VERTEX_WORDS)) {
+                let edges_in = machine.edges().chunks(EDGE_WORDS).filter(|edge| edge[TARGET] == vertex).count();
+                assert_eq!(row[IN_COUNT] as usize, edges_in);
+                assert_eq!(machine.may_start(vertex), machine.clone().step(vertex) == Answer::Start);
+            }
+            assert!(!machine.may_start(machine.tally().made) && !machine.may_start(u32::MAX));
+            let Lowest::Vertex(vertex) = machine.lowest() else { break };
+            machine.step(vertex);
+        }
+    }
+    let mut machine = Machine::load(&LISTED).unwrap();
+    machine.run(8);
+    assert_eq!([0, 1, 2, 3, 4].map(|vertex| machine.may_start(vertex)), [false, false, false, true, false]);
 }
 
 /// The async's job ahead of the other, which the lowest first would not give.

@@ -273,6 +273,7 @@ fn a_lender_that_lends_too_little() {
         let row = &mut vertices[VERTEX_WORDS * vertex..];
         (row[STATUS], row[PLACE], row[SCOPE]) = (VERTEX_RELEASED, place, 1);
     }
+    vertices[VERTEX_WORDS + IN_COUNT] = 1;
     assert_eq!(lent.vertices, [&vertices[..], &[77; VERTEX_WORDS - 1]].concat());
     assert_eq!(lent.edges, [&[0, 1], &[0; EDGE_WORDS][..], &[77; EDGE_WORDS - 1]].concat());
     assert_eq!(lent.tally, Tally { made: 2, held: 1, steps: 0 });
@@ -292,8 +293,10 @@ fn more_rows_than_are_used() {
 #[test]
 fn unsound_tables() {
     let program = [0];
-    let mut sound = Lent::new(2 * VERTEX_WORDS, EDGE_WORDS);
-    assert_eq!(sound.load(&program), Answer::Ready);
+    let mut loaded = Lent::new(2 * VERTEX_WORDS, EDGE_WORDS);
+    assert_eq!(loaded.load(&program), Answer::Ready);
+    let mut sound = loaded.clone();
+    assert_eq!(sound.step(&program, 0), Answer::Start);
     let spoil: [fn(&mut Lent); 7] = [
         |lent| lent.tally.made = 3,
         |lent| lent.tally.held = u32::MAX,
@@ -308,7 +311,7 @@ fn unsound_tables() {
         spoil(&mut lent);
         let spoilt = lent.clone();
         assert_eq!(lent.step(&program, 0), refused(refusal::UNSOUND_TABLES));
-        assert_eq!(lent.start(0), refused(refusal::UNSOUND_TABLES));
+        assert_eq!(lent.stop(0), refused(refusal::UNSOUND_TABLES));
         let Lent { vertices, edges, tally } = &mut lent;
         assert_eq!(lowest(&program, vertices, edges, tally), Lowest::Refused { number: 12, place: 0 });
         let refused = Run { ending: Ending::Refused { number: 12, place: 0 }, last: None, taken: 0 };
@@ -319,11 +322,85 @@ fn unsound_tables() {
         assert_eq!(lent, spoilt);
     }
     // Steps are counted by steps and runs only.
-    sound.tally.steps = STEP_LIMIT;
-    assert_eq!(sound.step(&program, 0), refused(refusal::UNSOUND_TABLES));
-    assert_eq!(sound.start(0), Answer::Start);
-    sound.tally.steps = STEP_LIMIT - 1;
-    assert_eq!(sound.step(&program, 0), Answer::Stop);
+    loaded.tally.steps = STEP_LIMIT;
+    assert_eq!(loaded.step(&program, 0), refused(refusal::UNSOUND_TABLES));
+    assert_eq!(loaded.start(0), Answer::Start);
+    loaded.tally.steps = STEP_LIMIT - 1;
+    assert_eq!(loaded.step(&program, 0), Answer::Stop);
+}
+
+/// A start, and the step of a released vertex, look for 12 at the tally and at that vertex's row only.
+#[test]
+fn something_wrong_elsewhere() {
+    let program = [0];
+    let mut loaded = Lent::new(2 * VERTEX_WORDS, EDGE_WORDS);
+    assert_eq!(loaded.load(&program), Answer::Ready);
+    let elsewhere: [fn(&mut Lent); 4] = [
+        |lent| lent.vertices[VERTEX_WORDS + STATUS] = 0,
+        |lent| lent.vertices[VERTEX_WORDS + STATUS] = 5,
+        |lent| lent.edges[SOURCE] = 2,
+        |lent| lent.edges[TARGET] = u32::MAX,
+    ];
+    for spoil in elsewhere {
+        let mut lent = loaded.clone();
+        spoil(&mut lent);
+        assert_eq!(lent.clone().start(0), Answer::Start);
+        assert_eq!(lent.step(&program, 1), refused(if lent.vertices[VERTEX_WORDS] == VERTEX_RELEASED { 21 } else { 12 }));
+        assert_eq!(lent.step(&program, 2), refused(refusal::UNSOUND_TABLES));
+        assert_eq!(lent.step(&program, 0), Answer::Start);
+        // It executes now, and all else looks at everything.
+        assert_eq!(lent.start(0), refused(refusal::VERTEX_IS_EXECUTING));
+        assert_eq!(lent.step(&program, 0), refused(refusal::UNSOUND_TABLES));
+        let others = [lent.new_vertex(), lent.edge(0, 1), lent.release(1), lent.transfer(1), lent.stop(0)];
+        assert_eq!(others, [refused(refusal::UNSOUND_TABLES); 5]);
+    }
+    // Its own row, and the tally.
+    let own: [fn(&mut Lent); 5] = [
+        |lent| lent.vertices[STATUS] = 0,
+        |lent| lent.vertices[STATUS] = 5,
+        |lent| lent.tally.made = 3,
+        |lent| lent.tally.held = 2,
+        |lent| lent.tally.held = u32::MAX,
+    ];
+    for spoil in own {
+        let mut lent = loaded.clone();
+        spoil(&mut lent);
+        assert_eq!(lent.start(0), refused(refusal::UNSOUND_TABLES));
+        assert_eq!(lent.step(&program, 0), refused(refusal::UNSOUND_TABLES));
+    }
+}
+
+/// In-counts that the host has altered: they are believed, and they stop at 0 and at the largest number.
+#[test]
+fn altered_in_counts() {
+    let word = VERTEX_WORDS + IN_COUNT;
+    let mut lent = Lent::bare(3, 3);
+    for vertex in 1..3 {
+        assert_eq!(lent.new_vertex(), Answer::New(vertex));
+    }
+    assert_eq!(lent.release(1), Answer::Release(1));
+    lent.vertices[word] = 5;
+    assert_eq!(lent.start(1), refused(refusal::EDGE_LEADS_IN));
+    assert_eq!(lent.step(&[], 1), refused(refusal::EDGE_LEADS_IN));
+    for (altered, more) in [(0, 1), (5, 6), (u32::MAX, u32::MAX)] {
+        let mut lent = lent.clone();
+        lent.vertices[word] = altered;
+        assert_eq!(lent.edge(0, 1), Answer::Edge(0, 1));
+        assert_eq!(lent.vertices[word], more);
+        lent.edge_held_already(0, 1);
+    }
+    // Two rows with one target, where a stop subtracts two.
+    lent.edges[..2 * EDGE_WORDS].copy_from_slice(&[0, 1, 0, 1]);
+    lent.tally.held = 2;
+    for (altered, fewer) in [(0, 0), (1, 0), (2, 0), (5, 3), (u32::MAX, u32::MAX - 2)] {
+        let mut lent = lent.clone();
+        lent.vertices[word] = altered;
+        assert_eq!(lent.stop(0), Answer::Stop);
+        assert_eq!((lent.vertices[word], lent.tally.held), (fewer, 0));
+    }
+    lent.vertices[word] = 0;
+    assert_eq!(lent.clone().step(&[], 1), Answer::Start);
+    assert_eq!(lent.start(1), Answer::Start);
 }
 
 #[test]

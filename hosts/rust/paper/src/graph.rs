@@ -3,8 +3,8 @@
 use crate::{Answer, Command, Tally};
 
 /// "Vertex row, seven words: status; place [...]; scope [...]; phase [...]; three vertices". "Vertex rows gain an eighth word: the
-/// latest open future [...]; 0 is none."
-pub(crate) const VERTEX_WORDS: usize = 8;
+/// latest open future [...]; 0 is none." "Give each vertex row a ninth word, the number of edges into it".
+pub(crate) const VERTEX_WORDS: usize = 9;
 pub(crate) type Row = [u32; VERTEX_WORDS];
 pub(crate) const STATUS: usize = 0;
 pub(crate) const PLACE: usize = 1;
@@ -13,6 +13,7 @@ pub(crate) const PHASE: usize = 3;
 pub(crate) const MADE: usize = 4;
 pub(crate) const MADE_WORDS: usize = 3;
 pub(crate) const FUTURE: usize = 7;
+pub(crate) const IN_COUNT: usize = 8;
 
 /// "Edge row, two words: source, target."
 pub(crate) const EDGE_WORDS: usize = 2;
@@ -49,9 +50,6 @@ fn rows_mut<const N: usize>(words: &mut [u32]) -> &mut [[u32; N]] {
     &mut full[..used]
 }
 
-/// A mark for each vertex. Bytes, not bits: setting one waits for no other.
-pub(crate) type Marks = [bool; MOST_ROWS];
-
 /// The lent state to look at: all usable rows, made or held ones first.
 #[derive(Clone, Copy)]
 pub(crate) struct View<'a> {
@@ -84,14 +82,28 @@ fn executing(status: u32) -> Result<(), u32> {
     }
 }
 
+/// "21 released but an edge leads in", and "Start reads that word and answers as the full search would".
+pub(crate) fn may_start(row: &Row) -> Result<(), u32> {
+    if row[IN_COUNT] == 0 {
+        Ok(())
+    } else {
+        Err(21)
+    }
+}
+
 impl<'a> View<'a> {
     pub fn new(vertices: &'a [u32], edges: &'a [u32], tally: &Tally) -> View<'a> {
         View { rows: rows(vertices), edges: rows(edges), tally: *tally }
     }
 
-    /// Whether 12 is not due at a single command: "12 tally over the used rows, [...] a made
-    /// vertex's status outside 1 to 4, or a held edge's end not a made vertex". (Inlined, it makes
-    /// the runs around it a third slower.)
+    /// "12 tally over the used rows": whether it is not.
+    pub fn tally_fits(&self) -> bool {
+        self.tally.made as usize <= self.rows.len() && self.tally.held as usize <= self.edges.len()
+    }
+
+    /// Whether 12 is not due at a single command other than start: "12 tally over the used rows, [...]
+    /// a made vertex's status outside 1 to 4, or a held edge's end not a made vertex". (Inlined, it
+    /// makes the runs around it a third slower.)
     #[inline(never)]
     pub fn sound(&self) -> bool {
         let Tally { made, held, .. } = self.tally;
@@ -107,12 +119,12 @@ impl<'a> View<'a> {
         vertices.iter().fold(true, known) && edges.iter().fold(true, ends_made)
     }
 
-    /// Whether 12 is not due at a step or a run.
+    /// Whether 12 is not due at a run, or at a step but that of a released vertex.
     pub fn sound_to_step(&self) -> bool {
         self.tally.steps < MOST_STEPS && self.sound()
     }
 
-    /// The rows of the vertices made. Here and below the tables are sound.
+    /// The rows of the vertices made. Here and below the tally fits.
     pub fn made(&self) -> &'a [Row] {
         &self.rows[..self.tally.made as usize]
     }
@@ -127,16 +139,8 @@ impl<'a> View<'a> {
         self.made().get(vertex as usize).map(|row| row[STATUS]).ok_or(20)
     }
 
-    /// "21 released but an edge leads in"
-    pub fn no_edge_into(&self, vertex: u32) -> Result<(), u32> {
-        if self.held().iter().any(|edge| edge[1] == vertex) {
-            Err(21)
-        } else {
-            Ok(())
-        }
-    }
-
-    /// What a command does on sound tables, or its refusal, in the order of "Order. [...] Commands".
+    /// What a command does on sound tables, or its refusal, in the order of "Order. [...] Commands". A start needs no more than a tally
+    /// that fits: "For start [...] 12 then looks at the tally and that vertex's row only".
     pub fn check(&self, command: Command) -> Result<Act, u32> {
         match command {
             // "newTd 30, 31"
@@ -193,13 +197,17 @@ impl<'a> View<'a> {
                     return Err(35);
                 }
             }
-            // "start 22, 39, 23, 21"
-            Command::Start { vertex } => match self.status(vertex)? {
-                NEW => return Err(22),
-                EXECUTING => return Err(39),
-                FINISHED => return Err(23),
-                _ => self.no_edge_into(vertex)?,
-            },
+            // "start 22, 39, 23, 21", and of these 20 comes before the row's own 12, since there is none for no vertex
+            Command::Start { vertex } => {
+                let row = self.made().get(vertex as usize).ok_or(20u32)?;
+                match row[STATUS] {
+                    NEW => return Err(22),
+                    EXECUTING => return Err(39),
+                    FINISHED => return Err(23),
+                    RELEASED => may_start(row)?,
+                    _ => return Err(12),
+                }
+            }
             // "stop 30"
             Command::Stop { caller } => executing(self.status(caller)?)?,
         }
@@ -227,7 +235,8 @@ impl<'a> View<'a> {
             next[row] = *head;
             *head = row as u16 + 1;
         }
-        let mut seen: Marks = [false; MOST_ROWS];
+        // Bytes, not bits: setting one waits for no other.
+        let mut seen = [false; MOST_ROWS];
         seen[from as usize] = true;
         // Each vertex is pushed at most once.
         let mut stack = [0u16; MOST_ROWS];
@@ -287,10 +296,13 @@ impl<'a> Tables<'a> {
                 self.tally.made += 1;
                 Answer::New(vertex)
             }
-            // "Otherwise the edge [...] is appended."
+            // "Otherwise the edge [...] is appended", and there is one more into its target. "The word stops at 0 and at its largest
+            // number."
             Command::NewEdge { source, target, .. } => {
                 self.edges[self.tally.held as usize] = [source, target];
                 self.tally.held += 1;
+                let word = &mut self.rows[target as usize][IN_COUNT];
+                *word = word.saturating_add(1);
                 Answer::Edge(source, target)
             }
             // "turns a new vertex released"
@@ -298,7 +310,7 @@ impl<'a> Tables<'a> {
                 self.rows[vertex as usize][STATUS] = RELEASED;
                 Answer::Release(vertex)
             }
-            // "each edge out of t gets t' as its source, in its row"
+            // "each edge out of t gets t' as its source, in its row": its target stays
             Command::Transfer { caller, vertex } => {
                 for edge in &mut self.edges[..self.tally.held as usize] {
                     if edge[0] == caller {
@@ -313,7 +325,7 @@ impl<'a> Tables<'a> {
                 Answer::Start
             }
             // "finishes t and drops its edges out"; "a stop closes the gaps, keeps the order and
-            // zeroes freed rows"
+            // zeroes freed rows". Into the target of each row that goes there is one edge fewer.
             Command::Stop { caller } => {
                 self.rows[caller as usize][STATUS] = FINISHED;
                 let held = &mut self.edges[..self.tally.held as usize];
@@ -321,7 +333,12 @@ impl<'a> Tables<'a> {
                 for row in 0..held.len() {
                     let edge = held[row];
                     held[kept] = edge;
-                    kept += usize::from(edge[0] != caller);
+                    if edge[0] == caller {
+                        let word = &mut self.rows[edge[1] as usize][IN_COUNT];
+                        *word = word.saturating_sub(1);
+                    } else {
+                        kept += 1;
+                    }
                 }
                 held[kept..].fill([0; EDGE_WORDS]);
                 self.tally.held = kept as u32;

@@ -11,7 +11,7 @@ mod steps;
 #[cfg(test)]
 mod tests;
 
-use graph::{row, Tables, View, RELEASED, STATUS};
+use graph::{row, Tables, View, IN_COUNT, RELEASED, STATUS};
 use read::read;
 use steps::{Book, Seek};
 
@@ -100,11 +100,16 @@ pub fn open(vertices: &mut [u32], edges: &mut [u32], tally: &mut Tally) -> Answe
     Answer::Ready
 }
 
-/// One single command, called from outside. "Single commands change its first two numbers only."
+/// One single command, called from outside. "Single commands change its first two numbers only." 12 comes first; for start it "looks at
+/// the tally and that vertex's row only".
 pub fn command(vertices: &mut [u32], edges: &mut [u32], tally: &mut Tally, command: Command) -> Answer {
     let mut tables = Tables::new(vertices, edges, tally);
     let view = tables.view();
-    if !view.sound() {
+    let sound = match command {
+        Command::Start { .. } => view.tally_fits(),
+        _ => view.sound(),
+    };
+    if !sound {
         return refused(12);
     }
     match view.check(command) {
@@ -114,7 +119,7 @@ pub fn command(vertices: &mut [u32], edges: &mut [u32], tally: &mut Tally, comma
 }
 
 /// "Loading clears the used rows and the tally, then sets vertex 0 (released, place 0, scope 1),
-/// vertex 1 (released, place of the last byte, scope 1) and the edge 0 to 1."
+/// vertex 1 (released, place of the last byte, scope 1) and the edge 0 to 1." So one edge leads into vertex 1.
 pub fn load(program: &[u8], vertices: &mut [u32], edges: &mut [u32], tally: &mut Tally) -> Answer {
     // Order: "1; the first of 2 to 7 by place [...]; 8; 10; 11"; 43 stands "by place among 2 to 7".
     let counts = match read(program, |_, _| ()) {
@@ -132,6 +137,7 @@ pub fn load(program: &[u8], vertices: &mut [u32], edges: &mut [u32], tally: &mut
     // V is at least 2 and the edge rows needed at least 1; a program that reads has a last byte.
     tables.rows[0] = row(RELEASED, 0, 1);
     tables.rows[1] = row(RELEASED, program.len() as u32 - 1, 1);
+    tables.rows[1][IN_COUNT] = 1;
     tables.edges[0] = [0, 1];
     *tables.tally = Tally { made: 2, held: 1, steps: 0 };
     Answer::Ready
@@ -141,11 +147,7 @@ pub fn load(program: &[u8], vertices: &mut [u32], edges: &mut [u32], tally: &mut
 /// the item at its place."
 pub fn step(program: &[u8], vertices: &mut [u32], edges: &mut [u32], tally: &mut Tally, vertex: u32) -> Answer {
     let mut tables = Tables::new(vertices, edges, tally);
-    let view = tables.view();
-    if !view.sound_to_step() {
-        return refused(12);
-    }
-    match view.step_of(program, vertex) {
+    match tables.view().step_of(program, vertex) {
         Ok(due) => tables.take(vertex, due),
         Err(number) => refused(number),
     }

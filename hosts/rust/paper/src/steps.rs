@@ -3,8 +3,7 @@
 use std::cell::OnceCell;
 
 use crate::graph::{
-    Act, Marks, Row, Tables, View, EXECUTING, FINISHED, FUTURE, MADE, MADE_WORDS, MOST_ROWS, MOST_STEPS, NEW, PHASE, PLACE, RELEASED,
-    STATUS,
+    may_start, Act, Row, Tables, View, EXECUTING, FINISHED, FUTURE, MADE, MADE_WORDS, MOST_STEPS, NEW, PHASE, PLACE, RELEASED, STATUS,
 };
 use crate::read::{read, Item};
 use crate::{Answer, Command};
@@ -146,17 +145,29 @@ impl View<'_> {
         made_future(made, future).map(|_| future)
     }
 
-    /// The step that names a vertex, or its refusal, on tables that 12 does not refuse: "Step: 12,
-    /// 20, 22, 23, then 21, or 13 and the command's own".
+    /// The row of a released vertex, if it is one and the tally does not refuse its step.
+    fn released(&self, vertex: u32) -> Option<&Row> {
+        if self.tally.steps >= MOST_STEPS || !self.tally_fits() {
+            return None;
+        }
+        self.made().get(vertex as usize).filter(|row| row[STATUS] == RELEASED)
+    }
+
+    /// The step that names a vertex, or its refusal: "Step: 12, 20, 22, 23, then 21, or 13 and the
+    /// command's own"; "for a step of a released vertex, 12 then looks at the tally and that
+    /// vertex's row only", and any other looks at all of it.
     pub fn step_of(&self, program: &[u8], vertex: u32) -> Result<Due, u32> {
+        if let Some(row) = self.released(vertex) {
+            may_start(row)?;
+            return Ok(start(vertex));
+        }
+        if !self.sound_to_step() {
+            return Err(12);
+        }
         let row = self.made().get(vertex as usize).ok_or(20u32)?;
         match row[STATUS] {
             NEW => Err(22),
             FINISHED => Err(23),
-            RELEASED => {
-                self.no_edge_into(vertex)?;
-                Ok(start(vertex))
-            }
             _ => {
                 // 13 speaks of the whole program, so all of it is read.
                 let mut item = None;
@@ -172,19 +183,15 @@ impl View<'_> {
         }
     }
 
-    /// What a run finds: done, stuck, or the lowest vertex whose step would be accepted. The rows
-    /// are looked at once, the edges once for all released vertices.
+    /// What a run finds: done, stuck, or the lowest vertex whose step would be accepted.
     pub fn seek(&self, book: &Book) -> Seek {
         let rows = self.made();
         // At 8,192 steps none more is accepted (12).
         if self.tally.steps < MOST_STEPS {
-            let mut blocked = None;
             for (number, row) in rows.iter().enumerate() {
                 let vertex = number as u32;
                 match row[STATUS] {
-                    RELEASED if !blocked.get_or_insert_with(|| self.blocked())[number] => {
-                        return Seek::Found(vertex, start(vertex));
-                    }
+                    RELEASED if may_start(row).is_ok() => return Seek::Found(vertex, start(vertex)),
                     EXECUTING => {
                         let item = book.item(row[PLACE]);
                         if let Ok(due) = self.executing_step(vertex, row, item, book.program) {
@@ -201,15 +208,6 @@ impl View<'_> {
         } else {
             Seek::Stuck
         }
-    }
-
-    /// The vertices with an edge into them, whatever the source's status.
-    fn blocked(&self) -> Marks {
-        let mut blocked = [false; MOST_ROWS];
-        for edge in self.held() {
-            blocked[edge[1] as usize] = true;
-        }
-        blocked
     }
 }
 

@@ -3,6 +3,7 @@ use crate::read::{read, Counts, Item};
 use crate::*;
 
 mod futures;
+mod in_counts;
 mod order;
 
 // --- Helpers -----------------------------------------------------------------------------------
@@ -94,6 +95,26 @@ impl Lent {
 
     fn held(&self) -> Vec<(u32, u32)> {
         self.edges.chunks(EDGE_WORDS).take(self.tally.held as usize).map(|e| (e[0], e[1])).collect()
+    }
+
+    /// "the number of edges into it", for each vertex made, by looking at all of them.
+    fn edges_into(&self) -> Vec<u32> {
+        (0..self.tally.made).map(|vertex| self.held().iter().filter(|edge| edge.1 == vertex).count() as u32).collect()
+    }
+
+    /// The word for it of each vertex made.
+    fn in_counts(&self) -> Vec<u32> {
+        (0..self.tally.made as usize).map(|vertex| self.row(vertex)[IN_COUNT]).collect()
+    }
+
+    fn set_in_count(&mut self, vertex: u32, word: u32) {
+        self.vertices[VERTEX_WORDS * vertex as usize + IN_COUNT] = word;
+    }
+
+    fn set_true_in_counts(&mut self) {
+        for (vertex, word) in (0..).zip(self.edges_into()) {
+            self.set_in_count(vertex, word);
+        }
     }
 }
 
@@ -455,7 +476,9 @@ fn loading_touches_the_used_rows_only() {
     lent.edges = vec![9; EDGE_WORDS * (MOST_ROWS + 1) + 1];
     assert_eq!(lent.load(&[2, 0, 0]), Answer::Ready);
     assert_eq!(lent.row(0), row(2, 0, 1));
-    assert_eq!(lent.row(1), row(2, 2, 1));
+    let mut waiting = row(2, 2, 1);
+    waiting[IN_COUNT] = 1;
+    assert_eq!(lent.row(1), waiting);
     assert!(lent.vertices[2 * VERTEX_WORDS..VERTEX_WORDS * MOST_ROWS].iter().all(|&w| w == 0));
     assert!(lent.vertices[VERTEX_WORDS * MOST_ROWS..].iter().all(|&w| w == 9));
     assert_eq!(lent.edges[..EDGE_WORDS], [0, 1]);
@@ -476,7 +499,7 @@ fn loading_touches_the_used_rows_only() {
 
 // --- Commands ----------------------------------------------------------------------------------
 
-/// Rows with these statuses, and edges.
+/// Rows with these statuses and true words for the edges into them, and edges.
 fn graph(statuses: &[u32], edges: &[Edge], spare: usize) -> Lent {
     let mut lent = Lent::rows(0, 0);
     for &status in statuses {
@@ -487,6 +510,7 @@ fn graph(statuses: &[u32], edges: &[Edge], spare: usize) -> Lent {
     lent.vertices.extend(vec![7; VERTEX_WORDS * spare]);
     lent.edges.extend(vec![7; EDGE_WORDS * spare]);
     lent.tally = Tally { made: statuses.len() as u32, held: edges.len() as u32, steps: 9000 };
+    lent.set_true_in_counts();
     lent
 }
 
@@ -544,7 +568,7 @@ fn commands_refuse_in_order() {
         assert_eq!(after.command(edge(0, source, target)), Answer::Edge(source, target));
         assert_eq!(after, lent);
     }
-    // 12 comes first; the steps do not matter at a single command.
+    // 12 comes first, but for start (tests/in_counts.rs); the steps do not matter at a single command.
     for (word, value) in [(STATUS, 0), (STATUS, 5), (VERTEX_WORDS + STATUS, u32::MAX)] {
         let mut bad = lent.clone();
         bad.vertices[word] = value;
@@ -577,9 +601,12 @@ fn transfer_and_stop_keep_the_order() {
     let mut lent = before.clone();
     assert_eq!(lent.command(Command::Stop { caller: 0 }), Answer::Stop);
     assert_eq!(lent.edges, [2, 3, 3, 0, 0, 0, 0, 0, 7, 7]);
-    let mut stopped = before.row(0);
-    stopped[STATUS] = FINISHED;
-    assert_eq!(lent.row(0), stopped);
+    // Each row that went led into another vertex.
+    let mut expected = before.clone();
+    expected.vertices[STATUS] = FINISHED;
+    expected.vertices[2 * VERTEX_WORDS + IN_COUNT] = 0;
+    expected.vertices[3 * VERTEX_WORDS + IN_COUNT] = 1;
+    assert_eq!(lent.vertices, expected.vertices);
     assert_eq!(lent.tally, Tally { made: 4, held: 2, steps: 9000 });
 }
 
@@ -659,6 +686,7 @@ fn the_same_edge_twice() {
     // Both ends count, and only rows that are held.
     assert_eq!(lent.command(edge(0, 2)), refusal(32, 0));
     lent.tally.held = 1;
+    lent.set_true_in_counts();
     assert_eq!(lent.command(edge(1, 2)), Answer::Edge(1, 2));
     assert_eq!(lent, full);
     // All 1,024 rows are looked at, and none past them.
@@ -1131,6 +1159,8 @@ fn any_words_are_answered() {
                 STATUS if dice.one_in(300) => dice.roll() as u32,
                 STATUS => 1 + dice.below(4) as u32,
                 FUTURE if dice.one_in(3) => 0,
+                IN_COUNT if dice.one_in(2) => 0,
+                IN_COUNT => word(&mut dice, 3),
                 PLACE if dice.one_in(20) => word(&mut dice, program.len()),
                 PLACE => places[dice.below(places.len())],
                 PHASE => word(&mut dice, 9),
@@ -1144,6 +1174,9 @@ fn any_words_are_answered() {
         lent.vertices.extend(vec![3; dice.below(VERTEX_WORDS)]);
         lent.edges.extend(vec![3; dice.below(EDGE_WORDS)]);
         lent.tally = Tally { made: made as u32, held: held as u32, steps: 0 };
+        if dice.one_in(2) {
+            lent.set_true_in_counts();
+        }
         if dice.one_in(20) {
             lent.tally.steps = 8180 + dice.below(14) as u32;
         }
@@ -1198,7 +1231,8 @@ fn any_words_are_answered() {
                 assert_eq!((number, place, run.last, run.taken), (12, 0, None, 0));
                 assert_eq!(lowest, Lowest::Refused { number: 12, place: 0 });
                 assert_eq!(after, lent);
-                assert_eq!(lent.clone().step(&program, a), refusal(12, 0));
+                // A step may still be a start.
+                assert!([refusal(12, 0), refusal(21, 0), Answer::Start].contains(&lent.clone().step(&program, a)));
                 continue;
             }
             Ending::Done => done += 1,

@@ -190,7 +190,8 @@ fn commands_of_the_items() {
         let steps = lent.tally.steps;
         assert_eq!(lent.step(&program, 0), answer);
         assert_eq!(lent.row(0), own);
-        for (at, &other) in others.iter().enumerate() {
+        for (at, &(mut other)) in others.iter().enumerate() {
+            other[IN_COUNT] = edges.iter().filter(|edge| edge.1 as usize == 2 + at).count() as u32;
             assert_eq!(lent.row(2 + at), other);
         }
         assert_eq!(lent.held(), edges);
