@@ -1,21 +1,23 @@
 -- What a loop over the held edges has done after each row: looked for an edge, moved sources, gathered the rows that a stop keeps, and
 -- lowered the in-counts of the others' targets.
-use Prim.Native.Nat.{ℕ, suc, _+_, _-_, _*_, _<_, _≤_}
+use Prim.Native.Nat.{ℕ, zero, suc, _+_, _-_, _*_, _<_, _≤_}
 use mathlib.Core.Path.{_≡_, refl, sym, _∙_, ap, subst}
 use mathlib.Core.Bool.{true, false}
 use mathlib.Core.List.{List, [], _∷_, _++_, append-assoc}
 use native.Mathlib.Numerals.{add-one}
 use native.Mathlib.Omega.{arith}
 use lib.ListN.{length, getD, take, drop, set, replicate, length-set}
-use lib.Seq.{take-suc-set, take-set-le, drop-set-lt, drop-drop, getD-drop}
-use borrow.Author.Tests.{eq-eqb, ne-eqb}
+use lib.Seq.{take-suc-set, drop-set-lt, drop-drop, getD-drop, set-getD}
+use borrow.Author.Tests.{eq-eqb, ne-eqb, eqb-false}
+use Rattle.graph.specs.Tests.{any}
 use Rattle.graph.specs.Tables.{usableLimit, vertexWords, edgeWords, sourceWord, targetWord, source, target, setEdgeWord, clear}
-use Rattle.graph.specs.Paths.{holds}
+use Rattle.graph.specs.Paths.{holds, leadsOutOf}
 use Rattle.graph.specs.Commands.{movedRow, moved, kept, keptRows, withoutEdgesOf, lessInto, lowered}
-use Rattle.graph.specs.Internal.Gather.{Gathered, TargetsFit}
+use Rattle.graph.specs.Internal.Gather.{FirstOutOf, Gathered, TargetsFit}
 use Rattle.graph.proofs.TableLaws.{keptRows-drop, keptRows-keep, keptRows-le, kept-drop, kept-keep, lowered-drop, lowered-keep}
 use Rattle.graph.proofs.ClearLaws.{clear-is}
 use Rattle.graph.proofs.TestLaws.{any-empty, any-more, any-at, at-end, both-true, both-false-left, both-false-right}
+use Rattle.graph.proofs.TestLaws.{either-false-left, either-false-right}
 
 -- looking for an edge
 pub held-none : (e : List ℕ) (a b : ℕ) → holds e 0 a b ≡ false
@@ -37,6 +39,22 @@ held-found e n i a b lt p q = sym (any-at _ n i lt (both-true (eq-eqb (source e 
 pub held-nowhere : (e : List ℕ) (n i a b : ℕ) → i ≤ n → n ≤ i → holds e i a b ≡ false → false ≡ holds e n a b
 held-nowhere e n i a b p q h = sym (at-end (λ k. holds e k a b ≡ false) p q h)
 
+-- looking for the first edge out of t
+pub out-none : (e : List ℕ) (t : ℕ) → leadsOutOf e 0 t ≡ false
+unfolding leadsOutOf
+out-none e t = any-empty _
+
+pub out-more : (e : List ℕ) (i t : ℕ) → leadsOutOf e i t ≡ false → (source e i ≡ t → ⊥) → leadsOutOf e (i + 1) t ≡ false
+unfolding leadsOutOf
+out-more e i t h p = any-more _ i h (ne-eqb (source e i) t p)
+
+pub first-found : (t : ℕ) (e : List ℕ) (n i : ℕ) → i < n → leadsOutOf e i t ≡ false → source e i ≡ t → FirstOutOf t e n i
+first-found t e n i lt h p = record { within = omega arith; none-before = h; there = λ _. p }
+
+pub first-nowhere : (t : ℕ) (e : List ℕ) (n i : ℕ) → i ≤ n → n ≤ i → leadsOutOf e i t ≡ false → FirstOutOf t e n n
+first-nowhere t e n i p q h =
+    record { within = omega arith; none-before = at-end (λ k. leadsOutOf e k t ≡ false) p q h; there = λ lt. absurd (omega arith) }
+
 -- moving sources
 pub moved-none : (t t' : ℕ) (e : List ℕ) → e ≡ moved t t' e 0
 unfolding moved
@@ -54,7 +72,7 @@ pub moved-all : (t t' : ℕ) (e : List ℕ) {l : List ℕ} (n i : ℕ) → i ≤
 moved-all t t' e {l} n i p q h = at-end (λ k. l ≡ moved t t' e k) p q h
 
 -- gathering
-pub gathered-none : (t : ℕ) (e : List ℕ) → (0 ≡ keptRows t e 0) × Gathered t e e 0
+gathered-none : (t : ℕ) (e : List ℕ) → (0 ≡ keptRows t e 0) × Gathered t e e 0
 unfolding keptRows kept
 gathered-none t e = (refl, record { front = refl; rest = refl; same-length = refl; within = omega arith })
 
@@ -82,10 +100,11 @@ put-rest l k i h =
     drop-set-lt (edgeWords * (i + 1)) (set l (edgeWords * k + sourceWord) (source l i)) (edgeWords * k + targetWord) (target l i) (omega arith)
     ∙ drop-set-lt (edgeWords * (i + 1)) l (edgeWords * k + sourceWord) (source l i) (omega arith)
 
-put-front : (l : List ℕ) (k i : ℕ) → take (edgeWords * k) (put l k i) ≡ take (edgeWords * k) l
-put-front l k i =
-    take-set-le (edgeWords * k) (set l (edgeWords * k + sourceWord) (source l i)) (edgeWords * k + targetWord) (target l i) (omega arith)
-    ∙ take-set-le (edgeWords * k) l (edgeWords * k + sourceWord) (source l i) (omega arith)
+-- where it stood
+put-same : (l : List ℕ) (i : ℕ) → put l i i ≡ l
+put-same l i =
+    ap (λ (x : List ℕ). set x (edgeWords * i + targetWord) (target l i)) (set-getD l (edgeWords * i + sourceWord) 0)
+    ∙ set-getD l (edgeWords * i + targetWord) 0
 
 put-more :
     (l : List ℕ) (k i : ℕ) → edgeWords * k + edgeWords ≤ length l
@@ -103,22 +122,16 @@ put-more l k i h =
 
 pub gathered-drops :
     (t : ℕ) (e : List ℕ) {e' : List ℕ} {k : ℕ} (i : ℕ) → k ≡ keptRows t e i → Gathered t e e' i → source e' i ≡ t
-    → (k ≡ keptRows t e (i + 1)) × Gathered t e (put e' k i) (i + 1)
-gathered-drops t e {e'} {k} i r h p =
+    → (k ≡ keptRows t e (i + 1)) × Gathered t e e' (i + 1)
+gathered-drops t e {e'} i r h p =
     let q : source e i ≡ t = sym (row-kept t e i sourceWord h) ∙ p in
-    let n : keptRows t e (i + 1) ≡ k = ap (keptRows t e) (add-one i) ∙ keptRows-drop t e i q ∙ sym r in
-    let w : k ≤ i = subst (λ (x : ℕ). x ≤ i) (sym r) (h .within) in (
-      sym n,
+    let n : keptRows t e (i + 1) ≡ keptRows t e i = ap (keptRows t e) (add-one i) ∙ keptRows-drop t e i q in (
+      r ∙ sym n,
       record {
-        front =
-            ap (λ (x : ℕ). take (edgeWords * x) (put e' k i)) n
-            ∙ put-front e' k i
-            ∙ ap (λ (x : ℕ). take (edgeWords * x) e') r
-            ∙ h .front
-            ∙ sym (ap (kept t e) (add-one i) ∙ kept-drop t e i q);
-        rest = put-rest e' k i w ∙ rest-more t e i h;
-        same-length = put-length e' k i ∙ h .same-length;
-        within = rw n (omega arith);
+        front = ap (λ (x : ℕ). take (edgeWords * x) e') n ∙ h .front ∙ sym (ap (kept t e) (add-one i) ∙ kept-drop t e i q);
+        rest = rest-more t e i h;
+        same-length = h .same-length;
+        within = rw n (omega (arith, h .within));
       },
     )
 
@@ -152,7 +165,7 @@ pub gathered-all :
 gathered-all t e {e'} {k} n i p q h = at-end (λ j. (k ≡ keptRows t e j) × Gathered t e e' j) p q h
 
 -- lowering in-counts, while the rows are gathered
-pub lowered-none : (t : ℕ) (e v : List ℕ) → v ≡ lowered t e v 0
+lowered-none : (t : ℕ) (e v : List ℕ) → v ≡ lowered t e v 0
 unfolding lowered
 lowered-none t e v = refl
 
@@ -172,6 +185,19 @@ lowered-less t e v {e'} {v'} i h g p less =
 
 pub lowered-all : (t : ℕ) (e v : List ℕ) {v' : List ℕ} (n i : ℕ) → i ≤ n → n ≤ i → v' ≡ lowered t e v i → v' ≡ lowered t e v n
 lowered-all t e v {v'} n i p q h = at-end (λ j. v' ≡ lowered t e v j) p q h
+
+-- ahead of the first edge out of t every row stays where it is, and no in-count is lowered
+pub gathered-ahead :
+    (t : ℕ) (e v : List ℕ) (n : ℕ) → edgeWords * n ≤ length e → leadsOutOf e n t ≡ false
+    → ((n ≡ keptRows t e n) × Gathered t e e n) × (v ≡ lowered t e v n)
+unfolding leadsOutOf any
+gathered-ahead t e v zero room h = (gathered-none t e, lowered-none t e v)
+gathered-ahead t e v (suc n) room h =
+    let other : source e n ≡ t → ⊥ = eqb-false (source e n) t (either-false-left _ _ h) in
+    let ((rows, gathered), lower) = gathered-ahead t e v n (omega arith) (either-false-right _ _ h) in
+    let (rows', gathered') = gathered-keeps t e n rows gathered (omega arith) other in
+    rw (← add-one n)
+    ((rows', subst (λ (l : List ℕ). Gathered t e l (n + 1)) (put-same e n) gathered'), lowered-skips t e v n lower gathered other)
 
 -- the target of row i has its row
 pub target-fits :

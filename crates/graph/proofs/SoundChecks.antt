@@ -1,19 +1,20 @@
 -- Refusal 12: what each look at the tables tells of it, and the room that sound tables have.
 use Prim.Native.Nat.{ℕ, _+_, _*_, _<_, _≤_}
-use mathlib.Core.Path.{_≡_, sym}
+use mathlib.Core.Path.{_≡_, sym, _∙_}
 use mathlib.Core.Bool.{Bool, true, false, _&&_}
 use mathlib.Core.List.{List}
 use native.Mathlib.Omega.{arith}
-use lib.ListN.{length}
+use lib.ListN.{length, getD}
 use lib.Dec.{leb, ltb}
 use borrow.Author.Tests.{lt-ltb, le-leb, lt-leb, leb-true}
-use Rattle.graph.specs.Tests.{both}
+use Rattle.graph.specs.Tests.{both, every}
 use Rattle.graph.specs.Tables.{Lent, NEW, FINISHED, usableLimit, vertexWords, edgeWords, vertexRows, edgeRows, status, source, target}
 use Rattle.graph.specs.Sound.{tallyFits, statusKnown, statusesKnown, endsMade, edgesMade, sound}
 use Rattle.graph.specs.Internal.Search.{Rows, Searchable}
 use Rattle.graph.proofs.PathLaws.{holds-at}
 use Rattle.graph.proofs.SoundLaws.{sound-fits}
-use Rattle.graph.proofs.TestLaws.{both-true, both-left, both-right, both-false-left, both-false-right, every-all, every-none, every-next}
+use Rattle.graph.proofs.TestLaws.{both-true, both-left, both-right, both-false-left, both-false-right, every-all, every-none, at-end}
+use Rattle.graph.proofs.TestLaws.{every-next, every-next-both, every-pairs}
 
 -- the tally
 pub tally-fits : (v e : List ℕ) (made held : ℕ) → made ≤ vertexRows v → held ≤ edgeRows e → true ≡ tallyFits v e made held
@@ -36,17 +37,24 @@ statuses-none v = sym (every-none _)
 pub statuses-more :
     (v : List ℕ) {b : Bool} (k : ℕ) → b ≡ statusesKnown v k → (b && leb NEW (status v k)) && leb (status v k) FINISHED ≡ statusesKnown v (k + 1)
 unfolding statusesKnown statusKnown
-statuses-more v k h = every-next (λ i. leb NEW (status v i)) (λ i. leb (status v i) FINISHED) k h
+statuses-more v k h = every-next-both (λ i. leb NEW (status v i)) (λ i. leb (status v i) FINISHED) k h
 
--- the edges' ends
-pub edges-none : (e : List ℕ) (made : ℕ) → true ≡ edgesMade e made 0
-unfolding edgesMade
-edges-none e made = sym (every-none _)
+-- the edges' ends, which are all the words of their rows
+unfoldable pub wordsMade : List ℕ → ℕ → ℕ → Bool
+wordsMade e made n = every (λ i. ltb (getD e i 0) made) n
 
-pub edges-more :
-    (e : List ℕ) (made : ℕ) {b : Bool} (i : ℕ) → b ≡ edgesMade e made i → (b && ltb (source e i) made) && ltb (target e i) made ≡ edgesMade e made (i + 1)
-unfolding edgesMade endsMade
-edges-more e made i h = every-next (λ n. ltb (source e n) made) (λ n. ltb (target e n) made) i h
+pub words-none : (e : List ℕ) (made : ℕ) → true ≡ wordsMade e made 0
+unfolding wordsMade
+words-none e made = sym (every-none _)
+
+pub words-more : (e : List ℕ) (made : ℕ) {b : Bool} (i : ℕ) → b ≡ wordsMade e made i → b && ltb (getD e i 0) made ≡ wordsMade e made (i + 1)
+unfolding wordsMade
+words-more e made i h = every-next (λ n. ltb (getD e n 0) made) i h
+
+pub words-all :
+    (e : List ℕ) (made : ℕ) {b : Bool} (n i : ℕ) → i ≤ edgeWords * n → edgeWords * n ≤ i → b ≡ wordsMade e made i → b ≡ edgesMade e made n
+unfolding wordsMade edgesMade endsMade
+words-all e made {b} n i p q h = at-end (λ k. b ≡ wordsMade e made k) p q h ∙ every-pairs (λ i. ltb (getD e i 0) made) n
 
 -- the three together
 pub unsound-tally : (s : Lent) → tallyFits (s .vertices) (s .edges) (s .made) (s .held) ≡ false → false ≡ sound s

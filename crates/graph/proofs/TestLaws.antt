@@ -1,6 +1,6 @@
 -- The laws of the connectives and of tests over the first n numbers. Proofs above use these and leave the tests shut.
-use Prim.Native.Nat.{ℕ, zero, suc, _+_, _<_, _≤_}
-use mathlib.Core.Path.{_≡_, refl, sym, _∙_, subst}
+use Prim.Native.Nat.{ℕ, zero, suc, _+_, _*_, _<_, _≤_}
+use mathlib.Core.Path.{_≡_, refl, sym, _∙_, ap, subst}
 use mathlib.Core.Bool.{Bool, true, false, not, _&&_, cond}
 use mathlib.Core.Logic.{_⊎_, inl, inr, ⊎-elim, _↔_}
 use native.Mathlib.Nat.{eq-or-lt-of-le, le-of-suc-le-suc}
@@ -63,6 +63,13 @@ pub both-false-right : (a : Bool) {b : Bool} → b ≡ false → both a b ≡ fa
 unfolding both
 both-false-right true p = p
 both-false-right false p = refl
+
+both-turned : (a b c : Bool) → both a (both b c) ≡ both (both b a) c
+unfolding both
+both-turned true true c = refl
+both-turned true false c = refl
+both-turned false true c = refl
+both-turned false false c = refl
 
 both-skip : {a : Bool} (b : Bool) → a ≡ true → both a b ≡ b
 unfolding both
@@ -131,6 +138,13 @@ pub every-more : (p : ℕ → Bool) (n : ℕ) → every p n ≡ true → p n ≡
 unfolding every
 every-more p n h q = rw add-one (both-true q h)
 
+and-turned : (b x : Bool) → b && x ≡ both x b
+unfolding both
+and-turned true true = refl
+and-turned true false = refl
+and-turned false true = refl
+and-turned false false = refl
+
 and-both : (b x y : Bool) → (b && x) && y ≡ both (both x y) b
 unfolding both
 and-both true true true = refl
@@ -140,11 +154,25 @@ and-both false true true = refl
 and-both false true false = refl
 and-both false false y = refl
 
--- a loop that no number ends: what it knows of the first n, and both tests of the next
-pub every-next :
+-- a loop that no number ends: what it knows of the first n, and the test of the next, or both tests
+pub every-next : (x : ℕ → Bool) (n : ℕ) {b : Bool} → b ≡ every x n → b && x n ≡ every x (n + 1)
+unfolding every
+every-next x n {b} h = rw (add-one, ← h) (and-turned b (x n))
+
+pub every-next-both :
     (x y : ℕ → Bool) (n : ℕ) {b : Bool} → b ≡ every (λ i. both (x i) (y i)) n → (b && x n) && y n ≡ every (λ i. both (x i) (y i)) (n + 1)
 unfolding every
-every-next x y n {b} h = rw (add-one, ← h) (and-both b (x n) (y n))
+every-next-both x y n {b} h = rw (add-one, ← h) (and-both b (x n) (y n))
+
+-- the numbers below 2 n are n pairs
+pub every-pairs : (p : ℕ → Bool) (n : ℕ) → every p (2 * n) ≡ every (λ i. both (p (2 * i + 0)) (p (2 * i + 1))) n
+unfolding every
+every-pairs p zero = refl
+every-pairs p (suc n) =
+    let two : 2 * suc n ≡ suc (suc (2 * n)) = omega arith in
+    let low : 2 * n + 0 ≡ 2 * n = omega arith in
+    let high : 2 * n + 1 ≡ suc (2 * n) = omega arith in
+    rw (two, low, high, ← every-pairs p n) (both-turned (p (suc (2 * n))) (p (2 * n)) (every p (2 * n)))
 
 -- a loop that counted to the end: what holds of its number holds of the end
 pub at-end : (P : ℕ → Type 0) {i n : ℕ} → i ≤ n → n ≤ i → P i → P n

@@ -12,7 +12,7 @@ ghost use Rattle.graph.specs.Tests.{any};
 ghost use Rattle.graph.specs.Tables.{edgeWords, edgeWord};
 ghost use Rattle.graph.specs.Paths.{holds};
 ghost use Rattle.graph.specs.Commands.{moved, lowered, keptRows, withoutEdgesOf};
-ghost use Rattle.graph.specs.Internal.Gather.{Gathered, TargetsFit};
+ghost use Rattle.graph.specs.Internal.Gather.{FirstOutOf, Gathered, TargetsFit};
 
 pub(crate) fn is_held(edges: &[u32], held: usize, source: u32, target: u32) -> bool
     requires { ⌜ edgeWords * held ≤ length (now edges) ⌝ }
@@ -55,21 +55,35 @@ pub(crate) fn move_sources(edges: &mut [u32], held: usize, from: u32, to: u32)
     }
 }
 
+// The first edge out of `vertex`, or `held` where none is.
+fn first_out_of(edges: &[u32], held: usize, vertex: u32) -> usize
+    requires { ⌜ edgeWords * held ≤ length (now edges) ⌝ }
+    ensures { λ r. ⌜ FirstOutOf vertex (now (edges .entry)) held r ⌝ }
+{
+    for i in 0..held {
+        if edges[EDGE_WORDS * i + SOURCE] == vertex {
+            return i;
+        }
+    }
+    held
+}
+
 // Brings the edges that are not out of `vertex` together at the front, in order, and says how many they are; each other one is taken off its
-// target's in-count. Every edge is put behind those kept so far, and the next one over it where it is not kept.
+// target's in-count. Those ahead of the first such stay where they are.
 fn gather_others(vertices: &mut [u32], edges: &mut [u32], held: usize, vertex: u32) -> usize
     requires { ⌜ (edgeWords * held ≤ length (now edges)) × TargetsFit (now vertices) (now edges) held ⌝ }
     ensures { λ r. ⌜ (r ≡ keptRows vertex (now (edges .entry)) held) × Gathered vertex (now (edges .entry)) (now (edges .exit)) held × (now (vertices .exit) ≡ lowered vertex (now (edges .entry)) (now (vertices .entry)) held) ⌝ }
 {
-    let mut kept: usize = 0;
-    for i in 0..held {
+    let first = first_out_of(edges, held, vertex);
+    let mut kept: usize = first;
+    for i in first..held {
         let source = edges[EDGE_WORDS * i + SOURCE];
         let target = edges[EDGE_WORDS * i + TARGET];
-        edges[EDGE_WORDS * kept + SOURCE] = source;
-        edges[EDGE_WORDS * kept + TARGET] = target;
         if source == vertex {
             less_into(vertices, target as usize);
         } else {
+            edges[EDGE_WORDS * kept + SOURCE] = source;
+            edges[EDGE_WORDS * kept + TARGET] = target;
             kept += 1;
         }
     }

@@ -53,16 +53,14 @@ pub(crate) fn statuses_known(vertices: &[u32], made: usize) -> bool
     all_known
 }
 
-// Each held edge has made vertices for its ends.
+// Each held edge has made vertices for its ends, which are all the words of its row.
 pub(crate) fn edges_made(edges: &[u32], made: u32, held: usize) -> bool
     requires { ⌜ edgeWords * held ≤ length (now edges) ⌝ }
     ensures { λ r. ⌜ r ≡ edgesMade (now (edges .entry)) made held ⌝ }
 {
     let mut all_made = true;
-    for i in 0..held {
-        let source = edges[EDGE_WORDS * i + SOURCE];
-        let target = edges[EDGE_WORDS * i + TARGET];
-        all_made = all_made & (source < made) & (target < made);
+    for i in 0..EDGE_WORDS * held {
+        all_made = all_made & (edges[i] < made);
     }
     all_made
 }
