@@ -6,7 +6,7 @@ use mathlib.Core.Logic.{inl, inr, ⊎-elim}
 use mathlib.Core.Bool.{true, false}
 use native.Mathlib.Omega.{arith}
 use Rattle.graph.specs.declared.Command.{Command}
-use Rattle.graph.specs.declared.Command.the-variants.{NewTd, NewEdge, Release, Transfer, Start, Stop}
+use Rattle.graph.specs.declared.Command.the-variants.{NewTd, NewEdge, Release, Transfer, Start, Stop, Yield}
 use Rattle.graph.specs.Tables.{Lent, NEW, RELEASED, EXECUTING, FINISHED, status}
 use Rattle.graph.specs.Sound.{sound}
 use Rattle.graph.specs.Paths.{Leads, CycleFree, holds, leadsInto, reaches}
@@ -49,6 +49,7 @@ leaves-acyclic (Transfer t t') s h free =
     (not-found s t t' (sym (target-reaches (s .edges) (s .held) t t') ∙ h .1 .no-path))
 leaves-acyclic (Start t) s h free = free
 leaves-acyclic (Stop t) s h free = fewer-free (λ a b q. without-is t (s .edges) (s .held) a b .0 q .0) free
+leaves-acyclic (Yield t) s h free = free
 
 shown-runs : (s : Lent) (t : ℕ) → sound s ≡ true → graph s .status t ≡ X → Runs s t
 shown-runs s t known h =
@@ -56,15 +57,21 @@ shown-runs s t known h =
     record { known = known; is-made = made; executing = runs }
 
 newEdge-taken :
-    (s : Lent) (t t1 t2 : ℕ) (G' : Graph) → sound s ≡ true → NEWEDGE CycleFree (graph s) t t1 t2 G' → RowFree (NewEdge t t1 t2) s → TakenNewEdge s t1 t2
+    (s : Lent) (t t1 t2 : ℕ) (G' : Graph) → sound s ≡ true → NEWEDGE CycleFree (graph s) t t1 t2 G' → RowFree (NewEdge t t1 t2) s
+    → TakenNewEdge s t t1 t2
 newEdge-taken s t t1 t2 G' known r row =
     record {
       source-made = made;
       target-made = domain-shown (s .vertices) (s .made) t2 (r .target-in);
       waits =
           ⊎-elim
-          (λ p. inl (shown-some (s .vertices) (s .made) t2 NEW p .1))
-          (λ p. inr (shown-some (s .vertices) (s .made) t2 RELEASED p .1))
+          (λ p.
+          inl
+          (⊎-elim
+          (λ q. inl (shown-some (s .vertices) (s .made) t2 NEW q .1))
+          (λ q. inr (shown-some (s .vertices) (s .made) t2 RELEASED q .1))
+          p))
+          inr
           (r .target-waits);
       adds = ⊎-elim (λ p. inl (adds-nothing s t1 t2 .0 p)) (λ p. inr (adding p (adds-one s t1 t2 .0 p))) (decide (addsNothing s t1 t2));
     }
@@ -127,3 +134,4 @@ rule-taken (Start t) s G' known reads r row =
     let none : leadsInto (s .edges) (s .held) t ≡ false = none-into (s .edges) (s .held) t .1 (r .no-edge-in) in
     (sound-tally s known, made, released, reads ∙ into-counted (s .edges) (s .held) t .1 none)
 rule-taken (Stop t) s G' known reads r row = shown-runs s t known (r .caller)
+rule-taken (Yield t) s G' known reads r row = shown-runs s t known (r .caller)

@@ -8,7 +8,7 @@ use lib.ListN.{length}
 use lib.Dec.{ltb}
 use borrow.Author.Tests.{not-true, not-false, lt-ltb, le-ltb, eq-eqb, ne-eqb}
 use Rattle.graph.specs.declared.Command.{Command}
-use Rattle.graph.specs.declared.Command.the-variants.{NewTd, Release, Transfer, Start, Stop}
+use Rattle.graph.specs.declared.Command.the-variants.{NewTd, Release, Transfer, Start, Stop, Yield}
 use Rattle.graph.specs.declared.Done.{Done}
 use Rattle.graph.specs.declared.Tally.{Tally}
 use Rattle.graph.specs.Tests.{either}
@@ -21,7 +21,7 @@ use Rattle.graph.specs.Internal.Checks.{isStart}
 use Rattle.graph.specs.Internal.Gather.{TargetsFit}
 use Rattle.graph.specs.Internal.Search.{Searchable}
 use Rattle.graph.specs.Commands.{openedTables, opening, callerRefusal, newTdRefusal, endsRefusal, appendRefusal, releaseRefusal}
-use Rattle.graph.specs.Commands.{transferRefusal, startRefusal, stopRefusal, command}
+use Rattle.graph.specs.Commands.{transferRefusal, startRefusal, stopRefusal, yieldRefusal, command}
 use Rattle.graph.proofs.PathLaws.{holds-at}
 use Rattle.graph.proofs.SoundLaws.{sound-fits}
 use Rattle.graph.proofs.SoundChecks.{fits-rows, sound-rows, searchable}
@@ -234,6 +234,9 @@ stop-targets s t v h p i lt =
     let made : target (s .edges) i < s .made = sound-fits s known .ends-made _ _ (holds-at (s .edges) (s .held) i lt) .1 in
     let room : vertexWords * target (s .edges) i + vertexWords ≤ length (s .vertices) = row-room s _ known made in
     omega arith
+
+pub yield-room : (s : Lent) (t : ℕ) → yieldRefusal s t ≡ 0 → vertexWords * t + vertexWords ≤ length (s .vertices)
+yield-room s t h = let k = taken (Yield t) s .0 h in row-room s t (k .known) (k .is-made)
 
 -- the opening
 pub opening-stops :

@@ -88,10 +88,10 @@ by-the-rule c s reads free h =
     (rule-of CycleFree c s reads t (leaves-acyclic c s t free))
 
 -- "An edge held already is now accepted and changes nothing, tested before 35" (note 3): on a full table, on tables with a
--- cycle, and where the edge leads from a vertex to itself.
+-- cycle, where the edge leads from a vertex to itself, and where it leads into the caller.
 pub held-already :
-    (s : Lent) (t t1 t2 : ℕ) → sound s ≡ true → t < s .made → HasStatus s t EXECUTING → HasStatus s t2 NEW ⊎ HasStatus s t2 RELEASED
-    → EdgeHeld s t1 t2
+    (s : Lent) (t t1 t2 : ℕ) → sound s ≡ true → t < s .made → HasStatus s t EXECUTING
+    → (HasStatus s t2 NEW ⊎ HasStatus s t2 RELEASED) ⊎ (t2 ≡ t) → EdgeHeld s t1 t2
     → command (NewEdge t t1 t2) s ≡ record { answer = CommandSaid.edge t1 t2; after = s }
 held-already s t t1 t2 known made runs waits held =
     taken-is (NewEdge t t1 t2) s (taken (NewEdge t t1 t2) s .1 passes)

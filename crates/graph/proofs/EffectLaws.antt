@@ -5,9 +5,9 @@ use mathlib.Core.Logic.{_⊎_, inl, inr, ⊎-elim}
 use mathlib.Core.Bool.{Bool, true, cond}
 use native.Mathlib.Omega.{arith}
 use Rattle.graph.specs.declared.Command.{Command}
-use Rattle.graph.specs.declared.Command.the-variants.{NewTd, NewEdge, Release, Transfer, Start, Stop}
+use Rattle.graph.specs.declared.Command.the-variants.{NewTd, NewEdge, Release, Transfer, Start, Stop, Yield}
 use Rattle.graph.specs.Tables.{Lent, NEW, RELEASED, EXECUTING, FINISHED, edgeRows, status, setStatus}
-use Rattle.graph.specs.Rules.{X, NEWTD, RELEASE, START, STOP, NEWEDGE, TRANSFER, Rule, isFinished, added, _∪_}
+use Rattle.graph.specs.Rules.{X, NEWTD, RELEASE, START, STOP, NEWEDGE, TRANSFER, YIELD, Rule, isFinished, added, _∪_}
 use Rattle.graph.specs.Commands.{withStatus, withVertex, withEdge, withMoved, stopped}
 use Rattle.graph.specs.InCounts.{CountTrue, ReadsTrue}
 use Rattle.graph.specs.Demand2.{graph, AddsNothing}
@@ -66,6 +66,13 @@ stop-rule s t h =
           (is-same (without-is t (s .edges) (s .held)) (minus-is (graph s) t (inside s t f)));
     }
 
+yield-rule : (s : Lent) (t : ℕ) → Taken (Yield t) s → YIELD (graph s) t (graph (withStatus s t RELEASED))
+yield-rule s t h =
+    record {
+      caller = runs-shown s t h;
+      after = same-graph (shown-set (s .vertices) (s .made) t RELEASED (h .is-made) (sound-fits s (h .known) .vertices-fit)) (λ a b. refl);
+    }
+
 -- newEdge leaves everything, or appends its edge
 pub leaves-all : (s : Lent) (t t1 t2 : ℕ) → AddsNothing s t1 t2 → leaves (NewEdge t t1 t2) s ≡ s
 leaves-all s t t1 t2 p = ap (λ (b : Bool). cond b s (withEdge s t1 t2)) (adds-nothing s t1 t2 .1 p)
@@ -83,7 +90,7 @@ withMoved-is s t t' f = moved-is (s .edges) (s .held) t t' (f .edges-fit)
 
 -- the edges that newEdge leaves are the rule's
 newEdge-after :
-    (s : Lent) (t t1 t2 : ℕ) → TakenNewEdge s t1 t2
+    (s : Lent) (t t1 t2 : ℕ) → TakenNewEdge s t t1 t2
     → graph (leaves (NewEdge t t1 t2) s) ≡ record { status = graph s .status; edge = graph s .edge ∪ added (graph s) t1 t2 }
 unfolding withEdge
 newEdge-after s t t1 t2 h =
@@ -112,8 +119,13 @@ module _ (Free : (ℕ → ℕ → Bool) → Type 0) where
         target-in = shown-domain (s .vertices) (s .made) t2 (h .1 .target-made);
         target-waits =
             ⊎-elim
-            (λ p. inl (shown-as (s .vertices) (s .made) t2 NEW (h .1 .target-made) p))
-            (λ p. inr (shown-as (s .vertices) (s .made) t2 RELEASED (h .1 .target-made) p))
+            (λ p.
+            inl
+            (⊎-elim
+            (λ q. inl (shown-as (s .vertices) (s .made) t2 NEW (h .1 .target-made) q))
+            (λ q. inr (shown-as (s .vertices) (s .made) t2 RELEASED (h .1 .target-made) q))
+            p))
+            inr
             (h .1 .waits);
         after = newEdge-after s t t1 t2 (h .1);
         cycle-free = free;
@@ -140,3 +152,4 @@ module _ (Free : (ℕ → ℕ → Bool) → Type 0) where
   rule-of (Transfer t t') s reads h free = transfer-rule s t t' h free
   rule-of (Start t) s reads h free = start-rule s t reads h
   rule-of (Stop t) s reads h free = stop-rule s t h
+  rule-of (Yield t) s reads h free = yield-rule s t h

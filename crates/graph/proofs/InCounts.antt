@@ -15,7 +15,7 @@ use lib.ListN.{length-set}
 use lib.Dec.{eqb}
 use borrow.Author.Tests.{eq-eqb, eqb-true, ltb-true, not-true}
 use Rattle.graph.specs.declared.Command.{Command}
-use Rattle.graph.specs.declared.Command.the-variants.{NewTd, NewEdge, Release, Transfer, Start, Stop}
+use Rattle.graph.specs.declared.Command.the-variants.{NewTd, NewEdge, Release, Transfer, Start, Stop, Yield}
 use Rattle.graph.specs.Tables.{Lent, RELEASED, EXECUTING, FINISHED, vertexWords, statusWord, inCountWord, largestWord, vertexRows, edgeRows}
 use Rattle.graph.specs.Tables.{setStatus, inCount, clear}
 use Rattle.graph.specs.Answers.{Outcome, OpeningSaid, opened, unless}
@@ -107,6 +107,7 @@ leaves-true (Release t t') s h counts = withStatus-true s t' RELEASED counts
 leaves-true (Transfer t t') s h counts = withMoved-true s t t' counts
 leaves-true (Start t) s h counts = withStatus-true s t EXECUTING counts
 leaves-true (Stop t) s h counts = stopped-true s t (h .known) counts
+leaves-true (Yield t) s h counts = withStatus-true s t RELEASED counts
 
 -- "kept true by every command", a refused one included, on any tables
 pub stays-true : (c : Command) (s : Lent) → CountsTrue s → CountsTrue (command c s .after)

@@ -6,7 +6,7 @@ use mathlib.Core.List.{List}
 use native.Mathlib.Omega.{arith}
 use lib.ListN.{length-set}
 use Rattle.graph.specs.declared.Command.{Command}
-use Rattle.graph.specs.declared.Command.the-variants.{NewTd, NewEdge, Release, Transfer, Start, Stop}
+use Rattle.graph.specs.declared.Command.the-variants.{NewTd, NewEdge, Release, Transfer, Start, Stop, Yield}
 use Rattle.graph.specs.Tables.{Lent, RELEASED, EXECUTING, FINISHED, statusWord, vertexRows, edgeRows, status, setStatus}
 use Rattle.graph.specs.Commands.{withStatus, withVertex, withEdge, withMoved, stopped, newRow}
 use Rattle.graph.specs.Demand2.{NoneTwice}
@@ -109,6 +109,7 @@ leaves-fits (Release t t') s f h = withStatus-fits s t' RELEASED (h .1) (omega a
 leaves-fits (Transfer t t') s f h = withMoved-fits s t t' (h .1 .is-made) f
 leaves-fits (Start t) s f h = withStatus-fits s t EXECUTING (h .1) (omega arith) f
 leaves-fits (Stop t) s f h = stopped-fits s t (h .is-made) f
+leaves-fits (Yield t) s f h = withStatus-fits s t RELEASED (h .is-made) (omega arith) f
 
 -- no edge comes to be held twice
 pub leaves-once : (c : Command) (s : Lent) → Taken c s → NoneTwice (s .edges) (s .held) → NoneTwice (leaves c s .edges) (leaves c s .held)
@@ -128,3 +129,4 @@ leaves-once (Transfer t t') s h none =
     none
 leaves-once (Start t) s h none = none
 leaves-once (Stop t) s h none = without-once t (s .edges) (s .held) none
+leaves-once (Yield t) s h none = none

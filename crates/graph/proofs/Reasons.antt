@@ -16,7 +16,7 @@ use native.Mathlib.Omega.{arith}
 use lib.Dec.{eqb, ltb, leb}
 use borrow.Author.Tests.{ltb-true, ltb-false, le-ltb, leb-false, lt-leb, eqb-true, eqb-false, eq-eqb, ne-eqb, not-false}
 use Rattle.graph.specs.declared.Command.{Command}
-use Rattle.graph.specs.declared.Command.the-variants.{NewTd, NewEdge, Release, Transfer, Start, Stop}
+use Rattle.graph.specs.declared.Command.the-variants.{NewTd, NewEdge, Release, Transfer, Start, Stop, Yield}
 use Rattle.graph.specs.Tests.{both, either, any, every}
 use Rattle.graph.specs.Tables.{Lent, NEW, RELEASED, EXECUTING, FINISHED, status, inCount}
 use Rattle.refusal.specs.Refusals.{edge-leads-in, closes-cycle, unsound-tables, no-such-vertex, caller-not-executing}
@@ -24,7 +24,7 @@ use Rattle.graph.specs.Answers.{CommandSaid, accepted, unless}
 use Rattle.graph.specs.Sound.{tallyFits, statusKnown, statusesKnown, endsMade, edgesMade, sound}
 use Rattle.graph.specs.Paths.{leadsInto, leadsOutOf, reaches}
 use Rattle.graph.specs.Commands.{isMade, targetReaches, callerRefusal, newTdRefusal, endsRefusal, appendRefusal, newEdgeRefusal}
-use Rattle.graph.specs.Commands.{releaseRefusal, transferRefusal, startRefusal, stopRefusal, command}
+use Rattle.graph.specs.Commands.{releaseRefusal, transferRefusal, startRefusal, stopRefusal, yieldRefusal, command}
 use Rattle.graph.specs.InCounts.{CountTrue}
 use Rattle.graph.specs.Demand2.{Reasons, no-more, refused-where, accepted-where, RefusalDue, NoneDue, NoneBefore, reasons}
 use Rattle.graph.specs.Demand2.{TallyOver, OutsideAt, Unsound, HasStatus, EdgeOutOf, EdgeInto, NewEdgeCycle, TransferCycle}
@@ -110,6 +110,13 @@ pub both-fails : {a b : Bool} {P Q : Type 0} → (a ≡ false) ↔ P → (b ≡ 
 unfolding both
 both-fails {a = true} p q = (λ h. inr (q .0 h), ⊎-elim (λ x. true-false refl (p .1 x)) (q .1))
 both-fails {a = false} p q = (λ h. inl (p .0 refl), λ x. refl)
+
+-- neither: each of them fails
+either-fails : {a b : Bool} {P Q : Type 0} → (a ≡ false) ↔ P → (b ≡ false) ↔ Q → (either a b ≡ false) ↔ (P × Q)
+either-fails {a} {b} p q = (
+  λ h. (p .0 (either-false-left a b h), q .0 (either-false-right a b h)),
+  λ h. either-false (p .1 (h .0)) (q .1 (h .1)),
+)
 
 -- two tests of one reason
 both-same : {a b : Bool} {P : Type 0} → (a ≡ false) ↔ P → (b ≡ false) ↔ P → (both a b ≡ false) ↔ P
@@ -197,7 +204,7 @@ caller-tells s t a b d own =
 
 -- The chain of each command, link by link: each test decides its reason.
 refusal-tells : (c : Command) (s : Lent) → Tells (reasons c s) (refusal c s)
-unfolding newTdRefusal endsRefusal appendRefusal newEdgeRefusal releaseRefusal transferRefusal startRefusal stopRefusal
+unfolding newTdRefusal endsRefusal appendRefusal newEdgeRefusal releaseRefusal transferRefusal startRefusal stopRefusal yieldRefusal
 refusal-tells (NewTd t place scope) s =
     let made = full-decides t (s .made) in
     caller-tells s t t t (both-same made (both-same made made)) (λ known.
@@ -205,7 +212,7 @@ refusal-tells (NewTd t place scope) s =
     ends))
 refusal-tells (NewEdge t t1 t2) s =
     caller-tells s t t1 t2 (both-fails (full-decides t _) (both-fails (full-decides t1 _) (full-decides t2 _))) (λ known.
-    refuses (not-waiting _ known) (λ waits.
+    refuses (either-fails (ne-decides t2 t) (not-waiting _ known)) (λ waits.
     accepts (adds-nothing s t1 t2) (λ adds.
     refuses (negated (newEdge-decides s t1 t2)) (λ no-path.
     refuses (full-decides _ _) (λ free.
@@ -232,6 +239,9 @@ refusal-tells (Start t) s =
     refuses (ne-decides _ 0) (λ none-in.
     ends)))))))
 refusal-tells (Stop t) s =
+    let made = full-decides t (s .made) in
+    caller-tells s t t t (both-same made (both-same made made)) (λ known. ends)
+refusal-tells (Yield t) s =
     let made = full-decides t (s .made) in
     caller-tells s t t t (both-same made (both-same made made)) (λ known. ends)
 
@@ -284,6 +294,7 @@ never-34 c s p h = never-due 34 (reasons c s) (without c) (command-refused c s 3
     without (Transfer t t') = (omega arith, (omega arith, (omega arith, (omega arith, (omega arith, (omega arith, tt))))))
     without (Start t) = (omega arith, (omega arith, (omega arith, (omega arith, (omega arith, (omega arith, (omega arith, tt)))))))
     without (Stop t) = (omega arith, (omega arith, (omega arith, tt)))
+    without (Yield t) = (omega arith, (omega arith, (omega arith, tt)))
 
 -- A command is accepted exactly where no refusal is due.
 pub command-accepted : (c : Command) (s : Lent) → (accepted (command c s .answer) ≡ true) ↔ NoneDue (reasons c s)

@@ -1,4 +1,4 @@
--- When a command is taken. Each of the six is decided by its chain of refusals, and the chain gives 0 exactly if the facts of
+-- When a command is taken. Each of the seven is decided by its chain of refusals, and the chain gives 0 exactly if the facts of
 -- `Taken` hold, which say what the tests find in words of numbers and paths.
 use Prim.Native.Nat.{ℕ, _<_, _≤_}
 use mathlib.Core.Path.{_≡_, refl, _∙_, ap}
@@ -9,7 +9,7 @@ use native.Mathlib.Omega.{arith}
 use lib.Dec.{eqb}
 use borrow.Author.Tests.{lt-ltb, ltb-true, le-leb, leb-true, eq-eqb, ne-eqb, eqb-true, eqb-false, not-true}
 use Rattle.graph.specs.declared.Command.{Command}
-use Rattle.graph.specs.declared.Command.the-variants.{NewTd, NewEdge, Release, Transfer, Start, Stop}
+use Rattle.graph.specs.declared.Command.the-variants.{NewTd, NewEdge, Release, Transfer, Start, Stop, Yield}
 use Rattle.graph.specs.Tables.{Lent, NEW, RELEASED, EXECUTING, FINISHED, vertexRows, edgeRows, status, inCount}
 use Rattle.refusal.specs.Refusals.{unsound-tables}
 use Rattle.graph.specs.Answers.{CommandSaid, accepted, decided}
@@ -17,7 +17,7 @@ use Rattle.graph.specs.Sound.{tallyFits, statusKnown, sound}
 use Rattle.graph.specs.Paths.{holds, leadsOutOf, reaches}
 use Rattle.graph.specs.Commands.{withStatus, withVertex, withEdge, withMoved, stopped, callerRefusal, newTdRefusal, endsRefusal}
 use Rattle.graph.specs.Commands.{addsNothing, appendRefusal, newEdgeRefusal, releaseRefusal, transferRefusal, startRefusal, stopRefusal}
-use Rattle.graph.specs.Commands.{targetReaches, newTd, newEdge, release, transfer, start, stop, command}
+use Rattle.graph.specs.Commands.{yieldRefusal, targetReaches, newTd, newEdge, release, transfer, start, stop, yield, command}
 use Rattle.graph.specs.Demand2.{AddsNothing, RowFree}
 use Rattle.graph.specs.Internal.Checks.{isStart}
 use Rattle.graph.proofs.TestLaws.{true-false, both-true, both-left, both-right, either-cases, either-left, either-right, either-false}
@@ -35,6 +35,7 @@ refusal (Release t t') s = releaseRefusal s t t'
 refusal (Transfer t t') s = transferRefusal s t t'
 refusal (Start t) s = startRefusal s t
 refusal (Stop t) s = stopRefusal s t
+refusal (Yield t) s = yieldRefusal s t
 
 abbrev pub says : Command → Lent → CommandSaid
 says (NewTd t place scope) s = CommandSaid.new (s .made)
@@ -43,6 +44,7 @@ says (Release t t') s = CommandSaid.release t'
 says (Transfer t t') s = CommandSaid.transfer t'
 says (Start t) s = CommandSaid.start
 says (Stop t) s = CommandSaid.stop
+says (Yield t) s = CommandSaid.yield
 
 abbrev pub leaves : Command → Lent → Lent
 leaves (NewTd t place scope) s = withVertex s t place scope
@@ -51,15 +53,17 @@ leaves (Release t t') s = withStatus s t' RELEASED
 leaves (Transfer t t') s = withMoved s t t'
 leaves (Start t) s = withStatus s t EXECUTING
 leaves (Stop t) s = stopped s t
+leaves (Yield t) s = withStatus s t RELEASED
 
 command-is : (c : Command) (s : Lent) → command c s ≡ decided s (refusal c s) (says c s) (leaves c s)
-unfolding command newTd newEdge release transfer start stop
+unfolding command newTd newEdge release transfer start stop yield
 command-is (NewTd t place scope) s = refl
 command-is (NewEdge t t1 t2) s = refl
 command-is (Release t t') s = refl
 command-is (Transfer t t') s = refl
 command-is (Start t) s = refl
 command-is (Stop t) s = refl
+command-is (Yield t) s = refl
 
 pub says-accepted : (c : Command) (s : Lent) → accepted (says c s) ≡ true
 says-accepted (NewTd t place scope) s = refl
@@ -68,6 +72,7 @@ says-accepted (Release t t') s = refl
 says-accepted (Transfer t t') s = refl
 says-accepted (Start t) s = refl
 says-accepted (Stop t) s = refl
+says-accepted (Yield t) s = refl
 
 -- a command is accepted exactly if no refusal is due, and then leaves what it is to leave
 pub not-refused : (c : Command) (s : Lent) → accepted (command c s .answer) ≡ true → refusal c s ≡ 0
@@ -97,13 +102,14 @@ after-either P c s p q = rw (command-is c s) (decided-either P s (refusal c s) (
 
 -- unsound tables refuse every command but start first of all
 unsound-refusal : (c : Command) (s : Lent) → isStart c ≡ false → sound s ≡ false → refusal c s ≡ unsound-tables
-unfolding callerRefusal newTdRefusal endsRefusal newEdgeRefusal releaseRefusal transferRefusal stopRefusal isStart
+unfolding callerRefusal newTdRefusal endsRefusal newEdgeRefusal releaseRefusal transferRefusal stopRefusal yieldRefusal isStart
 unsound-refusal (NewTd t place scope) s other h = unless-stop _ _ h
 unsound-refusal (NewEdge t t1 t2) s other h = unless-stop _ _ h
 unsound-refusal (Release t t') s other h = unless-stop _ _ h
 unsound-refusal (Transfer t t') s other h = unless-stop _ _ h
 unsound-refusal (Start t) s other h = true-false refl other
 unsound-refusal (Stop t) s other h = unless-stop _ _ h
+unsound-refusal (Yield t) s other h = unless-stop _ _ h
 
 pub unsound :
     (c : Command) (s : Lent) → isStart c ≡ false → sound s ≡ false
@@ -125,10 +131,14 @@ pub record Adds (s : Lent) (t1 t2 : ℕ) : Type 0 where
   pub no-path : reaches (s .edges) (s .held) t2 t1 ≡ false
   pub row-free : s .held < edgeRows (s .edges)
 
-pub record TakenNewEdge (s : Lent) (t1 t2 : ℕ) : Type 0 where
+-- a vertex that an edge of the caller t may lead into: one that is new or released, or t
+abbrev pub Target : Lent → ℕ → ℕ → Type 0
+Target s t t2 = ((status (s .vertices) t2 ≡ NEW) ⊎ (status (s .vertices) t2 ≡ RELEASED)) ⊎ (t2 ≡ t)
+
+pub record TakenNewEdge (s : Lent) (t t1 t2 : ℕ) : Type 0 where
   pub source-made : t1 < s .made
   pub target-made : t2 < s .made
-  pub waits : (status (s .vertices) t2 ≡ NEW) ⊎ (status (s .vertices) t2 ≡ RELEASED)
+  pub waits : Target s t t2
   pub adds : AddsNothing s t1 t2 ⊎ Adds s t1 t2
 
 pub record TakenTransfer (s : Lent) (t t' : ℕ) : Type 0 where
@@ -147,11 +157,12 @@ TakenStart s t =
 
 abbrev pub Taken : Command → Lent → Type 0
 Taken (NewTd t place scope) s = Runs s t × (s .made < vertexRows (s .vertices))
-Taken (NewEdge t t1 t2) s = Runs s t × TakenNewEdge s t1 t2
+Taken (NewEdge t t1 t2) s = Runs s t × TakenNewEdge s t t1 t2
 Taken (Release t t') s = Runs s t × (t' < s .made) × (status (s .vertices) t' ≡ NEW)
 Taken (Transfer t t') s = Runs s t × TakenTransfer s t t'
 Taken (Start t) s = TakenStart s t
 Taken (Stop t) s = Runs s t
+Taken (Yield t) s = Runs s t
 
 -- each chain, taken apart into its tests and put together again; first the refusals that begin the chain of a caller
 pub taken-caller : (s : Lent) (t a b own : ℕ) → (callerRefusal s t a b own ≡ 0) ↔ (Runs s t × (a < s .made) × (b < s .made) × (own ≡ 0))
@@ -185,20 +196,23 @@ taken-newTd s t = (
 pub taken-ends :
     (s : Lent) (t t1 t2 own : ℕ)
     → (endsRefusal s t t1 t2 own ≡ 0)
-    ↔ (Runs s t × (t1 < s .made) × (t2 < s .made) × ((status (s .vertices) t2 ≡ NEW) ⊎ (status (s .vertices) t2 ≡ RELEASED)) × (own ≡ 0))
+    ↔ (Runs s t × (t1 < s .made) × (t2 < s .made) × Target s t t2 × (own ≡ 0))
 unfolding endsRefusal
 taken-ends s t t1 t2 own = (
   λ h.
       let (runs, source-made, target-made, rest) = taken-caller s t t1 t2 _ .0 h in
       let (waits, last) = unless-none _ _ _ rest in
-      (runs, source-made, target-made, ⊎-elim (λ p. inl (eqb-true _ _ p)) (λ p. inr (eqb-true _ _ p)) (either-cases _ _ waits), last),
+      let target : Target s t t2 =
+      ⊎-elim (λ p. inr (eqb-true _ _ p))
+      (λ p. inl (⊎-elim (λ q. inl (eqb-true _ _ q)) (λ q. inr (eqb-true _ _ q)) (either-cases _ _ p)))
+      (either-cases _ _ waits) in
+      (runs, source-made, target-made, target, last),
   λ h.
-      taken-caller s t t1 t2 _ .1 (
-        h .0,
-        h .1,
-        h .2,
-        unless-all _ (⊎-elim (λ p. either-left _ (eq-eqb _ _ p)) (λ p. either-right _ (eq-eqb _ _ p)) (h .3)) (h .4),
-      ),
+      let waits =
+      ⊎-elim (λ p. either-right _ (⊎-elim (λ q. either-left _ (eq-eqb _ _ q)) (λ q. either-right _ (eq-eqb _ _ q)) p))
+      (λ p. either-left _ (eq-eqb _ _ p))
+      (h .3) in
+      taken-caller s t t1 t2 _ .1 (h .0, h .1, h .2, unless-all _ waits (h .4)),
 )
 
 pub adds-nothing : (s : Lent) (t1 t2 : ℕ) → (addsNothing s t1 t2 ≡ true) ↔ AddsNothing s t1 t2
@@ -244,7 +258,7 @@ cond-right : (b : Bool) {m : ℕ} → m ≡ 0 → cond b 0 m ≡ 0
 cond-right true p = refl
 cond-right false p = p
 
-taken-newEdge : (s : Lent) (t t1 t2 : ℕ) → (newEdgeRefusal s t t1 t2 ≡ 0) ↔ (Runs s t × TakenNewEdge s t1 t2)
+taken-newEdge : (s : Lent) (t t1 t2 : ℕ) → (newEdgeRefusal s t t1 t2 ≡ 0) ↔ (Runs s t × TakenNewEdge s t t1 t2)
 unfolding newEdgeRefusal
 taken-newEdge s t t1 t2 = (
   λ h.
@@ -329,9 +343,17 @@ taken-start s t = (
       (unless-all _ (not-of-false (ne-eqb (status (s .vertices) t) FINISHED (omega (arith, h .2)))) (unless-all _ (eq-eqb _ _ (h .3)) refl)))))),
 )
 
+-- a command that names its caller alone, and has no refusal of its own
+taken-alone : (s : Lent) (t : ℕ) → (callerRefusal s t t t 0 ≡ 0) ↔ Runs s t
+taken-alone s t = (λ h. taken-caller s t t t 0 .0 h .0, λ h. taken-caller s t t t 0 .1 (h, h .is-made, h .is-made, refl))
+
 taken-stop : (s : Lent) (t : ℕ) → (stopRefusal s t ≡ 0) ↔ Runs s t
 unfolding stopRefusal
-taken-stop s t = (λ h. taken-caller s t t t 0 .0 h .0, λ h. taken-caller s t t t 0 .1 (h, h .is-made, h .is-made, refl))
+taken-stop s t = taken-alone s t
+
+taken-yield : (s : Lent) (t : ℕ) → (yieldRefusal s t ≡ 0) ↔ Runs s t
+unfolding yieldRefusal
+taken-yield s t = taken-alone s t
 
 pub taken : (c : Command) (s : Lent) → (refusal c s ≡ 0) ↔ Taken c s
 taken (NewTd t place scope) s = taken-newTd s t
@@ -340,6 +362,7 @@ taken (Release t t') s = taken-release s t t'
 taken (Transfer t t') s = taken-transfer s t t'
 taken (Start t) s = taken-start s t
 taken (Stop t) s = taken-stop s t
+taken (Yield t) s = taken-yield s t
 
 -- the row that a command needs was free
 pub row-free-of : (c : Command) (s : Lent) → Taken c s → RowFree c s
@@ -349,6 +372,7 @@ row-free-of (Release t t') s h = tt
 row-free-of (Transfer t t') s h = tt
 row-free-of (Start t) s h = tt
 row-free-of (Stop t) s h = tt
+row-free-of (Yield t) s h = tt
 
 -- the tally of tables that take a command fits the rows
 runs-rows : (s : Lent) (t : ℕ) → Runs s t → (s .made ≤ vertexRows (s .vertices)) × (s .held ≤ edgeRows (s .edges))
@@ -361,3 +385,4 @@ taken-rows (Release t t') s h = runs-rows s t (h .0)
 taken-rows (Transfer t t') s h = runs-rows s t (h .0)
 taken-rows (Start t) s h = fits-rows _ _ _ _ (h .0)
 taken-rows (Stop t) s h = runs-rows s t h
+taken-rows (Yield t) s h = runs-rows s t h

@@ -10,7 +10,7 @@ use lib.Seq.{getD-set-other}
 use lib.Dec.{ltb}
 use borrow.Author.Tests.{ltb-true, ltb-false}
 use Rattle.graph.specs.declared.Command.{Command}
-use Rattle.graph.specs.declared.Command.the-variants.{NewTd, NewEdge, Release, Transfer, Start, Stop}
+use Rattle.graph.specs.declared.Command.the-variants.{NewTd, NewEdge, Release, Transfer, Start, Stop, Yield}
 use Rattle.graph.specs.Tables.{Lent, RELEASED, EXECUTING, FINISHED, vertexWords, edgeWords, statusWord, sourceWord, edgeRows, source, setStatus}
 use Rattle.graph.specs.Commands.{addsNothing, withVertex, withEdge, withMoved, moved, stopped}
 use Rattle.graph.specs.Demand2.{VertexWordOf, EdgeWordOf, SameBut, NewRowOf}
@@ -61,6 +61,7 @@ vertex-words-of (Stop t) s =
       length-lowered t (s .edges) _ (s .held) ∙ len,
       λ i f. lowered-out t (s .edges) _ (s .held) i (λ q. f (inr q)) ∙ words i (λ q. f (inl q)),
     )
+vertex-words-of (Yield t) s = same-but-status (s .vertices) t RELEASED
 
 pub edge-words-of : (c : Command) (s : Lent) → s .held ≤ edgeRows (s .edges) → SameBut (EdgeWordOf c s) (s .edges) (leaves c s .edges)
 unfolding withVertex withEdge withMoved stopped
@@ -81,6 +82,7 @@ edge-words-of (Stop t) s le =
   where
     not-below : {i k : ℕ} → (i < k → ⊥) → k ≤ i
     not-below f = omega arith
+edge-words-of (Yield t) s le = same-all (λ i. ⊥) (s .edges)
 
 pub new-row-of : (c : Command) (s : Lent) → Taken c s → NewRowOf c s (leaves c s)
 unfolding withVertex
@@ -97,6 +99,7 @@ new-row-of (Release t t') s h = tt
 new-row-of (Transfer t t') s h = tt
 new-row-of (Start t) s h = tt
 new-row-of (Stop t) s h = tt
+new-row-of (Yield t) s h = tt
 
 pub steps-kept-of : (c : Command) (s : Lent) → leaves c s .steps ≡ s .steps
 unfolding withVertex withEdge withMoved stopped
@@ -110,3 +113,4 @@ steps-kept-of (Release t t') s = refl
 steps-kept-of (Transfer t t') s = refl
 steps-kept-of (Start t) s = refl
 steps-kept-of (Stop t) s = refl
+steps-kept-of (Yield t) s = refl

@@ -3,7 +3,7 @@ use Prim.Native.Nat.{ℕ, zero, suc}
 use mathlib.Core.Bool.{Bool, true, false}
 use mathlib.Core.List.{List}
 use Rattle.graph.specs.declared.Answer.{Answer}
-use Rattle.graph.specs.declared.Answer.the-variants.{Start, New, Edge, Release, Transfer, Stop, Refused}
+use Rattle.graph.specs.declared.Answer.the-variants.{Start, New, Edge, Release, Transfer, Stop, Yield, Refused}
 use Rattle.graph.specs.declared.Done.{Done}
 use Rattle.graph.specs.declared.Opening.{Opening}
 use Rattle.graph.specs.declared.Opening.the-variants as of-opening
@@ -19,6 +19,7 @@ pub data CommandSaid : Type 0 where
   release : ℕ → CommandSaid
   transfer : ℕ → CommandSaid
   stop : CommandSaid
+  yield : CommandSaid
   refused : ℕ → ℕ → CommandSaid
 
 -- "Where an answer is an enum, a definition gives this paper's number and values for each of its cases"
@@ -29,6 +30,7 @@ said (Edge a b) = CommandSaid.edge a b
 said (Release v) = CommandSaid.release v
 said (Transfer v) = CommandSaid.transfer v
 said Stop = CommandSaid.stop
+said Yield = CommandSaid.yield
 said (Refused r) = CommandSaid.refused (r .number) (r .place)
 
 abbrev pub accepted : CommandSaid → Bool
@@ -38,6 +40,7 @@ accepted (edge a b) = true
 accepted (release v) = true
 accepted (transfer v) = true
 accepted stop = true
+accepted yield = true
 accepted (refused n p) = false
 
 -- what a call says, and what is lent afterwards

@@ -1,4 +1,4 @@
--- The opening and the six commands: for each the refusals in their order, and what an accepted call leaves (docs/ENGINE.md, "The six
+-- The opening and the seven commands: for each the refusals in their order, and what an accepted call leaves (docs/ENGINE.md, "The seven
 -- commands" and "Order of refusals").
 use Prim.Native.Nat.{ℕ, zero, suc, _+_, _-_, _*_}
 use mathlib.Core.Bool.{Bool, not, cond}
@@ -6,7 +6,7 @@ use mathlib.Core.List.{List, [], _∷_, _++_}
 use lib.ListN.{drop, replicate}
 use lib.Dec.{eqb, ltb}
 use Rattle.graph.specs.declared.Command.{Command}
-use Rattle.graph.specs.declared.Command.the-variants.{NewTd, NewEdge, Release, Transfer, Start, Stop}
+use Rattle.graph.specs.declared.Command.the-variants.{NewTd, NewEdge, Release, Transfer, Start, Stop, Yield}
 use Rattle.graph.specs.Tests.{both, either, any}
 use Rattle.graph.specs.Tables.{Lent, NEW, RELEASED, EXECUTING, FINISHED, vertexWords, edgeWords, placeWord, scopeWord, futureWord}
 use Rattle.graph.specs.Tables.{sourceWord, targetWord, vertexRows, edgeRows, vertexWord, status, setStatus, setVertexWord, setEdgeWord}
@@ -80,10 +80,12 @@ withVertex s t place scope =
 unfoldable pub newTd : Lent → ℕ → ℕ → ℕ → Outcome CommandSaid
 newTd s t place scope = decided s (newTdRefusal s t) (CommandSaid.new (s .made)) (withVertex s t place scope)
 
--- "newEdge t1 to t2: t2 is new or released." What else can be due follows.
+-- "newEdge t1 to t2: t2 is new or released", or the caller: "let newEdge also take the caller as its target"; "Edges may now lead into an
+-- executing vertex, so 33 spares the caller" (note 10). What else can be due follows.
 unfoldable pub endsRefusal : Lent → ℕ → ℕ → ℕ → ℕ → ℕ
 endsRefusal s t t1 t2 own =
-    callerRefusal s t t1 t2 (unless (either (hasStatus s t2 NEW) (hasStatus s t2 RELEASED)) target-not-waiting own)
+    callerRefusal s t t1 t2
+    (unless (either (eqb t2 t) (either (hasStatus s t2 NEW) (hasStatus s t2 RELEASED))) target-not-waiting own)
 
 -- "A finished t1 adds nothing and is accepted." "An edge held already is now accepted and changes nothing, tested before 35."
 -- (note 3)
@@ -223,7 +225,14 @@ stopped s t =
 unfoldable pub stop : Lent → ℕ → Outcome CommandSaid
 stop s t = decided s (stopRefusal s t) CommandSaid.stop (stopped s t)
 
--- the six commands as one
+-- "the command yield, which turns the executing caller released"; "yield meets 12, 20 and 30 only" (note 10)
+unfoldable pub yieldRefusal : Lent → ℕ → ℕ
+yieldRefusal s t = callerRefusal s t t t 0
+
+unfoldable pub yield : Lent → ℕ → Outcome CommandSaid
+yield s t = decided s (yieldRefusal s t) CommandSaid.yield (withStatus s t RELEASED)
+
+-- the seven commands as one
 unfoldable pub command : Command → Lent → Outcome CommandSaid
 command (NewTd t place scope) s = newTd s t place scope
 command (NewEdge t t1 t2) s = newEdge s t t1 t2
@@ -231,3 +240,4 @@ command (Release t t') s = release s t t'
 command (Transfer t t') s = transfer s t t'
 command (Start t) s = start s t
 command (Stop t) s = stop s t
+command (Yield t) s = yield s t

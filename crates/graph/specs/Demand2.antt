@@ -9,7 +9,7 @@ use mathlib.Core.List.{List}
 use lib.ListN.{length, getD}
 use lib.Dec.{ltb}
 use Rattle.graph.specs.declared.Command.{Command}
-use Rattle.graph.specs.declared.Command.the-variants.{NewTd, NewEdge, Release, Transfer, Start, Stop}
+use Rattle.graph.specs.declared.Command.the-variants.{NewTd, NewEdge, Release, Transfer, Start, Stop, Yield}
 use Rattle.graph.specs.Tables.{Lent, NEW, EXECUTING, FINISHED, vertexWords, edgeWords, statusWord, placeWord, scopeWord, futureWord}
 use Rattle.graph.specs.Tables.{inCountWord, sourceWord, vertexRows, edgeRows, vertexWord, status, inCount, source, target}
 use Rattle.refusal.specs.Refusals.{unsound-tables, no-such-vertex, edge-leads-in, vertex-is-new, vertex-is-finished, vertex-is-executing}
@@ -51,6 +51,7 @@ RowFree (Release t t') s = Unit {0}
 RowFree (Transfer t t') s = Unit {0}
 RowFree (Start t) s = Unit {0}
 RowFree (Stop t) s = Unit {0}
+RowFree (Yield t) s = Unit {0}
 
 -- "A command changes no other word of a row." The words of the vertex table that a command may change: the row of the vertex
 -- that it makes, the status of the one that it turns, and the number of edges into a vertex that gets or loses one (note 6).
@@ -63,6 +64,7 @@ VertexWordOf (Start t) s i = i ≡ vertexWords * t + statusWord
 VertexWordOf (Stop t) s i =
     (i ≡ vertexWords * t + statusWord)
     ⊎ ((j : ℕ) × (j < s .held) × (source (s .edges) j ≡ t) × (i ≡ vertexWords * target (s .edges) j + inCountWord))
+VertexWordOf (Yield t) s i = i ≡ vertexWords * t + statusWord
 
 -- The words of the edge table that a command may change: the row of the edge that it adds, if it adds one, the sources that it moves,
 -- the rows held before a stop.
@@ -74,6 +76,7 @@ EdgeWordOf (Release t t') s i = ⊥
 EdgeWordOf (Transfer t t') s i = (j : ℕ) × (j < s .held) × (source (s .edges) j ≡ t) × (i ≡ edgeWords * j + sourceWord)
 EdgeWordOf (Start t) s i = ⊥
 EdgeWordOf (Stop t) s i = i < edgeWords * s .held
+EdgeWordOf (Yield t) s i = ⊥
 
 -- l' is l but for the words of P
 abbrev pub SameBut : (ℕ → Type 0) → List ℕ → List ℕ → Type 0
@@ -96,6 +99,7 @@ NewRowOf (Release t t') s s' = Unit {0}
 NewRowOf (Transfer t t') s s' = Unit {0}
 NewRowOf (Start t) s s' = Unit {0}
 NewRowOf (Stop t) s s' = Unit {0}
+NewRowOf (Yield t) s s' = Unit {0}
 
 -- no edge is held twice: no two rows are the same
 abbrev pub NoneTwice : List ℕ → ℕ → Type 0
@@ -166,6 +170,7 @@ UnsoundFor (Release t t') s = Unsound s
 UnsoundFor (Transfer t t') s = Unsound s
 UnsoundFor (Start t) s = TallyOver s
 UnsoundFor (Stop t) s = Unsound s
+UnsoundFor (Yield t) s = Unsound s
 
 -- "20 no such vertex", of the caller and every vertex named
 abbrev pub NoSuchVertex : Lent → Command → Type 0
@@ -175,6 +180,7 @@ NoSuchVertex s (Release t t') = (s .made ≤ t) ⊎ (s .made ≤ t')
 NoSuchVertex s (Transfer t t') = (s .made ≤ t) ⊎ (s .made ≤ t')
 NoSuchVertex s (Start t) = s .made ≤ t
 NoSuchVertex s (Stop t) = s .made ≤ t
+NoSuchVertex s (Yield t) = s .made ≤ t
 
 -- a path of held edges leads from a to b
 abbrev pub Reaches : Lent → ℕ → ℕ → Type 0
@@ -190,14 +196,14 @@ TransferCycle s t t' =
 
 -- "newTd 30, 31; newEdge 30, 33, (finished source accepted), .. 35, 32; release 30, 36; transfer 30, 37, 38, 35; start 22, 39, 23, 21;
 -- stop 30"; "An edge held already is now accepted and changes nothing, tested before 35." (note 3); "on altered tables 21 follows the word"
--- (note 6)
+-- (note 6); "33 spares the caller; yield meets 12, 20 and 30 only" (note 10)
 abbrev pub ownReasons : Command → Lent → Reasons
 ownReasons (NewTd t place scope) s =
     refused-where (HasStatus s t EXECUTING → ⊥) caller-not-executing
     (refused-where (vertexRows (s .vertices) ≤ s .made) no-vertex-row no-more)
 ownReasons (NewEdge t t1 t2) s =
     refused-where (HasStatus s t EXECUTING → ⊥) caller-not-executing
-    (refused-where (HasStatus s t2 EXECUTING ⊎ HasStatus s t2 FINISHED) target-not-waiting
+    (refused-where ((t2 ≡ t → ⊥) × (HasStatus s t2 EXECUTING ⊎ HasStatus s t2 FINISHED)) target-not-waiting
     (accepted-where (AddsNothing s t1 t2)
     (refused-where (NewEdgeCycle s t1 t2) closes-cycle
     (refused-where (edgeRows (s .edges) ≤ s .held) no-edge-row no-more))))
@@ -216,6 +222,7 @@ ownReasons (Start t) s =
     (refused-where (HasStatus s t FINISHED) vertex-is-finished
     (refused-where (inCount (s .vertices) t ≡ 0 → ⊥) edge-leads-in no-more))))
 ownReasons (Stop t) s = refused-where (HasStatus s t EXECUTING → ⊥) caller-not-executing no-more
+ownReasons (Yield t) s = refused-where (HasStatus s t EXECUTING → ⊥) caller-not-executing no-more
 
 -- "Commands: 12, 20, then" its own
 abbrev pub reasons : Command → Lent → Reasons

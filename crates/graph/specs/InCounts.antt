@@ -5,7 +5,7 @@ use Prim.Native.Nat.{ℕ, _<_}
 use mathlib.Core.Path.{_≡_}
 use mathlib.Core.Bool.{not}
 use Rattle.graph.specs.declared.Command.{Command}
-use Rattle.graph.specs.declared.Command.the-variants.{NewTd, NewEdge, Release, Transfer, Start, Stop}
+use Rattle.graph.specs.declared.Command.the-variants.{NewTd, NewEdge, Release, Transfer, Start, Stop, Yield}
 use Rattle.graph.specs.Tables.{Lent, NEW, EXECUTING, FINISHED, inCount}
 use Rattle.refusal.specs.Refusals.{unsound-tables, no-such-vertex, edge-leads-in, vertex-is-new, vertex-is-finished, vertex-is-executing}
 use Rattle.graph.specs.Answers.{CommandSaid, Outcome, opened, unless, decided}
@@ -29,6 +29,7 @@ ReadsTrue (Release t t') s = Unit {0}
 ReadsTrue (Transfer t t') s = Unit {0}
 ReadsTrue (Start t) s = CountTrue s t
 ReadsTrue (Stop t) s = Unit {0}
+ReadsTrue (Yield t) s = Unit {0}
 
 -- "from .. opening on": this is lent after an opening onto s₀ and any single commands, refused ones included
 pub data Commanded (s₀ : Lent) : Lent → Type 0 where

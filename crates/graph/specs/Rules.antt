@@ -1,5 +1,5 @@
--- The rules "Operational Semantics (1)" and "(2)" as the slides print them (docs/ENGINE.md, "Where the rules come from"), of vertices with
--- statuses and a set of edges. A vertex's program, the memory σ and rule STEP are the host's and left out; so is the caller's own entry where a
+-- The rules "Operational Semantics (1)" and "(2)" as the slides print them, and NEWEDGE and YIELD as the article does (note 10; docs/ENGINE.md,
+-- "Where the rules come from"), of vertices with statuses and a set of edges. A vertex's program, the memory σ and rule STEP are the host's and left out; so is the caller's own entry where a
 -- rule leaves its status X.
 use Prim.Native.Nat.{ℕ}
 use mathlib.Core.Path.{_≡_}
@@ -8,7 +8,7 @@ use mathlib.Core.Bool.{Bool, true, false, not, cond}
 use mathlib.Core.Option.{Option, none, some}
 use lib.Dec.{eqb}
 use Rattle.graph.specs.declared.Command.{Command}
-use Rattle.graph.specs.declared.Command.the-variants.{NewTd, NewEdge, Release, Transfer, Start, Stop}
+use Rattle.graph.specs.declared.Command.the-variants.{NewTd, NewEdge, Release, Transfer, Start, Stop, Yield}
 use Rattle.graph.specs.Tests.{both, either}
 use Rattle.graph.specs.Tables.{NEW, RELEASED, EXECUTING, FINISHED}
 use Rattle.graph.specs.Paths.{CycleFree}
@@ -91,7 +91,8 @@ pub record NEWEDGE (Free : (ℕ → ℕ → Bool) → Type 0) (G : Graph) (t t1 
   pub caller : G .status t ≡ X
   pub source-in : inDomain G t1 ≡ true
   pub target-in : inDomain G t2 ≡ true
-  pub target-waits : (G .status t2 ≡ N) ⊎ (G .status t2 ≡ R)
+  -- status(V(t2)) ∈ {N, R} ∨ t2 = t
+  pub target-waits : ((G .status t2 ≡ N) ⊎ (G .status t2 ≡ R)) ⊎ (t2 ≡ t)
   pub after : G' ≡ record { status = G .status; edge = G .edge ∪ added G t1 t2 }
   pub cycle-free : Free (G' .edge)
 
@@ -102,6 +103,10 @@ pub record TRANSFER (Free : (ℕ → ℕ → Bool) → Type 0) (G : Graph) (t t'
   pub after : G' ≡ record { status = G .status; edge = (G .edge ∖ outOf G t) ∪ resourced G t t' }
   pub cycle-free : Free (G' .edge)
 
+pub record YIELD (G : Graph) (t : ℕ) (G' : Graph) : Type 0 where
+  pub caller : G .status t ≡ X
+  pub after : G' ≡ record { status = put (G .status) t R; edge = G .edge }
+
 -- The rule of each command. t' of NEWTD is any fresh vertex.
 abbrev pub Rule : ((ℕ → ℕ → Bool) → Type 0) → Command → Graph → Graph → Type 0
 Rule Free (NewTd t place scope) G G' = (t' : ℕ) × NEWTD G t t' G'
@@ -110,6 +115,7 @@ Rule Free (Release t t') G G' = RELEASE G t t' G'
 Rule Free (Transfer t t') G G' = TRANSFER Free G t t' G'
 Rule Free (Start t) G G' = START G t G'
 Rule Free (Stop t) G G' = STOP G t G'
+Rule Free (Yield t) G G' = YIELD G t G'
 
 -- the rule as it is printed
 abbrev pub Printed : Command → Graph → Graph → Type 0

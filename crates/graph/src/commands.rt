@@ -1,4 +1,4 @@
-// The opening and the six commands, with the tally by value. Each looks for the first refusal that is due, and stores only where there
+// The opening and the seven commands, with the tally by value. Each looks for the first refusal that is due, and stores only where there
 // is none.
 use crate::Answer;
 use crate::Command;
@@ -17,6 +17,7 @@ use crate::refusals::release_refusal;
 use crate::refusals::start_refusal;
 use crate::refusals::stop_refusal;
 use crate::refusals::transfer_refusal;
+use crate::refusals::yield_refusal;
 use crate::rows::EDGE_WORDS;
 use crate::rows::EXECUTING;
 use crate::rows::FINISHED;
@@ -41,7 +42,7 @@ ghost use Rattle.graph.specs.Sound.{sound};
 ghost use Rattle.graph.specs.Answers.{CommandSaid, said, outcome, openingOutcome};
 ghost use Rattle.graph.specs.Tests.{either};
 ghost use Rattle.graph.specs.Internal.Checks.{isStart};
-ghost use Rattle.graph.specs.Commands.{opening, newTd, newEdge, release, transfer, start, stop, command};
+ghost use Rattle.graph.specs.Commands.{opening, newTd, newEdge, release, transfer, start, stop, yield, command};
 
 // A refused command: the tally is as it was.
 fn refused(number: u32, tally: Tally) -> Done
@@ -217,6 +218,22 @@ fn stop(vertices: &mut [u32], edges: &mut [u32], tally: Tally, caller: u32) -> D
     }
 }
 
+// Turns `caller` released, so that it can start again. Its edges stay.
+fn yield_caller(vertices: &mut [u32], edges: &[u32], tally: Tally, caller: u32) -> Done
+    requires { ⌜ sound (lent (now vertices) (now edges) tally) ≡ true ⌝ }
+    ensures { λ r. ⌜ outcome r (now (vertices .exit)) (now (edges .entry)) ≡ yield (lent (now (vertices .entry)) (now (edges .entry)) tally) caller ⌝ }
+{
+    let refusal = yield_refusal(vertices, edges, tally, caller);
+    if refusal != ACCEPTED {
+        return refused(refusal, tally);
+    }
+    set_status(vertices, caller as usize, RELEASED);
+    Done {
+        answer: Answer::Yield,
+        tally,
+    }
+}
+
 // Any single command.
 pub fn command_by_value(
     vertices: &mut [u32],
@@ -252,6 +269,7 @@ fn is_start(given: Command) -> bool
         Command::Release { caller, vertex } => false,
         Command::Transfer { caller, vertex } => false,
         Command::Stop { caller } => false,
+        Command::Yield { caller } => false,
     }
 }
 
@@ -280,5 +298,6 @@ pub fn command_checked(
         Command::Transfer { caller, vertex } => transfer(vertices, edges, tally, caller, vertex),
         Command::Start { vertex } => start(vertices, edges, tally, vertex),
         Command::Stop { caller } => stop(vertices, edges, tally, caller),
+        Command::Yield { caller } => yield_caller(vertices, edges, tally, caller),
     }
 }

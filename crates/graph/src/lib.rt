@@ -1,4 +1,4 @@
-// The task graph of the dag-calculus in lent tables: the opening and the six commands.
+// The task graph of the dag-calculus in lent tables: the opening and the seven commands.
 //
 // Everything that is kept between calls is lent by the caller: a table of vertex rows, a table of edge rows and the tally. Each call
 // ends in an accepted command or in a numbered refusal that changed nothing. What each function does is an equation with a
@@ -47,6 +47,9 @@ pub enum Command {
     Stop {
         caller: u32,
     },
+    Yield {
+        caller: u32,
+    },
 }
 
 // What the opening answers.
@@ -69,6 +72,7 @@ pub enum Answer {
     Release(u32),
     Transfer(u32),
     Stop,
+    Yield,
     Refused(Refusal),
 }
 

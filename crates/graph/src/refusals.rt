@@ -40,7 +40,7 @@ ghost use Rattle.graph.specs.Sound.{sound};
 ghost use Rattle.graph.specs.Paths.{reaches};
 ghost use Rattle.graph.specs.Internal.Search.{Searchable};
 ghost use Rattle.graph.specs.Commands.{callerRefusal, newTdRefusal, endsRefusal, addsNothing, appendRefusal, newEdgeRefusal, releaseRefusal};
-ghost use Rattle.graph.specs.Commands.{transferRefusal, startRefusal, stopRefusal};
+ghost use Rattle.graph.specs.Commands.{transferRefusal, startRefusal, stopRefusal, yieldRefusal};
 
 // No refusal is due.
 pub const ACCEPTED: u32 = 0;
@@ -81,7 +81,7 @@ pub fn new_td_refusal(vertices: &[u32], edges: &[u32], tally: Tally, caller: u32
     ACCEPTED
 }
 
-// A vertex of this status may still get an edge in.
+// A vertex of this status may get an edge in, whoever calls.
 fn waits(status: u32) -> bool
     ensures { λ r. ⌜ r ≡ either (eqb status NEW) (eqb status RELEASED) ⌝ }
 {
@@ -102,7 +102,7 @@ fn closes_cycle(edges: &[u32], held: usize, source: u32, target: u32) -> bool
     reaches(edges, held, target, source)
 }
 
-// newEdge's refusals that its caller and its ends cause: 20, 30, 33.
+// newEdge's refusals that its caller and its ends cause: 20, 30, 33, which spares the caller.
 pub(crate) fn ends_refusal(
     vertices: &[u32],
     edges: &[u32],
@@ -118,10 +118,13 @@ pub(crate) fn ends_refusal(
     if first != ACCEPTED {
         return first;
     }
-    if !waits(vertices[VERTEX_WORDS * (target as usize) + STATUS]) {
-        return TARGET_NOT_WAITING;
+    if waits(vertices[VERTEX_WORDS * (target as usize) + STATUS]) {
+        return ACCEPTED;
     }
-    ACCEPTED
+    if target == caller {
+        return ACCEPTED;
+    }
+    TARGET_NOT_WAITING
 }
 
 // An edge from `source` to `target` adds nothing: its source is finished, or it is held already.
@@ -260,6 +263,14 @@ pub fn start_refusal(vertices: &[u32], edges: &[u32], tally: Tally, vertex: u32)
 pub fn stop_refusal(vertices: &[u32], edges: &[u32], tally: Tally, caller: u32) -> u32
     requires { ⌜ sound (lent (now vertices) (now edges) tally) ≡ true ⌝ }
     ensures { λ r. ⌜ r ≡ stopRefusal (lent (now (vertices .entry)) (now (edges .entry)) tally) caller ⌝ }
+{
+    caller_refusal(vertices, edges, tally, caller, caller, caller)
+}
+
+// yield: 20, 30.
+pub fn yield_refusal(vertices: &[u32], edges: &[u32], tally: Tally, caller: u32) -> u32
+    requires { ⌜ sound (lent (now vertices) (now edges) tally) ≡ true ⌝ }
+    ensures { λ r. ⌜ r ≡ yieldRefusal (lent (now (vertices .entry)) (now (edges .entry)) tally) caller ⌝ }
 {
     caller_refusal(vertices, edges, tally, caller, caller, caller)
 }

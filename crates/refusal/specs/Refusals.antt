@@ -94,7 +94,7 @@ no-vertex-row = 31
 abbrev pub no-edge-row : ℕ
 no-edge-row = 32
 
--- "33 target executing or finished"
+-- "33 target executing or finished"; "33 spares the caller" (note 10)
 abbrev pub target-not-waiting : ℕ
 target-not-waiting = 33
 
@@ -123,7 +123,11 @@ no-chain = 41
 abbrev pub list-too-short : ℕ
 list-too-short = 42
 
--- A HOST THAT ASKS FOR A COMMAND BY NUMBER
+-- A HOST THAT ASKS FOR A COMMAND OR AN EDITION BY NUMBER
+-- no edition has this number
+abbrev pub no-such-edition : ℕ
+no-such-edition = 98
+
 -- no command has this number
 abbrev pub no-such-command : ℕ
 no-such-command = 99

@@ -68,5 +68,7 @@ pub const NO_CHAIN: u32 = 41;
 
 pub const LIST_TOO_SHORT: u32 = 42;
 
-// A host that asks for a command by number.
+// A host that asks for a command or an edition by number.
+pub const NO_SUCH_EDITION: u32 = 98;
+
 pub const NO_SUCH_COMMAND: u32 = 99;

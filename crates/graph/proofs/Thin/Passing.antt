@@ -1,15 +1,16 @@
 -- The law of thin entries (`Entry.antt`) at five parameter lists. Each entry lends the tables on, has the tally behind a reference, and passes
--- everything else on as it is: a program before the tables, numbers or a value of a plain type behind the tally.
+-- everything else on as it is: a program before the tables, numbers or values of plain types behind the tally.
 --     bytes, tally         the parameters' places in a signature, beside those of `Meeting.antt`.        kept      the tally is had at exit
---     passed-program, passed-number    a program and a number, as parameters that are passed on
+--     passed-program       a program, as a parameter that is passed on
 --     Plain                a plain type, whose values are passed on: its MIR type, the machine value of each value, which is of that type, and that
 --                          whoever is handed a value has that machine value
---     still                its row
---     tables-meets, value-meets, numbers-meets, program-meets, program-number-meets
+--     still, value, passed-value       its row, its place in a signature, and a value of it as a parameter that is passed on
+--     numbers              the plain type of numbers
+--     tables-meets, value-meets, numbers-meets, program-value-meets, program-values-meets
 --                          an entry's routine meets its contract, from its core, which does, with these parameters beside the tally: the tables; the
---                          tables and a value of a plain type; the tables and four numbers; a program and the tables; a program, the tables and a
---                          number. They are told the types of the results and a relation Q between the program, what is lent, the value or the
---                          numbers, the answer and what is lent afterwards, which both ensure
+--                          tables and a value of a plain type; the tables and four numbers; a program, the tables and a value of a plain type; a
+--                          program, the tables and two such values. They are told the types of the results and of the values, and a relation Q
+--                          between the program, what is lent, the values or the numbers, the answer and what is lent afterwards, which both ensure
 -- At an entry, what they conclude is its statement, and what they ask of the code and of the core is what `rattle check` makes of both. antt
 -- sees that by computing, so an entry's proof says none of it.
 -- Assumes nothing.
@@ -73,9 +74,6 @@ module _ {M : Type 1} (𝓤 : URA M) (H : Heap 𝓤) (A : Atoms 𝓤) (W : Given
         typed = shr-slice-lawful 𝓤 H A W (named 0) κ u8 .typed x _ is .0;
       }
 
-  abbrev passed-number : (x : ℕ) → Is u32 x (uint-vals w32 x) → Passed
-  passed-number x is = record { row = u32; value = x; word = vint w32 x; type = numberTy; typed = uint-lawful 𝓤 H A W w32 .typed x _ is .0 }
-
 -- A PLAIN TYPE
 -- of one machine value; a parameter of it is seen at exit as it was passed
 pub record Plain : Type 2 where
@@ -97,6 +95,17 @@ still ν =
       exit = λ k. unchanged;
       coded = ν .row .coded;
     }
+
+abbrev value : {n : ℕ} → Plain → Slot n
+value ν = plain (λ _. still ν)
+
+module _ {M : Type 1} (𝓤 : URA M) (H : Heap 𝓤) (A : Atoms 𝓤) (W : Given 𝓤 H A) (ν : Plain) where
+  abbrev passed-value : (x : ν .row .Denot) → Is (ν .row) x (ν .word x ∷ []) → Passed
+  passed-value x is = record { row = still ν; value = x; word = ν .word x; type = ν .type; typed = ν .typed 𝓤 H A W x is .0 }
+
+-- the type of numbers
+abbrev pub numbers : Plain
+numbers = record { row = u32; type = numberTy; word = vint w32; tells = uint-tells w32; typed = λ 𝓤 H A W x is. uint-lawful 𝓤 H A W w32 .typed x _ is }
 
 -- THE TABLES
 module _ (ρ : Results) (Q : Lent → ρ .Answer .Denot → Lent → Type 0) where
@@ -149,15 +158,12 @@ module _ (ρ : Results) (Q : Lent → ρ .Answer .Denot → Lent → Type 0) whe
 
 -- THE TABLES AND A VALUE OF A PLAIN TYPE
 module _ (ρ : Results) (ν : Plain) (Q : Lent → ν .row .Denot → ρ .Answer .Denot → Lent → Type 0) where
-  abbrev value : {n : ℕ} → Slot n
-  value = plain (λ _. still ν)
-
   abbrev with-value : Thin
   with-value = record {
-    entry = takes 3 (table 0 tt ∷ table 1 tt ∷ tally 2 tt ∷ value ∷ []) (ρ .Answer);
+    entry = takes 3 (table 0 tt ∷ table 1 tt ∷ tally 2 tt ∷ value ν ∷ []) (ρ .Answer);
     ensures = λ κs a r e. Q (lent (a .0 .now) (a .1 .0 .now) (a .1 .1 .0 .now)) (a .1 .1 .1 .0) r (lent (e .0 .now) (e .1 .0 .now) (e .1 .1 .0 .now));
-    stayed = (gave 0 tt, (gave 1 tt, (kept 2 tt, (dropped value, tt))));
-    core = takes 2 (table 0 tt ∷ table 1 tt ∷ tally-itself ∷ value ∷ []) (ρ .Done);
+    stayed = (gave 0 tt, (gave 1 tt, (kept 2 tt, (dropped (value ν), tt))));
+    core = takes 2 (table 0 tt ∷ table 1 tt ∷ tally-itself ∷ value ν ∷ []) (ρ .Done);
     knows = λ κs a r e. Q (lent (a .0 .now) (a .1 .0 .now) (a .1 .1 .0)) (a .1 .1 .1 .0) (ρ .answer r) (lent (e .0 .now) (e .1 .0 .now) (ρ .tally r));
     code = thin ρ 3 (named 0) (named 1) (named 2) [] (ν .type ∷ []);
   }
@@ -167,11 +173,8 @@ module _ (ρ : Results) (ν : Plain) (Q : Lent → ν .row .Denot → ρ .Answer
       value-go : Go 𝓤 H with-value A W
       value-go = (
         goes-gave-slice 𝓤 H A W 3 0 tt number,
-        (goes-gave-slice 𝓤 H A W 3 1 tt number, (goes-ref 𝓤 H A W 3 2 tt tally-itself, (goes-dropped 𝓤 H A W 3 value yes (λ κs x f. refl), tt))),
+        (goes-gave-slice 𝓤 H A W 3 1 tt number, (goes-ref 𝓤 H A W 3 2 tt tally-itself, (goes-dropped 𝓤 H A W 3 (value ν) yes (λ κs x f. refl), tt))),
       )
-
-      abbrev passed-value : (x : ν .row .Denot) → Is (ν .row) x (ν .word x ∷ []) → Passed
-      passed-value x is = record { row = still ν; value = x; word = ν .word x; type = ν .type; typed = ν .typed 𝓤 H A W x is .0 }
 
       value-walk : (g : Name) → Walk 𝓤 H with-value A W g
       value-walk g C Λ fm known =
@@ -184,7 +187,7 @@ module _ (ρ : Results) (ν : Plain) (Q : Lent → ν .row .Denot → ρ .Answer
           2 (κs .0, (κs .1 .0, tt)) (qs .0, (qs .1 .0, tt)) (κs .1 .1 .0) (qs .1 .1 .0)
           -- the parameters
           [] (named 0) (named 1) (named 2) (κs .0) (κs .1 .0) (a .0) (a .1 .0) (a .1 .1 .0) (are .0 .0 .1) (are .1 .0 .0 .1)
-          (passed-value (a .1 .1 .1 .0) (are .1 .1 .1 .0) ∷ [])
+          (passed-value 𝓤 H A W ν (a .1 .1 .1 .0) (are .1 .1 .1 .0) ∷ [])
           -- what the core ensures, and the core
           (λ r v e. Q (lent (a .0 .now) (a .1 .0 .now) (a .1 .1 .0 .now)) (a .1 .1 .1 .0) (ρ .answer r) (lent v e (ρ .tally r))) 3 g _
           (known (
@@ -258,8 +261,9 @@ module _ (ρ : Results) (Q : Lent → ℕ → ℕ → ℕ → ℕ → ρ .Answer
           2 (κs .0, (κs .1 .0, tt)) (qs .0, (qs .1 .0, tt)) (κs .1 .1 .0) (qs .1 .1 .0)
           -- the parameters
           [] (named 0) (named 1) (named 2) (κs .0) (κs .1 .0) (a .0) (a .1 .0) (a .1 .1 .0) (are .0 .0 .1) (are .1 .0 .0 .1)
-          (passed-number 𝓤 H A W (a .1 .1 .1 .0) (are .1 .1 .1 .0) ∷ passed-number 𝓤 H A W (a .1 .1 .1 .1 .0) (are .1 .1 .1 .1 .0) ∷
-          passed-number 𝓤 H A W (a .1 .1 .1 .1 .1 .0) (are .1 .1 .1 .1 .1 .0) ∷ passed-number 𝓤 H A W (a .1 .1 .1 .1 .1 .1 .0) (are .1 .1 .1 .1 .1 .1 .0) ∷ [])
+          (passed-value 𝓤 H A W numbers (a .1 .1 .1 .0) (are .1 .1 .1 .0) ∷ passed-value 𝓤 H A W numbers (a .1 .1 .1 .1 .0) (are .1 .1 .1 .1 .0) ∷
+          passed-value 𝓤 H A W numbers (a .1 .1 .1 .1 .1 .0) (are .1 .1 .1 .1 .1 .0) ∷
+          passed-value 𝓤 H A W numbers (a .1 .1 .1 .1 .1 .1 .0) (are .1 .1 .1 .1 .1 .1 .0) ∷ [])
           -- what the core ensures, and the core
           (λ r v e. Q (lent (a .0 .now) (a .1 .0 .now) (a .1 .1 .0 .now)) (a .1 .1 .1 .0) (a .1 .1 .1 .1 .0) (a .1 .1 .1 .1 .1 .0)
           (a .1 .1 .1 .1 .1 .1 .0) (ρ .answer r) (lent v e (ρ .tally r)))
@@ -317,101 +321,42 @@ module _ (ρ : Results) (Q : Lent → ℕ → ℕ → ℕ → ℕ → ρ .Answer
     numbers-meets 𝓜 𝓖 𝓡 γ k g core =
         thin-meets 𝓤 H with-numbers 𝓜 𝓖 𝓡 γ k g core (numbers-go (𝓖 .A) (givenOf 𝓤 H 𝓜 𝓖)) (numbers-walk (𝓖 .A) (givenOf 𝓤 H 𝓜 𝓖) g)
 
--- A PROGRAM AND THE TABLES
-module _ (ρ : Results) (Q : List ℕ → Lent → ρ .Answer .Denot → Lent → Type 0) where
-  abbrev with-program : Thin
-  with-program = record {
-    entry = takes 4 (bytes 0 tt ∷ table 1 tt ∷ table 2 tt ∷ tally 3 tt ∷ []) (ρ .Answer);
-    ensures =
-        λ κs a r e. Q (a .0 .now) (lent (a .1 .0 .now) (a .1 .1 .0 .now) (a .1 .1 .1 .0 .now)) r (lent (e .1 .0 .now) (e .1 .1 .0 .now) (e .1 .1 .1 .0 .now));
-    stayed = (dropped (bytes 0 tt), (gave 1 tt, (gave 2 tt, (kept 3 tt, tt))));
-    core = takes 3 (bytes 0 tt ∷ table 1 tt ∷ table 2 tt ∷ tally-itself ∷ []) (ρ .Done);
-    knows =
-        λ κs a r e. Q (a .0 .now) (lent (a .1 .0 .now) (a .1 .1 .0 .now) (a .1 .1 .1 .0)) (ρ .answer r) (lent (e .1 .0 .now) (e .1 .1 .0 .now) (ρ .tally r));
-    code = thin ρ 4 (named 1) (named 2) (named 3) (programTy ∷ []) [];
-  }
-
-  module _ {M : Type 1} (𝓤 : URA M) (H : Heap 𝓤) where
-    module _ (A : Atoms 𝓤) (W : Given 𝓤 H A) where
-      program-go : Go 𝓤 H with-program A W
-      program-go = (
-        goes-dropped 𝓤 H A W 4 (bytes 0 tt) yes (λ κs x f. refl),
-        (goes-gave-slice 𝓤 H A W 4 1 tt number, (goes-gave-slice 𝓤 H A W 4 2 tt number, (goes-ref 𝓤 H A W 4 3 tt tally-itself, tt))),
-      )
-
-      program-walk : (g : Name) → Walk 𝓤 H with-program A W g
-      program-walk g C Λ fm known =
-          walked 𝓤 H A (with-program .entry) (with-program .stayed) (asked 𝓤 H with-program) (WpFn 𝓤 H C Λ (with-program .code g))
-          (λ κs. (slice-vals, (slice-vals, (slice-vals, (ptr-vals, tt)))))
-          (λ κs. (
-            shr-slice-tells (named 0) (κs .0) u8,
-            (mut-slice-tells (named 1) (κs .1 .0) u32, (mut-slice-tells (named 2) (κs .1 .1 .0) u32, (mut-tells (named 3) (κs .1 .1 .1 .0) T.the-row, tt))),
-          ))
-          (λ κs qs bounds a u are. via 𝓤 _ (fst∗ 𝓤 _ (emp 𝓤)) (entry-walk 𝓤 H A ρ W C Λ fm
-          -- the lifetimes, with the tally's apart
-          3 (κs .0, (κs .1 .0, (κs .1 .1 .0, tt))) (qs .0, (qs .1 .0, (qs .1 .1 .0, tt))) (κs .1 .1 .1 .0) (qs .1 .1 .1 .0)
-          -- the parameters
-          (passed-program 𝓤 H A W (κs .0) (a .0) (are .0) ∷ []) (named 1) (named 2) (named 3) (κs .1 .0) (κs .1 .1 .0) (a .1 .0) (a .1 .1 .0)
-          (a .1 .1 .1 .0) (are .1 .0 .0 .1) (are .1 .1 .0 .0 .1) []
-          -- what the core ensures, and the core
-          (λ r v e. Q (a .0 .now) (lent (a .1 .0 .now) (a .1 .1 .0 .now) (a .1 .1 .1 .0 .now)) (ρ .answer r) (lent v e (ρ .tally r))) 4 g _
-          (known (
-            (
-              (κs .0, (κs .1 .0, (κs .1 .1 .0, tt))),
-              (qs .0, (qs .1 .0, (qs .1 .1 .0, tt))),
-              tt,
-              (a .0, (a .1 .0, (a .1 .1 .0, (a .1 .1 .1 .0 .now, tt)))),
-              (slice-vals (a .0), (slice-vals (a .1 .0), (slice-vals (a .1 .1 .0), (tallyVal (a .1 .1 .1 .0 .now) ∷ [], tt)))),
-            ),
-            tt,
-          ))
-          -- the exit: what the core ensures is what is to be ensured
-          (λ r v e φ lv le. via 𝓤 _ (beside 𝓤 H A W _ φ)
-          (ends-at 𝓤 H A (with-program .entry) (with-program .stayed) (asked 𝓤 H with-program) W
-          ((κs, qs, bounds, a, (slice-vals (a .0), (slice-vals (a .1 .0), (slice-vals (a .1 .1 .0), (ptr-vals (a .1 .1 .1 .0), tt))))), u)
-          (ρ .answerVal (ρ .answer r)) (ρ .answer r) (tt, (v, (e, (ρ .tally r, tt)))) (tt, (lv, (le, (tt, tt))))))))
-
-    pub program-meets :
-        (𝓜 : Model 𝓤 H) (𝓖 : GhostRules 𝓤 H) (𝓡 : Running 𝓤 H 𝓜) (γ : Env) (k g : Name) (core : Routine) → Calling 𝓤 H with-program 𝓜 𝓖 𝓡 γ k g core
-    program-meets 𝓜 𝓖 𝓡 γ k g core =
-        thin-meets 𝓤 H with-program 𝓜 𝓖 𝓡 γ k g core (program-go (𝓖 .A) (givenOf 𝓤 H 𝓜 𝓖)) (program-walk (𝓖 .A) (givenOf 𝓤 H 𝓜 𝓖) g)
-
--- A PROGRAM, THE TABLES AND A NUMBER
-module _ (ρ : Results) (Q : List ℕ → Lent → ℕ → ρ .Answer .Denot → Lent → Type 0) where
-  abbrev with-program-number : Thin
-  with-program-number = record {
-    entry = takes 4 (bytes 0 tt ∷ table 1 tt ∷ table 2 tt ∷ tally 3 tt ∷ number ∷ []) (ρ .Answer);
+-- A PROGRAM, THE TABLES AND A VALUE OF A PLAIN TYPE
+module _ (ρ : Results) (ν : Plain) (Q : List ℕ → Lent → ν .row .Denot → ρ .Answer .Denot → Lent → Type 0) where
+  abbrev with-program-value : Thin
+  with-program-value = record {
+    entry = takes 4 (bytes 0 tt ∷ table 1 tt ∷ table 2 tt ∷ tally 3 tt ∷ value ν ∷ []) (ρ .Answer);
     ensures =
         λ κs a r e. Q (a .0 .now) (lent (a .1 .0 .now) (a .1 .1 .0 .now) (a .1 .1 .1 .0 .now)) (a .1 .1 .1 .1 .0) r
         (lent (e .1 .0 .now) (e .1 .1 .0 .now) (e .1 .1 .1 .0 .now));
-    stayed = (dropped (bytes 0 tt), (gave 1 tt, (gave 2 tt, (kept 3 tt, (dropped number, tt)))));
-    core = takes 3 (bytes 0 tt ∷ table 1 tt ∷ table 2 tt ∷ tally-itself ∷ number ∷ []) (ρ .Done);
+    stayed = (dropped (bytes 0 tt), (gave 1 tt, (gave 2 tt, (kept 3 tt, (dropped (value ν), tt)))));
+    core = takes 3 (bytes 0 tt ∷ table 1 tt ∷ table 2 tt ∷ tally-itself ∷ value ν ∷ []) (ρ .Done);
     knows =
         λ κs a r e. Q (a .0 .now) (lent (a .1 .0 .now) (a .1 .1 .0 .now) (a .1 .1 .1 .0)) (a .1 .1 .1 .1 .0) (ρ .answer r)
         (lent (e .1 .0 .now) (e .1 .1 .0 .now) (ρ .tally r));
-    code = thin ρ 4 (named 1) (named 2) (named 3) (programTy ∷ []) (numberTy ∷ []);
+    code = thin ρ 4 (named 1) (named 2) (named 3) (programTy ∷ []) (ν .type ∷ []);
   }
 
   module _ {M : Type 1} (𝓤 : URA M) (H : Heap 𝓤) where
     module _ (A : Atoms 𝓤) (W : Given 𝓤 H A) where
-      program-number-go : Go 𝓤 H with-program-number A W
-      program-number-go = (
+      program-value-go : Go 𝓤 H with-program-value A W
+      program-value-go = (
         goes-dropped 𝓤 H A W 4 (bytes 0 tt) yes (λ κs x f. refl),
         (
           goes-gave-slice 𝓤 H A W 4 1 tt number,
-          (goes-gave-slice 𝓤 H A W 4 2 tt number, (goes-ref 𝓤 H A W 4 3 tt tally-itself, (goes-dropped 𝓤 H A W 4 number yes (λ κs x f. refl), tt))),
+          (goes-gave-slice 𝓤 H A W 4 2 tt number, (goes-ref 𝓤 H A W 4 3 tt tally-itself, (goes-dropped 𝓤 H A W 4 (value ν) yes (λ κs x f. refl), tt))),
         ),
       )
 
-      program-number-walk : (g : Name) → Walk 𝓤 H with-program-number A W g
-      program-number-walk g C Λ fm known =
-          walked 𝓤 H A (with-program-number .entry) (with-program-number .stayed) (asked 𝓤 H with-program-number) (WpFn 𝓤 H C Λ (with-program-number .code g))
-          (λ κs. (slice-vals, (slice-vals, (slice-vals, (ptr-vals, (uint-vals w32, tt))))))
+      program-value-walk : (g : Name) → Walk 𝓤 H with-program-value A W g
+      program-value-walk g C Λ fm known =
+          walked 𝓤 H A (with-program-value .entry) (with-program-value .stayed) (asked 𝓤 H with-program-value) (WpFn 𝓤 H C Λ (with-program-value .code g))
+          (λ κs. (slice-vals, (slice-vals, (slice-vals, (ptr-vals, ((λ x. ν .word x ∷ []), tt))))))
           (λ κs. (
             shr-slice-tells (named 0) (κs .0) u8,
             (
               mut-slice-tells (named 1) (κs .1 .0) u32,
-              (mut-slice-tells (named 2) (κs .1 .1 .0) u32, (mut-tells (named 3) (κs .1 .1 .1 .0) T.the-row, (uint-tells w32, tt))),
+              (mut-slice-tells (named 2) (κs .1 .1 .0) u32, (mut-tells (named 3) (κs .1 .1 .1 .0) T.the-row, (ν .tells, tt))),
             ),
           ))
           (λ κs qs bounds a u are. via 𝓤 _ (fst∗ 𝓤 _ (emp 𝓤)) (entry-walk 𝓤 H A ρ W C Λ fm
@@ -419,7 +364,7 @@ module _ (ρ : Results) (Q : List ℕ → Lent → ℕ → ρ .Answer .Denot →
           3 (κs .0, (κs .1 .0, (κs .1 .1 .0, tt))) (qs .0, (qs .1 .0, (qs .1 .1 .0, tt))) (κs .1 .1 .1 .0) (qs .1 .1 .1 .0)
           -- the parameters
           (passed-program 𝓤 H A W (κs .0) (a .0) (are .0) ∷ []) (named 1) (named 2) (named 3) (κs .1 .0) (κs .1 .1 .0) (a .1 .0) (a .1 .1 .0)
-          (a .1 .1 .1 .0) (are .1 .0 .0 .1) (are .1 .1 .0 .0 .1) (passed-number 𝓤 H A W (a .1 .1 .1 .1 .0) (are .1 .1 .1 .1 .0) ∷ [])
+          (a .1 .1 .1 .0) (are .1 .0 .0 .1) (are .1 .1 .0 .0 .1) (passed-value 𝓤 H A W ν (a .1 .1 .1 .1 .0) (are .1 .1 .1 .1 .0) ∷ [])
           -- what the core ensures, and the core
           (λ r v e. Q (a .0 .now) (lent (a .1 .0 .now) (a .1 .1 .0 .now) (a .1 .1 .1 .0 .now)) (a .1 .1 .1 .1 .0) (ρ .answer r) (lent v e (ρ .tally r))) 4 g _
           (known (
@@ -430,26 +375,124 @@ module _ (ρ : Results) (Q : List ℕ → Lent → ℕ → ρ .Answer .Denot →
               (a .0, (a .1 .0, (a .1 .1 .0, (a .1 .1 .1 .0 .now, (a .1 .1 .1 .1 .0, tt))))),
               (
                 slice-vals (a .0),
-                (slice-vals (a .1 .0), (slice-vals (a .1 .1 .0), (tallyVal (a .1 .1 .1 .0 .now) ∷ [], (uint-vals w32 (a .1 .1 .1 .1 .0), tt)))),
+                (slice-vals (a .1 .0), (slice-vals (a .1 .1 .0), (tallyVal (a .1 .1 .1 .0 .now) ∷ [], (ν .word (a .1 .1 .1 .1 .0) ∷ [], tt)))),
               ),
             ),
             tt,
           ))
           -- the exit: what the core ensures is what is to be ensured
           (λ r v e φ lv le. via 𝓤 _ (beside 𝓤 H A W _ φ)
-          (ends-at 𝓤 H A (with-program-number .entry) (with-program-number .stayed) (asked 𝓤 H with-program-number) W (
+          (ends-at 𝓤 H A (with-program-value .entry) (with-program-value .stayed) (asked 𝓤 H with-program-value) W (
             (
               κs,
               qs,
               bounds,
               a,
-              (slice-vals (a .0), (slice-vals (a .1 .0), (slice-vals (a .1 .1 .0), (ptr-vals (a .1 .1 .1 .0), (uint-vals w32 (a .1 .1 .1 .1 .0), tt))))),
+              (slice-vals (a .0), (slice-vals (a .1 .0), (slice-vals (a .1 .1 .0), (ptr-vals (a .1 .1 .1 .0), (ν .word (a .1 .1 .1 .1 .0) ∷ [], tt))))),
             ),
             u,
           )
           (ρ .answerVal (ρ .answer r)) (ρ .answer r) (tt, (v, (e, (ρ .tally r, (tt, tt))))) (tt, (lv, (le, (tt, (tt, tt)))))))))
 
-    pub program-number-meets :
-        (𝓜 : Model 𝓤 H) (𝓖 : GhostRules 𝓤 H) (𝓡 : Running 𝓤 H 𝓜) (γ : Env) (k g : Name) (core : Routine) → Calling 𝓤 H with-program-number 𝓜 𝓖 𝓡 γ k g core
-    program-number-meets 𝓜 𝓖 𝓡 γ k g core =
-        thin-meets 𝓤 H with-program-number 𝓜 𝓖 𝓡 γ k g core (program-number-go (𝓖 .A) (givenOf 𝓤 H 𝓜 𝓖)) (program-number-walk (𝓖 .A) (givenOf 𝓤 H 𝓜 𝓖) g)
+    pub program-value-meets :
+        (𝓜 : Model 𝓤 H) (𝓖 : GhostRules 𝓤 H) (𝓡 : Running 𝓤 H 𝓜) (γ : Env) (k g : Name) (core : Routine) → Calling 𝓤 H with-program-value 𝓜 𝓖 𝓡 γ k g core
+    program-value-meets 𝓜 𝓖 𝓡 γ k g core =
+        thin-meets 𝓤 H with-program-value 𝓜 𝓖 𝓡 γ k g core (program-value-go (𝓖 .A) (givenOf 𝓤 H 𝓜 𝓖)) (program-value-walk (𝓖 .A) (givenOf 𝓤 H 𝓜 𝓖) g)
+
+-- A PROGRAM, THE TABLES AND TWO VALUES OF PLAIN TYPES
+module _ (ρ : Results) (ν μ : Plain) (Q : List ℕ → Lent → ν .row .Denot → μ .row .Denot → ρ .Answer .Denot → Lent → Type 0) where
+  abbrev with-program-values : Thin
+  with-program-values = record {
+    entry = takes 4 (bytes 0 tt ∷ table 1 tt ∷ table 2 tt ∷ tally 3 tt ∷ value ν ∷ value μ ∷ []) (ρ .Answer);
+    ensures =
+        λ κs a r e. Q (a .0 .now) (lent (a .1 .0 .now) (a .1 .1 .0 .now) (a .1 .1 .1 .0 .now)) (a .1 .1 .1 .1 .0) (a .1 .1 .1 .1 .1 .0) r
+        (lent (e .1 .0 .now) (e .1 .1 .0 .now) (e .1 .1 .1 .0 .now));
+    stayed = (dropped (bytes 0 tt), (gave 1 tt, (gave 2 tt, (kept 3 tt, (dropped (value ν), (dropped (value μ), tt))))));
+    core = takes 3 (bytes 0 tt ∷ table 1 tt ∷ table 2 tt ∷ tally-itself ∷ value ν ∷ value μ ∷ []) (ρ .Done);
+    knows =
+        λ κs a r e. Q (a .0 .now) (lent (a .1 .0 .now) (a .1 .1 .0 .now) (a .1 .1 .1 .0)) (a .1 .1 .1 .1 .0) (a .1 .1 .1 .1 .1 .0) (ρ .answer r)
+        (lent (e .1 .0 .now) (e .1 .1 .0 .now) (ρ .tally r));
+    code = thin ρ 4 (named 1) (named 2) (named 3) (programTy ∷ []) (ν .type ∷ μ .type ∷ []);
+  }
+
+  module _ {M : Type 1} (𝓤 : URA M) (H : Heap 𝓤) where
+    module _ (A : Atoms 𝓤) (W : Given 𝓤 H A) where
+      program-values-go : Go 𝓤 H with-program-values A W
+      program-values-go = (
+        goes-dropped 𝓤 H A W 4 (bytes 0 tt) yes (λ κs x f. refl),
+        (
+          goes-gave-slice 𝓤 H A W 4 1 tt number,
+          (
+            goes-gave-slice 𝓤 H A W 4 2 tt number,
+            (
+              goes-ref 𝓤 H A W 4 3 tt tally-itself,
+              (goes-dropped 𝓤 H A W 4 (value ν) yes (λ κs x f. refl), (goes-dropped 𝓤 H A W 4 (value μ) yes (λ κs x f. refl), tt)),
+            ),
+          ),
+        ),
+      )
+
+      program-values-walk : (g : Name) → Walk 𝓤 H with-program-values A W g
+      program-values-walk g C Λ fm known =
+          walked 𝓤 H A (with-program-values .entry) (with-program-values .stayed) (asked 𝓤 H with-program-values) (WpFn 𝓤 H C Λ (with-program-values .code g))
+          (λ κs. (slice-vals, (slice-vals, (slice-vals, (ptr-vals, ((λ x. ν .word x ∷ []), ((λ x. μ .word x ∷ []), tt)))))))
+          (λ κs. (
+            shr-slice-tells (named 0) (κs .0) u8,
+            (
+              mut-slice-tells (named 1) (κs .1 .0) u32,
+              (mut-slice-tells (named 2) (κs .1 .1 .0) u32, (mut-tells (named 3) (κs .1 .1 .1 .0) T.the-row, (ν .tells, (μ .tells, tt)))),
+            ),
+          ))
+          (λ κs qs bounds a u are. via 𝓤 _ (fst∗ 𝓤 _ (emp 𝓤)) (entry-walk 𝓤 H A ρ W C Λ fm
+          -- the lifetimes, with the tally's apart
+          3 (κs .0, (κs .1 .0, (κs .1 .1 .0, tt))) (qs .0, (qs .1 .0, (qs .1 .1 .0, tt))) (κs .1 .1 .1 .0) (qs .1 .1 .1 .0)
+          -- the parameters
+          (passed-program 𝓤 H A W (κs .0) (a .0) (are .0) ∷ []) (named 1) (named 2) (named 3) (κs .1 .0) (κs .1 .1 .0) (a .1 .0) (a .1 .1 .0)
+          (a .1 .1 .1 .0) (are .1 .0 .0 .1) (are .1 .1 .0 .0 .1)
+          (passed-value 𝓤 H A W ν (a .1 .1 .1 .1 .0) (are .1 .1 .1 .1 .0) ∷ passed-value 𝓤 H A W μ (a .1 .1 .1 .1 .1 .0) (are .1 .1 .1 .1 .1 .0) ∷ [])
+          -- what the core ensures, and the core
+          (λ r v e. Q (a .0 .now) (lent (a .1 .0 .now) (a .1 .1 .0 .now) (a .1 .1 .1 .0 .now)) (a .1 .1 .1 .1 .0) (a .1 .1 .1 .1 .1 .0) (ρ .answer r)
+          (lent v e (ρ .tally r))) 4 g _
+          (known (
+            (
+              (κs .0, (κs .1 .0, (κs .1 .1 .0, tt))),
+              (qs .0, (qs .1 .0, (qs .1 .1 .0, tt))),
+              tt,
+              (a .0, (a .1 .0, (a .1 .1 .0, (a .1 .1 .1 .0 .now, (a .1 .1 .1 .1 .0, (a .1 .1 .1 .1 .1 .0, tt)))))),
+              (
+                slice-vals (a .0),
+                (
+                  slice-vals (a .1 .0),
+                  (
+                    slice-vals (a .1 .1 .0),
+                    (tallyVal (a .1 .1 .1 .0 .now) ∷ [], (ν .word (a .1 .1 .1 .1 .0) ∷ [], (μ .word (a .1 .1 .1 .1 .1 .0) ∷ [], tt))),
+                  ),
+                ),
+              ),
+            ),
+            tt,
+          ))
+          -- the exit: what the core ensures is what is to be ensured
+          (λ r v e φ lv le. via 𝓤 _ (beside 𝓤 H A W _ φ)
+          (ends-at 𝓤 H A (with-program-values .entry) (with-program-values .stayed) (asked 𝓤 H with-program-values) W (
+            (
+              κs,
+              qs,
+              bounds,
+              a,
+              (
+                slice-vals (a .0),
+                (
+                  slice-vals (a .1 .0),
+                  (slice-vals (a .1 .1 .0), (ptr-vals (a .1 .1 .1 .0), (ν .word (a .1 .1 .1 .1 .0) ∷ [], (μ .word (a .1 .1 .1 .1 .1 .0) ∷ [], tt)))),
+                ),
+              ),
+            ),
+            u,
+          )
+          (ρ .answerVal (ρ .answer r)) (ρ .answer r) (tt, (v, (e, (ρ .tally r, (tt, (tt, tt)))))) (tt, (lv, (le, (tt, (tt, (tt, tt))))))))))
+
+    pub program-values-meets :
+        (𝓜 : Model 𝓤 H) (𝓖 : GhostRules 𝓤 H) (𝓡 : Running 𝓤 H 𝓜) (γ : Env) (k g : Name) (core : Routine) → Calling 𝓤 H with-program-values 𝓜 𝓖 𝓡 γ k g core
+    program-values-meets 𝓜 𝓖 𝓡 γ k g core =
+        thin-meets 𝓤 H with-program-values 𝓜 𝓖 𝓡 γ k g core (program-values-go (𝓖 .A) (givenOf 𝓤 H 𝓜 𝓖)) (program-values-walk (𝓖 .A) (givenOf 𝓤 H 𝓜 𝓖) g)

@@ -27,6 +27,10 @@ stop-requires : tie.Need-stop-requires
 unfolding isStart
 stop-requires c κs = sound-given _ (c .before .before .before .given6 .given .1) refl (c .before .before .before .before .before .before .before .pre)
 
+yield-caller-requires : tie.Need-yield-caller-requires
+unfolding isStart
+yield-caller-requires c κs = sound-given _ (c .before .before .before .given7 .given .1) refl (c .before .before .before .before .before .before .before .pre)
+
 returns : tie.Need-returns
 unfolding command
 returns c = command-case _ (c .before .before .before .before .before .before .given .given .1) (c .before .before .new-td .ensures)
@@ -51,6 +55,10 @@ returns-6 : tie.Need-returns-6
 unfolding command
 returns-6 c = command-case _ (c .before .before .before .before .before .before .before .before .given6 .given .1) (c .before .before .before .before .stop .ensures)
 
+returns-7 : tie.Need-returns-7
+unfolding command
+returns-7 c = command-case _ (c .before .before .before .before .before .before .given7 .given .1) (c .before .before .yield-caller .ensures)
+
 pub command-checked-spec : {M : Type 1} → statement M
 command-checked-spec = tie.close (tie.spec (λ c. search needs)
     new-td-requires
@@ -64,6 +72,8 @@ command-checked-spec = tie.close (tie.spec (λ c. search needs)
     (λ c κs. search needs)
     (λ c. search needs)
     stop-requires
+    (λ c. search needs)
+    yield-caller-requires
     (λ c. search needs)
     (λ c. search needs)
     returns
@@ -81,4 +91,7 @@ command-checked-spec = tie.close (tie.spec (λ c. search needs)
     returns-5
     (λ c. search needs)
     (λ c. search needs)
-    returns-6)
+    returns-6
+    (λ c. search needs)
+    (λ c. search needs)
+    returns-7)
