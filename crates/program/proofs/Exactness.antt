@@ -4,6 +4,7 @@ use mathlib.Core.Path.{_≡_, sym, ap, _∙_}
 use mathlib.Core.List.{List, [], append-nil}
 use mathlib.Core.Logic.{_↔_}
 use native.Mathlib.Omega.{arith}
+use Rattle.program.specs.declared.Edition.{Edition}
 use Rattle.program.specs.Limits.{jobLimit}
 use Rattle.program.specs.Trees.{Body}
 use Rattle.program.specs.Bytes.{encode, size}
@@ -13,20 +14,21 @@ use Rattle.program.proofs.Completeness.{body-complete, all-open}
 use Rattle.program.proofs.ReadingLaws.{reading-comes, reading-within, counted-loads, encode-positive, all-complete, loaded-sound}
 
 -- What is accepted is the encoding of the tree that is answered, and that is within all limits.
-pub reading-sound : (bytes : List ℕ) (b : Body) → reading bytes ≡ program b → (bytes ≡ encode b) × Loadable b
-reading-sound bytes b e = loaded-sound bytes b (rw e at (reading-comes bytes))
+pub reading-sound : (ed : Edition) (bytes : List ℕ) (b : Body) → reading ed bytes ≡ program b → (bytes ≡ encode b) × Loadable ed b
+reading-sound ed bytes b e = loaded-sound ed bytes b (rw e at (reading-comes ed bytes))
 
 -- The encoding of a tree within all limits is accepted, as that tree.
-pub reading-complete : (b : Body) → Loadable b → reading (encode b) ≡ program b
+pub reading-complete : (ed : Edition) (b : Body) → Loadable ed b → reading ed (encode b) ≡ program b
 unfolding size whole
-reading-complete b h =
-    reading-within (encode b) (encode-positive b, h .bytes) ∙ rw (all-complete b (h .fits) (h .forced)) (counted-loads b (h .made))
+reading-complete ed b h =
+    reading-within ed (encode b) (encode-positive b, h .bytes) ∙ rw (all-complete b (h .fits) (h .forced)) (counted-loads ed b (h .made))
 
 -- Bytes are accepted exactly if they are the encoding of a tree within all limits.
-pub reading-exact : (bytes : List ℕ) → ((b : Body) × (reading bytes ≡ program b)) ↔ ((b : Body) × Loadable b × (bytes ≡ encode b))
-reading-exact bytes = (
-  λ (b, e). let (p, q) = reading-sound bytes b e in (b, q, p),
-  λ (b, h, e). (b, ap reading e ∙ reading-complete b h),
+pub reading-exact :
+    (ed : Edition) (bytes : List ℕ) → ((b : Body) × (reading ed bytes ≡ program b)) ↔ ((b : Body) × Loadable ed b × (bytes ≡ encode b))
+reading-exact ed bytes = (
+  λ (b, e). let (p, q) = reading-sound ed bytes b e in (b, q, p),
+  λ (b, h, e). (b, ap (reading ed) e ∙ reading-complete ed b h),
 )
 
 -- No two trees have the same encoding.

@@ -1,15 +1,17 @@
--- What a program needs, by the formulas of docs/ENGINE.md's "Limits": they are what the first edition's table of commands comes to.
+-- What a program needs, by the formulas of docs/ENGINE.md's "Limits": they are what an edition's table of commands comes to.
 use Prim.Native.Nat.{ℕ, _+_, _*_, _<_, _≤_}
 use mathlib.Core.Path.{_≡_}
 use mathlib.Core.List.{_++_}
 use native.Mathlib.Nat.{mul-add}
 use native.Mathlib.Omega.{arith}
 use lib.ListN.{length-append}
+use Rattle.program.specs.declared.Edition.{Edition}
+use Rattle.program.specs.declared.Edition.the-variants.{First, Second}
 use Rattle.program.specs.Trees.{Kind, jobs, asyncs, finishes, forks, futures, forces, Body, end, job, async, finish, fork, future, force}
 use Rattle.program.specs.Trees.{total, same, Counts, counts}
 use Rattle.program.specs.Bytes.{encodeNumber, encode, size}
-use Rattle.program.specs.Encodings.{firstEdition, weight, makes, links, does, itemsWeight, verticesMade, edgeRowsNeeded, stepsTaken}
-use Rattle.program.specs.Encodings.{vertexFormula, edgeRowFormula, stepFormula}
+use Rattle.program.specs.Encodings.{forkRow, rowOf, weight, makes, links, does, itemsWeight, verticesMade, edgeRowsNeeded, stepsTaken}
+use Rattle.program.specs.Encodings.{forkVertices, forkSteps, vertexFormula, edgeRowFormula, stepFormula}
 use Rattle.program.specs.Internal.Progress.{plus}
 
 -- what so many items of each kind weigh
@@ -58,20 +60,24 @@ total-counts g (fork b c r) =
 total-counts g (future b r) = one-held g futures b r (total-counts g b) (total-counts g r)
 total-counts g (force n r) = weigh-plus g (one forces) (counts r) (weigh-one g forces) (total-counts g r)
 
--- "V = 2 + a + 2f + 3k"; "A future adds 2 vertices, 1 edge and 9 steps; a force 1, 1 and 6." (note 5)
-pub vertices-formula : (b : Body) → verticesMade firstEdition b ≡ vertexFormula (counts b)
-unfolding verticesMade itemsWeight weight makes firstEdition weigh
-vertices-formula b = omega (arith, total-counts (λ k. weight makes (firstEdition k .commands)) b)
+-- "V = 2 + a + 2f + 3k"; "A future adds 2 vertices, 1 edge and 9 steps; a force 1, 1 and 6." (note 5); a fork "makes 2 vertices and 2 edges
+-- and costs 12 steps in place of 15" in the second edition (note 10)
+pub vertices-formula : (ed : Edition) (b : Body) → verticesMade ed b ≡ vertexFormula ed (counts b)
+unfolding verticesMade itemsWeight weight makes rowOf forkRow forkVertices weigh
+vertices-formula First b = omega (arith, total-counts (λ k. weight makes (rowOf First k .commands)) b)
+vertices-formula Second b = omega (arith, total-counts (λ k. weight makes (rowOf Second k .commands)) b)
 
 -- "Edge rows needed: 1 + a + f + 2k."
-pub edgeRows-formula : (b : Body) → edgeRowsNeeded firstEdition b ≡ edgeRowFormula (counts b)
-unfolding edgeRowsNeeded itemsWeight weight links firstEdition weigh
-edgeRows-formula b = omega (arith, total-counts (λ k. weight links (firstEdition k .commands)) b)
+pub edgeRows-formula : (ed : Edition) (b : Body) → edgeRowsNeeded ed b ≡ edgeRowFormula (counts b)
+unfolding edgeRowsNeeded itemsWeight weight links rowOf forkRow weigh
+edgeRows-formula First b = omega (arith, total-counts (λ k. weight links (rowOf First k .commands)) b)
+edgeRows-formula Second b = omega (arith, total-counts (λ k. weight links (rowOf Second k .commands)) b)
 
 -- demand 3's count, 4 + w + 5a + 10f + 15k
-pub steps-formula : (b : Body) → stepsTaken firstEdition b ≡ stepFormula (counts b)
-unfolding stepsTaken itemsWeight weight does firstEdition weigh
-steps-formula b = omega (arith, vertices-formula b, total-counts (λ k. weight does (firstEdition k .commands)) b)
+pub steps-formula : (ed : Edition) (b : Body) → stepsTaken ed b ≡ stepFormula ed (counts b)
+unfolding stepsTaken itemsWeight weight does rowOf forkRow forkVertices forkSteps weigh
+steps-formula First b = omega (arith, vertices-formula First b, total-counts (λ k. weight does (rowOf First k .commands)) b)
+steps-formula Second b = omega (arith, vertices-formula Second b, total-counts (λ k. weight does (rowOf Second k .commands)) b)
 
 -- a kind is itself once at most
 same-le : (k j : Kind) → same k j ≤ 1

@@ -17,7 +17,7 @@
 --                    fork-right, future-body), or what is behind this item (job-rest, async-rest, finish-rest, fork-rest, future-rest,
 --                    force-rest); a force's own body is not inside it
 --     code-missing   codeAt m p ≡ none, where p is outside of m
---     item-stands    itemAt bytes p ≡ head c, where reading bytes ≡ program t and m is located t
+--     item-stands    itemAt ed bytes p ≡ head c, where reading ed bytes ≡ program t and m is located t
 --
 -- `Part m c`, c is m or is anywhere inside, is what these have in common: a search finds parts (code-part), and in laid code it finds
 -- each at its place (part-code).
@@ -30,6 +30,7 @@ use native.Mathlib.Omega.{arith}
 use lib.Dec.{eqb}
 use lib.ListN.{length-append}
 use borrow.Author.Tests.{eqb-true, eq-eqb, ne-eqb}
+use Rattle.program.specs.declared.Edition.{Edition}
 use Rattle.program.specs.Trees.{Body, end, job, async, finish, fork, future, force}
 use Rattle.program.specs.Bytes.{encodeNumber, encode, numberSize, size}
 use Rattle.program.specs.Reader.{program, reading}
@@ -391,7 +392,7 @@ code-end m l = part-code (last-part m) l
 
 -- what stands at a place of a program
 pub item-stands :
-    (bytes : List ℕ) (t : Body) (p : ℕ) {c : Code} → reading bytes ≡ program t → codeAt (located t) p ≡ some c
-    → itemAt bytes p ≡ head c
+    (ed : Edition) (bytes : List ℕ) (t : Body) (p : ℕ) {c : Code} → reading ed bytes ≡ program t → codeAt (located t) p ≡ some c
+    → itemAt ed bytes p ≡ head c
 unfolding itemAt standsIn found
-item-stands bytes t p r h = rw (r, h) refl
+item-stands ed bytes t p r h = rw (r, h) refl

@@ -9,6 +9,7 @@ use lib.Dec.{eqb, ltb}
 use lib.ListN.{length, getD, set, replicate, length-set, getD-replicate}
 use lib.Seq.{getD-set-same, getD-set-other}
 use borrow.Author.Tests.{eqb-true, eqb-false, lt-ltb, le-ltb, ltb-true, ltb-false}
+use Rattle.program.specs.declared.Edition.{Edition}
 use Rattle.program.specs.Trees.{Counts}
 use Rattle.program.specs.Reader.{reading}
 use Rattle.program.specs.Answers.{ProgramSaid, loads, told}
@@ -84,19 +85,21 @@ marking-outside {before} {marks} {i} xs m over = (m .long, λ p lt. go p lt (ltb
 
 -- the program is refused: nothing starts, and all marks are 0
 pub marked-refused :
-    (bytes marks : List ℕ) (n q : ℕ) → ProgramSaid.refused n q ≡ told (reading bytes) → marks ≡ replicate (length marks) 0 → MarksStarts bytes marks
-marked-refused bytes marks n q is zeros p lt =
-    zero-at marks zeros p lt ∙ ap (λ (t : Bool). cond t 1 0) (starts-refused bytes p n q is)
+    (ed : Edition) (bytes marks : List ℕ) (n q : ℕ) → ProgramSaid.refused n q ≡ told (reading ed bytes) → marks ≡ replicate (length marks) 0
+    → MarksStarts ed bytes marks
+marked-refused ed bytes marks n q is zeros p lt =
+    zero-at marks zeros p lt ∙ ap (λ (t : Bool). cond t 1 0) (starts-refused ed bytes p n q is)
 
 -- it is read: an item or an end byte starts at each byte outside its numbers
-pub marked-read : (bytes marks : List ℕ) (c : Counts) → loads c ≡ told (reading bytes) → Outside bytes marks → MarksStarts bytes marks
+pub marked-read :
+    (ed : Edition) (bytes marks : List ℕ) (c : Counts) → loads c ≡ told (reading ed bytes) → Outside bytes marks → MarksStarts ed bytes marks
 unfolding byteMark
-marked-read bytes marks c is outside p lt = outside p lt ∙ go (ltb p (length bytes)) refl
+marked-read ed bytes marks c is outside p lt = outside p lt ∙ go (ltb p (length bytes)) refl
   where
-    go : (t : Bool) → ltb p (length bytes) ≡ t → byteMark bytes p ≡ cond (startsAt bytes p) 1 0
+    go : (t : Bool) → ltb p (length bytes) ≡ t → byteMark bytes p ≡ cond (startsAt ed bytes p) 1 0
     go true e =
         let lt : p < length bytes = ltb-true p (length bytes) e in
-        sym (mark-byte bytes p _ lt refl) ∙ ap (λ (t : Bool). cond t 1 0) (starts-inside bytes p c is lt)
+        sym (mark-byte bytes p _ lt refl) ∙ ap (λ (t : Bool). cond t 1 0) (starts-inside ed bytes p c is lt)
     go false e =
         let le : length bytes ≤ p = ltb-false p (length bytes) e in
-        sym (mark-behind bytes p le) ∙ ap (λ (t : Bool). cond t 1 0) (starts-outside bytes p c is le)
+        sym (mark-behind bytes p le) ∙ ap (λ (t : Bool). cond t 1 0) (starts-outside ed bytes p c is le)

@@ -9,6 +9,7 @@ use native.Mathlib.Omega.{arith}
 use lib.Dec.{ltb}
 use lib.ListN.{length, drop}
 use borrow.Author.Tests.{ltb-true, ltb-false}
+use Rattle.program.specs.declared.Edition.{Edition}
 use Rattle.program.specs.Limits.{programBytes}
 use Rattle.program.specs.Trees.{Body, Counts}
 use Rattle.program.specs.Bytes.{encode, size}
@@ -24,37 +25,39 @@ use Rattle.program.proofs.StartLaws.{Placed, placed, code-bytes, starts
 use Rattle.program.proofs.SkipLaws.{part, part-is, part-length}
 
 -- a program is read from bytes: they are those of its tree
-data Loads (bytes : List ℕ) : Type 0 where
-  loaded : (b : Body) → reading bytes ≡ program b → bytes ≡ encode b → length bytes ≡ size b → Loadable b → Loads bytes
+data Loads (ed : Edition) (bytes : List ℕ) : Type 0 where
+  loaded : (b : Body) → reading ed bytes ≡ program b → bytes ≡ encode b → length bytes ≡ size b → Loadable ed b → Loads ed bytes
 
-loads-told : (bytes : List ℕ) (c : Counts) → loads c ≡ told (reading bytes) → Loads bytes
+loads-told : (ed : Edition) (bytes : List ℕ) (c : Counts) → loads c ≡ told (reading ed bytes) → Loads ed bytes
 unfolding told size
-loads-told bytes c is = go (reading bytes) refl is
+loads-told ed bytes c is = go (reading ed bytes) refl is
   where
     Loading : ProgramSaid → Type 0
     Loading (loads c) = Unit {0}
     Loading (refused n p) = ⊥
 
-    go : (r : Reading) → reading bytes ≡ r → loads c ≡ told r → Loads bytes
-    go (program b) e is = let (same, fits) = reading-sound bytes b e in loaded b e same (ap length same) fits
+    go : (r : Reading) → reading ed bytes ≡ r → loads c ≡ told r → Loads ed bytes
+    go (program b) e is = let (same, fits) = reading-sound ed bytes b e in loaded b e same (ap length same) fits
     go (refusal n p) e is = absurd (subst Loading is tt)
 
 -- what `in_number` asks
-pub loads-encoding : (bytes : List ℕ) (c : Counts) → loads c ≡ told (reading bytes) → Encoding bytes
-loads-encoding bytes c is = go (loads-told bytes c is)
+pub loads-encoding : (ed : Edition) (bytes : List ℕ) (c : Counts) → loads c ≡ told (reading ed bytes) → Encoding bytes
+loads-encoding ed bytes c is = go (loads-told ed bytes c is)
   where
-    go : Loads bytes → Encoding bytes
+    go : Loads ed bytes → Encoding bytes
     go (loaded b e same long fits) = encoding b (fits .fits) (fits .forced) same
 
 -- in a program that is read, something starts where the search finds code
-starts-read : (bytes : List ℕ) (b : Body) (p : ℕ) → reading bytes ≡ program b → startsAt bytes p ≡ isSome (codeAt (located b) p)
+starts-read : (ed : Edition) (bytes : List ℕ) (b : Body) (p : ℕ) → reading ed bytes ≡ program b
+    → startsAt ed bytes p ≡ isSome (codeAt (located b) p)
 unfolding startsAt startsIn
-starts-read bytes b p e = ap (λ r. startsIn r p) e
+starts-read ed bytes b p e = ap (λ r. startsIn r p) e
 
 -- the program is refused
-pub starts-refused : (bytes : List ℕ) (p n q : ℕ) → ProgramSaid.refused n q ≡ told (reading bytes) → false ≡ startsAt bytes p
+pub starts-refused :
+    (ed : Edition) (bytes : List ℕ) (p n q : ℕ) → ProgramSaid.refused n q ≡ told (reading ed bytes) → false ≡ startsAt ed bytes p
 unfolding told startsAt startsIn
-starts-refused bytes p n q is = go (reading bytes) is
+starts-refused ed bytes p n q is = go (reading ed bytes) is
   where
     Refusing : ProgramSaid → Type 0
     Refusing (loads c) = ⊥
@@ -66,27 +69,28 @@ starts-refused bytes p n q is = go (reading bytes) is
 
 -- the place is not in the program
 pub starts-outside :
-    (bytes : List ℕ) (p : ℕ) (c : Counts) → loads c ≡ told (reading bytes) → length bytes ≤ p → false ≡ startsAt bytes p
+    (ed : Edition) (bytes : List ℕ) (p : ℕ) (c : Counts) → loads c ≡ told (reading ed bytes) → length bytes ≤ p → false ≡ startsAt ed bytes p
 unfolding isSome
-starts-outside bytes p c is le = go (loads-told bytes c is)
+starts-outside ed bytes p c is le = go (loads-told ed bytes c is)
   where
-    go : Loads bytes → false ≡ startsAt bytes p
-    go (loaded b e same long fits) = sym (starts-read bytes b p e ∙ ap isSome (starts-within b p (omega arith)))
+    go : Loads ed bytes → false ≡ startsAt ed bytes p
+    go (loaded b e same long fits) = sym (starts-read ed bytes b p e ∙ ap isSome (starts-within b p (omega arith)))
 
 -- it is in the program
 pub starts-inside :
-    (bytes : List ℕ) (p : ℕ) (c : Counts) → loads c ≡ told (reading bytes) → p < length bytes → not (inNumber bytes p) ≡ startsAt bytes p
-starts-inside bytes p c is lt = go (loads-told bytes c is)
+    (ed : Edition) (bytes : List ℕ) (p : ℕ) (c : Counts) → loads c ≡ told (reading ed bytes) → p < length bytes
+    → not (inNumber bytes p) ≡ startsAt ed bytes p
+starts-inside ed bytes p c is lt = go (loads-told ed bytes c is)
   where
-    go : Loads bytes → not (inNumber bytes p) ≡ startsAt bytes p
+    go : Loads ed bytes → not (inNumber bytes p) ≡ startsAt ed bytes p
     go (loaded b e same long fits) =
-        ap (λ l. not (inNumber l p)) same ∙ starts b p (fits .fits .numbers) (omega arith) ∙ sym (starts-read bytes b p e)
+        ap (λ l. not (inNumber l p)) same ∙ starts b p (fits .fits .numbers) (omega arith) ∙ sym (starts-read ed bytes b p e)
 
 -- an item or an end byte starts there: the bytes from there on begin with a body, and what that begins with stands there
-data Starts (bytes : List ℕ) (p : ℕ) : Type 0 where
+data Starts (ed : Edition) (bytes : List ℕ) (p : ℕ) : Type 0 where
   starting :
-      (b : Body) (rest : List ℕ) → Fits b → drop p bytes ≡ encode b ++ rest → head (locate [] p b) ≡ itemAt bytes p
-      → length bytes ≤ programBytes → p < length bytes → Starts bytes p
+      (b : Body) (rest : List ℕ) → Fits b → drop p bytes ≡ encode b ++ rest → head (locate [] p b) ≡ itemAt ed bytes p
+      → length bytes ≤ programBytes → p < length bytes → Starts ed bytes p
 
 -- what the definition's test tells
 code-some : (x : Option Code) → isSome x ≡ true → (c : Code) × (x ≡ some c)
@@ -108,64 +112,67 @@ code-within b p {d} at = go (ltb p (size b)) refl
     go false e = absurd (Option·none-ne-some _ (sym (starts-within b p (ltb-false p (size b) e)) ∙ at))
 
 starts-code :
-    (bytes : List ℕ) (p : ℕ) (b : Body) (d : Code) → reading bytes ≡ program b → codeAt (located b) p ≡ some d → Starts bytes p
+    (ed : Edition) (bytes : List ℕ) (p : ℕ) (b : Body) (d : Code) → reading ed bytes ≡ program b → codeAt (located b) p ≡ some d
+    → Starts ed bytes p
 unfolding size
-starts-code bytes p b d e at = go (reading-sound bytes b e) (code-bytes b p d at)
+starts-code ed bytes p b d e at = go (reading-sound ed bytes b e) (code-bytes b p d at)
   where
-    go : (bytes ≡ encode b) × Loadable b → Placed b p d → Starts bytes p
+    go : (bytes ≡ encode b) × Loadable ed b → Placed b p d → Starts ed bytes p
     go (same, fits) (placed opened b' rest is tail flat low) =
         let long : length bytes ≡ length (encode b) = ap length same in
         starting b' rest
         (record { numbers = omega (arith, fits .fits .numbers); levels = omega (arith, fits .fits .levels) })
         (ap (λ l. drop p l) same ∙ tail)
-        (sym (item-stands bytes b p e at ∙ ap head is ∙ head-locate opened [] p b'))
+        (sym (item-stands ed bytes b p e at ∙ ap head is ∙ head-locate opened [] p b'))
         (omega (arith, fits .bytes))
         (omega (arith, code-within b p at))
 
-starts-there : (bytes : List ℕ) (p : ℕ) → startsAt bytes p ≡ true → Starts bytes p
+starts-there : (ed : Edition) (bytes : List ℕ) (p : ℕ) → startsAt ed bytes p ≡ true → Starts ed bytes p
 unfolding startsAt startsIn
-starts-there bytes p is = go (reading bytes) refl is
+starts-there ed bytes p is = go (reading ed bytes) refl is
   where
-    go : (r : Reading) → reading bytes ≡ r → startsIn r p ≡ true → Starts bytes p
-    go (program b) e is = let (d, at) = code-some (codeAt (located b) p) is in starts-code bytes p b d e at
+    go : (r : Reading) → reading ed bytes ≡ r → startsIn r p ≡ true → Starts ed bytes p
+    go (program b) e is = let (d, at) = code-some (codeAt (located b) p) is in starts-code ed bytes p b d e at
     go (refusal n q) e is = absurd (true≢false (sym is))
 
 -- the program has bytes, not too many, and the place is one of them
 pub starts-length :
-    (bytes : List ℕ) (p : ℕ) → startsAt bytes p ≡ true → (1 ≤ length bytes) × (length bytes ≤ programBytes) × (p < length bytes)
-starts-length bytes p is = go (starts-there bytes p is)
+    (ed : Edition) (bytes : List ℕ) (p : ℕ) → startsAt ed bytes p ≡ true
+    → (1 ≤ length bytes) × (length bytes ≤ programBytes) × (p < length bytes)
+starts-length ed bytes p is = go (starts-there ed bytes p is)
   where
-    go : Starts bytes p → (1 ≤ length bytes) × (length bytes ≤ programBytes) × (p < length bytes)
+    go : Starts ed bytes p → (1 ≤ length bytes) × (length bytes ≤ programBytes) × (p < length bytes)
     go (starting b rest fits tail stands few lt) = (omega arith, few, lt)
 
 -- so nothing starts behind the last byte that a program may have
-pub starts-beyond : (bytes : List ℕ) (p : ℕ) → programBytes ≤ p → startsAt bytes p ≡ false
-starts-beyond bytes p le = go (startsAt bytes p) refl
+pub starts-beyond : (ed : Edition) (bytes : List ℕ) (p : ℕ) → programBytes ≤ p → startsAt ed bytes p ≡ false
+starts-beyond ed bytes p le = go (startsAt ed bytes p) refl
   where
-    go : (t : Bool) → startsAt bytes p ≡ t → startsAt bytes p ≡ false
-    go true e = absurd (omega (arith, starts-length bytes p e))
+    go : (t : Bool) → startsAt ed bytes p ≡ t → startsAt ed bytes p ≡ false
+    go true e = absurd (omega (arith, starts-length ed bytes p e))
     go false e = e
 
 -- what `item_here` asks
 pub starting-holds :
-    (bytes : List ℕ) (p : ℕ) → startsAt bytes p ≡ true → BeginsWithBody (part p bytes) × (p + length (part p bytes) ≤ programBytes)
-starting-holds bytes p is = go (starts-there bytes p is)
+    (ed : Edition) (bytes : List ℕ) (p : ℕ) → startsAt ed bytes p ≡ true
+    → BeginsWithBody (part p bytes) × (p + length (part p bytes) ≤ programBytes)
+starting-holds ed bytes p is = go (starts-there ed bytes p is)
   where
-    go : Starts bytes p → BeginsWithBody (part p bytes) × (p + length (part p bytes) ≤ programBytes)
+    go : Starts ed bytes p → BeginsWithBody (part p bytes) × (p + length (part p bytes) ≤ programBytes)
     go (starting b rest fits tail stands few lt) = (begins b fits rest (part-is p bytes ∙ tail), omega (arith, part-length p bytes))
 
 -- what it tells stands there
 pub starting-shown :
-    (bytes : List ℕ) (p : ℕ) (s : Stands) → startsAt bytes p ≡ true → Shows (part p bytes) p s → s ≡ itemAt bytes p
-starting-shown bytes p s is shown = go (starts-there bytes p is)
+    (ed : Edition) (bytes : List ℕ) (p : ℕ) (s : Stands) → startsAt ed bytes p ≡ true → Shows (part p bytes) p s → s ≡ itemAt ed bytes p
+starting-shown ed bytes p s is shown = go (starts-there ed bytes p is)
   where
-    go : Starts bytes p → s ≡ itemAt bytes p
+    go : Starts ed bytes p → s ≡ itemAt ed bytes p
     go (starting b rest fits tail stands few lt) = shown b rest fits (part-is p bytes ∙ tail) ∙ stands
 
 -- where nothing starts, that is refused
-pub not-starting : (bytes : List ℕ) (p : ℕ) → startsAt bytes p ≡ false → itemAt bytes p ≡ Stands.refused nothing-starts 0
+pub not-starting : (ed : Edition) (bytes : List ℕ) (p : ℕ) → startsAt ed bytes p ≡ false → itemAt ed bytes p ≡ Stands.refused nothing-starts 0
 unfolding startsAt startsIn itemAt standsIn found
-not-starting bytes p is = go (reading bytes) is
+not-starting ed bytes p is = go (reading ed bytes) is
   where
     go : (r : Reading) → startsIn r p ≡ false → standsIn r p ≡ Stands.refused nothing-starts 0
     go (program b) is = ap found (code-none (codeAt (located b) p) is)

@@ -5,6 +5,7 @@ use mathlib.Core.List.{List, [], _∷_, _++_, append-nil, append-assoc}
 use mathlib.Core.Logic.{_⊎_, inl, inr}
 use native.Mathlib.Omega.{arith}
 use lib.ListN.{length, length-append}
+use Rattle.program.specs.declared.Edition.{Edition}
 use Rattle.program.specs.Limits.{programBytes}
 use Rattle.program.specs.Trees.{Body, end, HasFutures}
 use Rattle.program.specs.Bytes.{endByte, forceByte, encode}
@@ -109,11 +110,12 @@ out-stop bytes n left h (stop to there before ys l e (offended first bad rest o 
     let c = by-place n (offence to there n first bad o) in
     absurd (omega arith)
 
-pub out-comes : (bytes : List ℕ) (n p : ℕ) → n ≡ bytes-run-out → Comes bytes (refusal n p) → Unfinished bytes × (p ≡ length bytes)
-out-comes bytes n p h (outside o) = absurd (omega arith)
-out-comes bytes n p h (stopped _ left w e) = out-stop bytes n left h (main-stop bytes n left e)
-out-comes bytes n p h (overran b x left w e) = absurd (omega arith)
-out-comes bytes n p h (crowds b w e v) = absurd (omega arith)
+pub out-comes : (ed : Edition) (bytes : List ℕ) (n p : ℕ) → n ≡ bytes-run-out → Comes ed bytes (refusal n p)
+    → Unfinished bytes × (p ≡ length bytes)
+out-comes ed bytes n p h (outside o) = absurd (omega arith)
+out-comes ed bytes n p h (stopped _ left w e) = out-stop bytes n left h (main-stop bytes n left e)
+out-comes ed bytes n p h (overran b x left w e) = absurd (omega arith)
+out-comes ed bytes n p h (crowds b w e v) = absurd (omega arith)
 
 -- bytes that hold a whole main body are no proper prefix of an encoding
 took-whole : (bytes : List ℕ) (c : Body) (rest : List ℕ) → body 1 0 bytes ≡ took c rest → (x : ℕ) (more : List ℕ)
@@ -151,20 +153,20 @@ prefix-out bytes (unfinished x more h) = go (body 1 0 bytes) refl
 prefix-out bytes (unfinished-force h) = cut-out bytes h
 
 -- a main body with bytes behind it
-pub after-comes : (bytes : List ℕ) (n p : ℕ) → n ≡ bytes-after-end → Comes bytes (refusal n p) → Overlong bytes p
-after-comes bytes n p h (outside o) = absurd (omega arith)
-after-comes bytes n p h (stopped _ left w e) = let c = stop-number bytes n left (main-stop bytes n left e) in absurd (omega arith)
-after-comes bytes n p h (overran b x left w e) =
+pub after-comes : (ed : Edition) (bytes : List ℕ) (n p : ℕ) → n ≡ bytes-after-end → Comes ed bytes (refusal n p) → Overlong bytes p
+after-comes ed bytes n p h (outside o) = absurd (omega arith)
+after-comes ed bytes n p h (stopped _ left w e) = let c = stop-number bytes n left (main-stop bytes n left e) in absurd (omega arith)
+after-comes ed bytes n p h (overran b x left w e) =
     let (q, f, forced) = main-sound bytes b (x ∷ left) e in
     overlong (encode b) x left (encoding b f forced refl) q (before-length bytes (encode b) (x ∷ left) q)
-after-comes bytes n p h (crowds b w e v) = absurd (omega arith)
+after-comes ed bytes n p h (crowds b w e v) = absurd (omega arith)
 
-pub overlong-after : (bytes : List ℕ) (p : ℕ) → Within bytes → Overlong bytes p → reading bytes ≡ refusal bytes-after-end p
+pub overlong-after : (ed : Edition) (bytes : List ℕ) (p : ℕ) → Within bytes → Overlong bytes p → reading ed bytes ≡ refusal bytes-after-end p
 unfolding whole
-overlong-after bytes p w (overlong begun x more (encoding b f forced e) q h) =
+overlong-after ed bytes p w (overlong begun x more (encoding b f forced e) q h) =
     let k : bytes ≡ encode b ++ (x ∷ more) = q ∙ ap (λ (l : List ℕ). l ++ (x ∷ more)) e in
     let t : body 1 0 bytes ≡ took b (x ∷ more) = ap (body 1 0) k ∙ main-complete b (x ∷ more) f forced in
-    reading-within bytes w
+    reading-within ed bytes w
     ∙ rw t (ap (refusal bytes-after-end) (before-length bytes begun (x ∷ more) q ∙ sym h))
 
 none-extends : (before bad : List ℕ) (n : ℕ) → (n ≡ bytes-run-out → ⊥)
@@ -188,33 +190,34 @@ blamed-stop bytes n left h (stop to there before ys l e (offended first bad rest
     (none-extends (before ++ first) bad n (by-place n h .2) (refused-there to there n before first bad l o))
 
 -- Bytes that are blamed are refused so.
-pub blamed-reads : (bytes : List ℕ) (n p : ℕ) → Within bytes → Blamed bytes n p → reading bytes ≡ refusal n p
+pub blamed-reads : (ed : Edition) (bytes : List ℕ) (n p : ℕ) → Within bytes → Blamed bytes n p → reading ed bytes ≡ refusal n p
 unfolding whole
-blamed-reads bytes n p w (blamed to there before first bad rest l o e q _ _) =
+blamed-reads ed bytes n p w (blamed to there before first bad rest l o e q _ _) =
     let t : body 1 0 bytes ≡ refused n (bad ++ rest) = ap (body 1 0) e ∙ refused-there to there n before first bad l o rest in
-    reading-within bytes w ∙ rw t (ap (refusal n) (before-length bytes (before ++ first) (bad ++ rest) e ∙ sym q))
+    reading-within ed bytes w ∙ rw t (ap (refusal n) (before-length bytes (before ++ first) (bad ++ rest) e ∙ sym q))
 
-pub blamed-comes : (bytes : List ℕ) (n p : ℕ) → ByPlace n → Comes bytes (refusal n p) → Blamed bytes n p
-blamed-comes bytes n p h (outside o) = let c = by-place n h in absurd (omega arith)
-blamed-comes bytes n p h (stopped _ left w e) = blamed-stop bytes n left h (main-stop bytes n left e)
-blamed-comes bytes n p h (overran b x left w e) = let c = by-place n h in absurd (omega arith)
-blamed-comes bytes n p h (crowds b w e v) = let c = by-place n h in absurd (omega arith)
+pub blamed-comes : (ed : Edition) (bytes : List ℕ) (n p : ℕ) → ByPlace n → Comes ed bytes (refusal n p) → Blamed bytes n p
+blamed-comes ed bytes n p h (outside o) = let c = by-place n h in absurd (omega arith)
+blamed-comes ed bytes n p h (stopped _ left w e) = blamed-stop bytes n left h (main-stop bytes n left e)
+blamed-comes ed bytes n p h (overran b x left w e) = let c = by-place n h in absurd (omega arith)
+blamed-comes ed bytes n p h (crowds b w e v) = let c = by-place n h in absurd (omega arith)
 
-pub outside-comes : (bytes : List ℕ) (n p : ℕ) → n ≡ length-outside → Comes bytes (refusal n p)
+pub outside-comes : (ed : Edition) (bytes : List ℕ) (n p : ℕ) → n ≡ length-outside → Comes ed bytes (refusal n p)
     → ((length bytes ≡ 0) ⊎ (programBytes < length bytes)) × (p ≡ 0)
-outside-comes bytes n p h (outside o) = (o, refl)
-outside-comes bytes n p h (stopped _ left w e) = let c = stop-number bytes n left (main-stop bytes n left e) in absurd (omega arith)
-outside-comes bytes n p h (overran b x left w e) = absurd (omega arith)
-outside-comes bytes n p h (crowds b w e v) = absurd (omega arith)
+outside-comes ed bytes n p h (outside o) = (o, refl)
+outside-comes ed bytes n p h (stopped _ left w e) = let c = stop-number bytes n left (main-stop bytes n left e) in absurd (omega arith)
+outside-comes ed bytes n p h (overran b x left w e) = absurd (omega arith)
+outside-comes ed bytes n p h (crowds b w e v) = absurd (omega arith)
 
-pub crowded-comes : (bytes : List ℕ) (n p : ℕ) → n ≡ too-many-vertices → Comes bytes (refusal n p) → Crowded bytes × (p ≡ 0)
-crowded-comes bytes n p h (outside o) = absurd (omega arith)
-crowded-comes bytes n p h (stopped _ left w e) = let c = stop-number bytes n left (main-stop bytes n left e) in absurd (omega arith)
-crowded-comes bytes n p h (overran b x left w e) = absurd (omega arith)
-crowded-comes bytes n p h (crowds b w e v) = let (q, f, forced) = all-sound bytes b e in (crowded b f forced q v, refl)
+pub crowded-comes : (ed : Edition) (bytes : List ℕ) (n p : ℕ) → n ≡ too-many-vertices → Comes ed bytes (refusal n p)
+    → Crowded ed bytes × (p ≡ 0)
+crowded-comes ed bytes n p h (outside o) = absurd (omega arith)
+crowded-comes ed bytes n p h (stopped _ left w e) = let c = stop-number bytes n left (main-stop bytes n left e) in absurd (omega arith)
+crowded-comes ed bytes n p h (overran b x left w e) = absurd (omega arith)
+crowded-comes ed bytes n p h (crowds b w e v) = let (q, f, forced) = all-sound bytes b e in (crowded b f forced q v, refl)
 
-pub crowded-reads : (bytes : List ℕ) → Within bytes → Crowded bytes → reading bytes ≡ refusal too-many-vertices 0
+pub crowded-reads : (ed : Edition) (bytes : List ℕ) → Within bytes → Crowded ed bytes → reading ed bytes ≡ refusal too-many-vertices 0
 unfolding whole
-crowded-reads bytes w (crowded b f forced e v) =
+crowded-reads ed bytes w (crowded b f forced e v) =
     let t : body 1 0 bytes ≡ took b [] = ap (body 1 0) e ∙ all-complete b f forced in
-    reading-within bytes w ∙ rw t (counted-crowded b v)
+    reading-within ed bytes w ∙ rw t (counted-crowded ed b v)

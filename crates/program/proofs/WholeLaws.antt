@@ -8,6 +8,7 @@ use native.Mathlib.Omega.{arith}
 use lib.Dec.{leb}
 use lib.ListN.{length}
 use borrow.Author.Tests.{lt-ltb, le-ltb, le-leb, lt-leb}
+use Rattle.program.specs.declared.Edition.{Edition}
 use Rattle.program.specs.declared.Reader.{Reader}
 use Rattle.program.specs.Limits.{programBytes, vertexLimit}
 use Rattle.program.specs.Trees.{Body, Counts, counts}
@@ -20,25 +21,27 @@ use Rattle.program.proofs.Formulas.{vertices-formula}
 use Rattle.program.proofs.ReadingLaws.{Within, Outside, reading-outside, reading-within}
 
 -- bytes are left behind the main body's end
-pub bytes-left : (len place : ℕ) (c : Counts) → place < len → ProgramSaid.refused bytes-after-end place ≡ finished len place c
+pub bytes-left :
+    (ed : Edition) (len place : ℕ) (c : Counts) → place < len → ProgramSaid.refused bytes-after-end place ≡ finished ed len place c
 unfolding finished
-bytes-left len place c lt = rw (lt-ltb place len lt) refl
+bytes-left ed len place c lt = rw (lt-ltb place len lt) refl
 
 -- none are, and there are too many vertices
 pub vertices-over :
-    (len place : ℕ) (c : Counts) → len ≤ place → vertexLimit < vertexFormula c → ProgramSaid.refused too-many-vertices 0 ≡ finished len place c
+    (ed : Edition) (len place : ℕ) (c : Counts) → len ≤ place → vertexLimit < vertexFormula ed c
+    → ProgramSaid.refused too-many-vertices 0 ≡ finished ed len place c
 unfolding finished
-vertices-over len place c le over = rw (le-ltb place len le, lt-leb (vertexFormula c) vertexLimit over) refl
+vertices-over ed len place c le over = rw (le-ltb place len le, lt-leb (vertexFormula ed c) vertexLimit over) refl
 
 -- none are, and there are not
-pub all-read : (len place : ℕ) (c : Counts) → len ≤ place → vertexFormula c ≤ vertexLimit → loads c ≡ finished len place c
+pub all-read : (ed : Edition) (len place : ℕ) (c : Counts) → len ≤ place → vertexFormula ed c ≤ vertexLimit → loads c ≡ finished ed len place c
 unfolding finished
-all-read len place c le few = rw (le-ltb place len le, le-leb (vertexFormula c) vertexLimit few) refl
+all-read ed len place c le few = rw (le-ltb place len le, le-leb (vertexFormula ed c) vertexLimit few) refl
 
 -- there are no bytes, or too many
-pub read-outside : (xs : List ℕ) → Outside xs → ProgramSaid.refused length-outside 0 ≡ told (reading xs)
+pub read-outside : (ed : Edition) (xs : List ℕ) → Outside xs → ProgramSaid.refused length-outside 0 ≡ told (reading ed xs)
 unfolding told
-read-outside xs out = sym (ap told (reading-outside xs out))
+read-outside ed xs out = sym (ap told (reading-outside ed xs out))
 
 -- what was counted before the first item
 abbrev none-seen : Counts
@@ -49,24 +52,25 @@ unfolding plus
 plus-none c = rw (zero-add (c .w), zero-add (c .a), zero-add (c .f), zero-add (c .k), zero-add (c .u), zero-add (c .x)) refl
 
 -- the main body ends with the program
-counted-said : (len : ℕ) (b : Body) → finished len len (counts b) ≡ told (counted b)
+counted-said : (ed : Edition) (len : ℕ) (b : Body) → finished ed len len (counts b) ≡ told (counted ed b)
 unfolding finished counted told
-counted-said len b = rw (le-ltb len len (omega arith), vertices-formula b) (go (leb (vertexFormula (counts b)) vertexLimit))
+counted-said ed len b = rw (le-ltb len len (omega arith), vertices-formula ed b) (go (leb (vertexFormula ed (counts b)) vertexLimit))
   where
     go : (t : Bool) → cond t (loads (counts b)) (ProgramSaid.refused too-many-vertices 0) ≡ told (cond t (program b) (refusal too-many-vertices 0))
     go true = refl
     go false = refl
 
 -- a reader behind the main body, or its refusal
-abbrev pub concluded : ℕ → Progress → ProgramSaid
-concluded len (past p c) = finished len p c
-concluded len (stopped n p) = ProgramSaid.refused n p
+abbrev pub concluded : Edition → ℕ → Progress → ProgramSaid
+concluded ed len (past p c) = finished ed len p c
+concluded ed len (stopped n p) = ProgramSaid.refused n p
 
-body-said : (len : ℕ) (r : Read Body) → 0 < len → concluded len (progress counts len none-seen r) ≡ told (whole len r)
+body-said : (ed : Edition) (len : ℕ) (r : Read Body) → 0 < len → concluded ed len (progress counts len none-seen r) ≡ told (whole ed len r)
 unfolding progress whole told
-body-said len (took b []) some = ap₂ (λ (o : ℕ) (d : Counts). finished len o d) (sub-zero len) (plus-none (counts b)) ∙ counted-said len b
-body-said len (took b (x ∷ left)) some = sym (bytes-left len (len - length (x ∷ left)) (plus none-seen (counts b)) (omega arith))
-body-said len (refused n left) some = refl
+body-said ed len (took b []) some =
+    ap₂ (λ (o : ℕ) (d : Counts). finished ed len o d) (sub-zero len) (plus-none (counts b)) ∙ counted-said ed len b
+body-said ed len (took b (x ∷ left)) some = sym (bytes-left ed len (len - length (x ∷ left)) (plus none-seen (counts b)) (omega arith))
+body-said ed len (refused n left) some = refl
 
 -- a reader at the first byte is ready
 pub start-ready : (r : Reader) (xs : List ℕ) → r ≡ readerAt 0 → length xs ≤ programBytes → Ready r xs
@@ -84,12 +88,12 @@ start-ready r xs is few =
 
 -- the program comes to what its main body does
 pub main-said :
-    (r : Reader) (xs : List ℕ) (g : Progress) → r ≡ readerAt 0 → Within xs
-    → g ≡ progress counts (r .place + length xs) (itemCounts (r .seen)) (body 1 0 xs) → concluded (length xs) g ≡ told (reading xs)
-main-said r xs g start within is =
-    ap (concluded (length xs))
+    (ed : Edition) (r : Reader) (xs : List ℕ) (g : Progress) → r ≡ readerAt 0 → Within xs
+    → g ≡ progress counts (r .place + length xs) (itemCounts (r .seen)) (body 1 0 xs) → concluded ed (length xs) g ≡ told (reading ed xs)
+main-said ed r xs g start within is =
+    ap (concluded ed (length xs))
     (is
     ∙ ap (λ (r : Reader). progress counts (r .place + length xs) (itemCounts (r .seen)) (body 1 0 xs)) start
     ∙ ap (λ (m : ℕ). progress counts m none-seen (body 1 0 xs)) (zero-add (length xs)))
-    ∙ body-said (length xs) (body 1 0 xs) (within .0)
-    ∙ ap told (sym (reading-within xs within))
+    ∙ body-said ed (length xs) (body 1 0 xs) (within .0)
+    ∙ ap told (sym (reading-within ed xs within))

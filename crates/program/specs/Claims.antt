@@ -4,10 +4,11 @@ use mathlib.Core.Path.{_≡_}
 use mathlib.Core.List.{List, [], _∷_, _++_}
 use mathlib.Core.Logic.{_⊎_}
 use lib.ListN.{length, getD}
+use Rattle.program.specs.declared.Edition.{Edition}
 use Rattle.program.specs.Limits.{numberBytes, jobLimit, levelLimit, programBytes, vertexLimit}
 use Rattle.program.specs.Trees.{Body, end, Item, withFirst, depth, largest, openBehind, HasFutures}
 use Rattle.program.specs.Bytes.{endByte, jobByte, asyncByte, forkByte, futureByte, forceByte, topBit, encodeNumber, encode, size}
-use Rattle.program.specs.Encodings.{firstEdition, verticesMade}
+use Rattle.program.specs.Encodings.{verticesMade}
 use Rattle.refusal.specs.Refusals.{number-malformed, byte-unknown, level-too-deep, job-too-large, no-such-future}
 
 -- a tree within the limits on numbers and levels
@@ -15,12 +16,12 @@ pub record Fits (b : Body) : Type 0 where
   pub numbers : largest b ≤ jobLimit
   pub levels : depth b ≤ levelLimit
 
--- a tree within all limits, in which every force has its future
-pub record Loadable (b : Body) : Type 0 where
+-- a tree within all limits, in which every force has its future; only that on vertices goes by the edition
+pub record Loadable (ed : Edition) (b : Body) : Type 0 where
   pub fits : Fits b
   pub forced : HasFutures 0 b
   pub bytes : size b ≤ programBytes
-  pub made : verticesMade firstEdition b ≤ vertexLimit
+  pub made : verticesMade ed b ≤ vertexLimit
 
 -- the bytes of a tree within the limits on numbers and levels, in which every force has its future
 pub data Encoding (xs : List ℕ) : Type 0 where
@@ -31,8 +32,8 @@ pub data Overlong (xs : List ℕ) (p : ℕ) : Type 0 where
   overlong : (whole : List ℕ) (x : ℕ) (more : List ℕ) → Encoding whole → xs ≡ whole ++ (x ∷ more) → p ≡ length whole → Overlong xs p
 
 -- the encoding of a tree that makes too many vertices
-pub data Crowded (xs : List ℕ) : Type 0 where
-  crowded : (b : Body) → Fits b → HasFutures 0 b → xs ≡ encode b → vertexLimit < verticesMade firstEdition b → Crowded xs
+pub data Crowded (ed : Edition) (xs : List ℕ) : Type 0 where
+  crowded : (b : Body) → Fits b → HasFutures 0 b → xs ≡ encode b → vertexLimit < verticesMade ed b → Crowded ed xs
 
 -- 2, 3, 4 and 7, and 43 "by place among 2 to 7": the refusals that bytes are blamed for
 abbrev pub ByPlace : ℕ → Type 0

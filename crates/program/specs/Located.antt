@@ -6,6 +6,7 @@ use mathlib.Core.List.{List, [], _∷_}
 use mathlib.Core.Option.{Option, none, some}
 use lib.Dec.{eqb}
 use lib.ListN.{length, getD}
+use Rattle.program.specs.declared.Edition.{Edition}
 use Rattle.program.specs.Trees.{Body, end, job, async, finish, fork, future, force}
 use Rattle.program.specs.Bytes.{numberSize, size}
 use Rattle.program.specs.Reader.{Reading, program, refusal, reading}
@@ -105,8 +106,8 @@ standsIn (refusal n q) p = Stands.refused nothing-starts 0
 
 -- What stands at a place, where the whole program is read from its first byte on. "13 .. bytes that loading refuses by 1 to 8, a place where no
 -- item or end byte starts"; "13 counts 43 as it does 1 to 8" (note 5)
-unfoldable pub itemAt : List ℕ → ℕ → Stands
-itemAt bytes p = standsIn (reading bytes) p
+unfoldable pub itemAt : Edition → List ℕ → ℕ → Stands
+itemAt ed bytes p = standsIn (reading ed bytes) p
 
 -- an item or an end byte starts at a place
 unfoldable pub isSome : Option Code → Bool
@@ -117,9 +118,9 @@ unfoldable pub startsIn : Reading → ℕ → Bool
 startsIn (program b) p = isSome (codeAt (located b) p)
 startsIn (refusal n q) p = false
 
-unfoldable pub startsAt : List ℕ → ℕ → Bool
-startsAt bytes p = startsIn (reading bytes) p
+unfoldable pub startsAt : Edition → List ℕ → ℕ → Bool
+startsAt ed bytes p = startsIn (reading ed bytes) p
 
 -- marks that tell of each of their places whether something starts there
-abbrev pub MarksStarts : List ℕ → List ℕ → Type 0
-MarksStarts bytes marks = (p : ℕ) → p < length marks → getD marks p 0 ≡ cond (startsAt bytes p) 1 0
+abbrev pub MarksStarts : Edition → List ℕ → List ℕ → Type 0
+MarksStarts ed bytes marks = (p : ℕ) → p < length marks → getD marks p 0 ≡ cond (startsAt ed bytes p) 1 0

@@ -5,11 +5,12 @@ use mathlib.Core.List.{List, [], _∷_}
 use mathlib.Core.Option.{Option, none, some}
 use lib.Dec.{eqb, ltb, leb}
 use lib.ListN.{length}
+use Rattle.program.specs.declared.Edition.{Edition}
 use Rattle.program.specs.Limits.{numberBytes, jobLimit, levelLimit, programBytes, vertexLimit}
 use Rattle.program.specs.Trees.{Kind, jobs, asyncs, finishes, forks, futures, forces, Body, end, Item, a-job, an-async, a-finish, a-fork}
 use Rattle.program.specs.Trees.{a-future, a-force, withFirst, openBehind}
 use Rattle.program.specs.Bytes.{endByte, topBit}
-use Rattle.program.specs.Encodings.{firstEdition, verticesMade}
+use Rattle.program.specs.Encodings.{verticesMade}
 use Rattle.refusal.specs.Refusals.{byte-unknown, level-too-deep, length-outside, bytes-run-out}
 use Rattle.refusal.specs.Refusals.{number-malformed, too-many-vertices, bytes-after-end, job-too-large, no-such-future}
 
@@ -108,18 +109,18 @@ pub data Reading : Type 0 where
   program : Body → Reading
   refusal : ℕ → ℕ → Reading
 
--- "8 V above 1,024"
-unfoldable pub counted : Body → Reading
-counted b = cond (leb (verticesMade firstEdition b) vertexLimit) (program b) (refusal too-many-vertices 0)
+-- "8 V above 1,024"; "V .. counted by the edition" (note 10)
+unfoldable pub counted : Edition → Body → Reading
+counted ed b = cond (leb (verticesMade ed b) vertexLimit) (program b) (refusal too-many-vertices 0)
 
 -- "6 bytes after the end". The place of what is left is the length less what is left.
-unfoldable pub whole : ℕ → Read Body → Reading
-whole len (took b []) = counted b
-whole len (took b (x ∷ left)) = refusal bytes-after-end (len - length (x ∷ left))
-whole len (refused n left) = refusal n (len - length left)
+unfoldable pub whole : Edition → ℕ → Read Body → Reading
+whole ed len (took b []) = counted ed b
+whole ed len (took b (x ∷ left)) = refusal bytes-after-end (len - length (x ∷ left))
+whole ed len (refused n left) = refusal n (len - length left)
 
 -- "Load: 1; the first of 2 to 7 by place, ..; 8"; 43 is "by place among 2 to 7"
-unfoldable pub reading : List ℕ → Reading
-reading bytes =
+unfoldable pub reading : Edition → List ℕ → Reading
+reading ed bytes =
     cond (eqb (length bytes) 0) (refusal length-outside 0)
-    (cond (leb (length bytes) programBytes) (whole (length bytes) (body 1 0 bytes)) (refusal length-outside 0))
+    (cond (leb (length bytes) programBytes) (whole ed (length bytes) (body 1 0 bytes)) (refusal length-outside 0))

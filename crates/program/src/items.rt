@@ -1,4 +1,5 @@
 // What stands at a place of a program.
+use crate::Edition;
 use crate::ItemCounts;
 use crate::ItemRead;
 use crate::NumberRead;
@@ -24,10 +25,10 @@ ghost use Rattle.program.specs.Internal.Progress.{BeginsWithBody, Shows,
 
 // What stands at a place of a program, with a reader moved past it that has seen nothing; refused where the program is, and where no item
 // or end byte starts.
-pub fn item_at(program: &[u8], place: u32) -> ItemRead
-    ensures { λ r. ⌜ (stands r ≡ itemAt (now (program .entry)) place) × (handedBack r ≡ movedPast (readerAt place) (stands r)) ⌝ }
+pub fn item_at(program: &[u8], edition: Edition, place: u32) -> ItemRead
+    ensures { λ r. ⌜ (stands r ≡ itemAt edition (now (program .entry)) place) × (handedBack r ≡ movedPast (readerAt place) (stands r)) ⌝ }
 {
-    if !starts_at(program, place) {
+    if !starts_at(program, edition, place) {
         return ItemRead::Refused(Refusal {
             number: NOTHING_STARTS,
             place: 0,

@@ -11,6 +11,13 @@ pub mod starts;
 
 use refusal::Refusal;
 
+// Whose fork a program's forks are: the slides', which makes a third vertex for what follows, or the article's, which makes none and
+// yields. All else, the bytes among it, is the same in both.
+pub enum Edition {
+    First,
+    Second,
+}
+
 // How many items of each kind. A program has fewer bytes than 16 bits can count; so narrow, and in this order, with the counts that rise most
 // often in a word of their own, they cost a reader little to carry along (docs/COST.md).
 pub struct ItemCounts {

@@ -1,4 +1,5 @@
 // Where items and end bytes start in a program.
+use crate::Edition;
 use crate::ProgramRead;
 use crate::format::FORCE;
 use crate::format::JOB;
@@ -15,10 +16,10 @@ ghost use Rattle.program.specs.Claims.{Encoding};
 ghost use Rattle.program.specs.Internal.Progress.{opensNumber, inNumber, Outside};
 
 // Whether an item or an end byte starts at a place of a program.
-pub fn starts_at(program: &[u8], place: u32) -> bool
-    ensures { λ r. ⌜ r ≡ startsAt (now (program .entry)) place ⌝ }
+pub fn starts_at(program: &[u8], edition: Edition, place: u32) -> bool
+    ensures { λ r. ⌜ r ≡ startsAt edition (now (program .entry)) place ⌝ }
 {
-    let reading = read(program);
+    let reading = read(program, edition);
     match reading {
         ProgramRead::Refused(refusal) => false,
         ProgramRead::Program(counts) => {
@@ -32,11 +33,11 @@ pub fn starts_at(program: &[u8], place: u32) -> bool
 }
 
 // The same of every place at once: marks with 1 the places where an item or an end byte starts. The marks handed in are 0.
-pub fn mark_starts(program: &[u8], marks: &mut [u8])
+pub fn mark_starts(program: &[u8], edition: Edition, marks: &mut [u8])
     requires { ⌜ now marks ≡ replicate (length (now marks)) 0 ⌝ }
-    ensures { λ _. ⌜ (length (now (marks .exit)) ≡ length (now (marks .entry))) × MarksStarts (now (program .entry)) (now (marks .exit)) ⌝ }
+    ensures { λ _. ⌜ (length (now (marks .exit)) ≡ length (now (marks .entry))) × MarksStarts edition (now (program .entry)) (now (marks .exit)) ⌝ }
 {
-    let reading = read(program);
+    let reading = read(program, edition);
     match reading {
         ProgramRead::Refused(refusal) => {}
         ProgramRead::Program(counts) => mark_outside_numbers(program, marks),

@@ -18,6 +18,7 @@ use Rattle.program.specs.Reader.{Read, took, refused}
 use Rattle.program.specs.Answers.{ProgramSaid, loads, itemCounts, Stands}
 use Rattle.program.specs.Located.{locate, head}
 use Rattle.program.specs.Encodings.{vertexFormula}
+use Rattle.program.specs.declared.Edition.{Edition}
 use Rattle.program.specs.Claims.{Fits}
 
 unfoldable pub plus : Counts → Counts → Counts
@@ -83,10 +84,10 @@ pub record Few (c : Counts) : Type 0 where
   pub x-few : c .x ≤ programBytes
 
 -- what a program of this length comes to whose main body ends at this place and has these items
-unfoldable pub finished : ℕ → ℕ → Counts → ProgramSaid
-finished len place c =
+unfoldable pub finished : Edition → ℕ → ℕ → Counts → ProgramSaid
+finished ed len place c =
     cond (ltb place len) (ProgramSaid.refused bytes-after-end place)
-    (cond (leb (vertexFormula c) vertexLimit) (loads c) (ProgramSaid.refused too-many-vertices 0))
+    (cond (leb (vertexFormula ed c) vertexLimit) (loads c) (ProgramSaid.refused too-many-vertices 0))
 
 -- A reader at the start of these bytes: they end within a program's limit, and no more items were counted than bytes were read.
 pub record Ready (r : Reader) (left : List ℕ) : Type 0 where

@@ -10,7 +10,10 @@ use Rattle.program.proofs.items.item_at.Statement.{statement}
 use Rattle.program.proofs.items.item_at.Tie as tie
 
 -- behind the test something starts at the place
-started : (c : tie.Else1) → startsAt (c .before .before .before .args .program .now) (c .before .before .before .args .place) ≡ true
+started :
+    (c : tie.Else1)
+    → startsAt (c .before .before .before .args .edition) (c .before .before .before .args .program .now) (c .before .before .before .args .place)
+    ≡ true
 started c = sym (c .before .starts-at .ensures) ∙ not-false _ (c .if1 .left)
 
 pub item-at-spec : {M : Type 1} → statement M
@@ -18,12 +21,12 @@ item-at-spec =
     tie.close
     (tie.spec
     (λ c κs. search needs)
-    (λ c. (sym (not-starting _ _ (sym (c .before .starts-at .ensures) ∙ not-true _ (c .if1 .taken))), refl))
+    (λ c. (sym (not-starting _ _ _ (sym (c .before .starts-at .ensures) ∙ not-true _ (c .if1 .taken))), refl))
     (λ c κs. search needs)
-    (λ c. omega (arith, starts-length _ _ (started (c .before))))
-    (λ c. omega (arith, starts-length _ _ (started (c .before))))
+    (λ c. omega (arith, starts-length _ _ _ (started (c .before))))
+    (λ c. omega (arith, starts-length _ _ _ (started (c .before))))
     (λ c. search needs)
-    (λ c κs. rw (c .before .at .ensures) (starting-holds _ _ (started (c .before .before))))
+    (λ c κs. rw (c .before .at .ensures) (starting-holds _ _ _ (started (c .before .before))))
     (λ c.
     let read = rw (c .before .before .at .ensures) at (c .item-here .ensures) in
-    (starting-shown _ _ _ (started (c .before .before .before)) (read .0), read .1)))
+    (starting-shown _ _ _ _ (started (c .before .before .before)) (read .0), read .1)))

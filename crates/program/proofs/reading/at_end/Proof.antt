@@ -12,10 +12,10 @@ at-end-spec =
     (tie.spec
     (λ c. search needs)
     (λ c κs. search needs)
-    (λ c. c .refused .ensures ∙ bytes-left _ _ _ (c .before .if1 .taken))
+    (λ c. c .refused .ensures ∙ bytes-left _ _ _ _ (c .before .if1 .taken))
     (λ c κs. search needs)
     (λ c κs. search needs)
     (λ c.
     c .refused2 .ensures
-    ∙ vertices-over _ _ _ (c .before .before .before .before .if1 .left) (omega (arith, c .before .before .vertices .ensures)))
-    (λ c. all-read _ _ _ (c .before .before .before .if1 .left) (omega (arith, c .before .vertices .ensures))))
+    ∙ vertices-over _ _ _ _ (c .before .before .before .before .if1 .left) (omega (arith, c .before .before .vertices .ensures)))
+    (λ c. all-read _ _ _ _ (c .before .before .before .if1 .left) (omega (arith, c .before .vertices .ensures))))

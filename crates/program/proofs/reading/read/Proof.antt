@@ -13,18 +13,19 @@ read-spec =
     tie.close
     (tie.spec
     (λ c κs. search needs)
-    (λ c. c .refused .ensures ∙ read-outside _ (inl (c .before .if1 .taken)))
+    (λ c. c .refused .ensures ∙ read-outside _ _ (inl (c .before .if1 .taken)))
     (λ c κs. search needs)
-    (λ c. c .refused2 .ensures ∙ read-outside _ (inr (c .before .if2 .taken)))
+    (λ c. c .refused2 .ensures ∙ read-outside _ _ (inr (c .before .if2 .taken)))
     (λ c κs. search needs)
     (λ c κs. (start-ready _ _ (c .at .ensures) (c .before .if2 .left), omega arith))
     (λ c. search needs)
     (λ c. search needs)
     (λ c κs. search needs)
     (λ c.
-    main-said _ _ _ (c .before .before .before .before .at .ensures) (omega arith, c .before .before .before .before .before .if2 .left)
+    main-said _ _ _ _ (c .before .before .before .before .at .ensures) (omega arith, c .before .before .before .before .before .if2 .left)
     (ap reached (sym (c .before .main .given .1)) ∙ c .before .before .before .body .ensures))
     (λ c.
     c .at-end .ensures
-    ∙ main-said _ _ _ (c .before .before .before .before .before .at .ensures) (omega arith, c .before .before .before .before .before .before .if2 .left)
+    ∙ main-said _ _ _ _ (c .before .before .before .before .before .at .ensures)
+    (omega arith, c .before .before .before .before .before .before .if2 .left)
     (ap reached (sym (c .before .before .main2 .given .1)) ∙ c .before .before .before .before .body .ensures)))

@@ -12,7 +12,7 @@ mark-outside-numbers-requires c κs = c .before .before .before .before .before 
 returns : tie.Need-returns
 returns c = (
   refl,
-  marked-refused _ _ _ _
+  marked-refused _ _ _ _ _
       (ap said (sym (c .before .reading .given .1)) ∙ c .before .before .before .read .ensures)
       (c .before .before .before .before .before .before .pre),
 )
@@ -20,7 +20,7 @@ returns c = (
 returns-2 : tie.Need-returns-2
 returns-2 c = (
   c .before .before .mark-outside-numbers .ensures .0,
-  marked-read _ (c .before .before .mark-outside-numbers .last .1 .0) _
+  marked-read _ _ (c .before .before .mark-outside-numbers .last .1 .0) _
       (ap said (sym (c .before .before .before .before .before .reading2 .given .1))
       ∙ c .before .before .before .before .before .before .before .read .ensures)
       (c .before .before .mark-outside-numbers .ensures .1),

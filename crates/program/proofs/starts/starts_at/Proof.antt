@@ -16,17 +16,17 @@ starts-at-spec =
     (λ c. search needs)
     (λ c. search needs)
     (λ c.
-    starts-outside _ _ _
+    starts-outside _ _ _ _
     (ap said (sym (c .before .before .reading2 .given .1)) ∙ c .before .before .before .before .read .ensures)
     (c .if1 .taken))
     (λ c κs. (
-      loads-encoding _ _
+      loads-encoding _ _ _
           (ap said (sym (c .before .before .reading2 .given .1)) ∙ c .before .before .before .before .read .ensures),
       omega arith,
     ))
-    (λ c. starts-refused _ _ _ _ (ap said (sym (c .before .reading .given .1)) ∙ c .before .before .before .read .ensures))
+    (λ c. starts-refused _ _ _ _ _ (ap said (sym (c .before .reading .given .1)) ∙ c .before .before .before .read .ensures))
     (λ c.
     ap not (c .in-number .ensures)
-    ∙ starts-inside _ _ _
+    ∙ starts-inside _ _ _ _
     (ap said (sym (c .before .before .before .reading2 .given .1)) ∙ c .before .before .before .before .before .read .ensures)
     (c .before .if1 .left)))
