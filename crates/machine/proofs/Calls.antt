@@ -10,6 +10,7 @@ use lib.ListN.{length}
 use Rattle.graph.specs.Tables.{Lent}
 use Rattle.graph.proofs.TestLaws.{true-false}
 use Rattle.graph.proofs.LowestLaws.{Finds}
+use Rattle.program.specs.declared.Edition.{Edition}
 use Rattle.refusal.specs.Refusals.{unsound-tables}
 use Rattle.machine.specs.Answers.{StepSaid, accepted}
 use Rattle.machine.specs.Stepping.{steppable, step}
@@ -19,21 +20,21 @@ use Rattle.machine.specs.Reached.{Reached, stepped, Call, a-step, a-run,
 use Rattle.machine.specs.Reached.{callLeaves, answersOf, leavesOf}
 use Rattle.machine.proofs.RunDemand2.{lowest-finds, run-ran}
 
-module _ (bytes : List ℕ) (s₀ : Lent) where
+module _ (ed : Edition) (bytes : List ℕ) (s₀ : Lent) where
   -- nothing more was answered
-  same-answers : {answers : List StepSaid} {s : Lent} → Reached bytes s₀ answers s → Reached bytes s₀ (answers ++ []) s
-  same-answers {answers} {s} q = subst (λ (l : List StepSaid). Reached bytes s₀ l s) (sym (append-nil answers)) q
+  same-answers : {answers : List StepSaid} {s : Lent} → Reached ed bytes s₀ answers s → Reached ed bytes s₀ (answers ++ []) s
+  same-answers {answers} {s} q = subst (λ (l : List StepSaid). Reached ed bytes s₀ l s) (sym (append-nil answers)) q
 
   -- a step, and then what comes behind it
   and-more :
-      (answers : List StepSaid) {s' : Lent} (a : StepSaid) (rest : List StepSaid) → Reached bytes s₀ ((answers ++ (a ∷ [])) ++ rest) s'
-      → Reached bytes s₀ (answers ++ (a ∷ rest)) s'
-  and-more answers {s'} a rest q = subst (λ (l : List StepSaid). Reached bytes s₀ l s') (append-assoc answers (a ∷ []) rest) q
+      (answers : List StepSaid) {s' : Lent} (a : StepSaid) (rest : List StepSaid) → Reached ed bytes s₀ ((answers ++ (a ∷ [])) ++ rest) s'
+      → Reached ed bytes s₀ (answers ++ (a ∷ rest)) s'
+  and-more answers {s'} a rest q = subst (λ (l : List StepSaid). Reached ed bytes s₀ l s') (append-assoc answers (a ∷ []) rest) q
 
   -- what a run looks at when its budget is used: it stays where it is
   spent-reached :
       (again : Lent → Option StepSaid → ℕ → RunOutcome) {answers : List StepSaid} (s : Lent) (last : Option StepSaid) (taken : ℕ)
-      → Reached bytes s₀ answers s → (b : Bool) (x : Option ℕ) → Reached bytes s₀ answers (look bytes again 0 s last taken b x .after)
+      → Reached ed bytes s₀ answers s → (b : Bool) (x : Option ℕ) → Reached ed bytes s₀ answers (look ed bytes again 0 s last taken b x .after)
   unfolding look
   spent-reached again s last taken q true x = q
   spent-reached again s last taken q false none = q
@@ -43,60 +44,60 @@ module _ (bytes : List ℕ) (s₀ : Lent) where
   look-reached :
       (left : ℕ) (again : Lent → Option StepSaid → ℕ → RunOutcome) (tells : Lent → List StepSaid) {answers : List StepSaid} (s : Lent)
       (last : Option StepSaid) (taken : ℕ)
-      → ((l : List StepSaid) (s' : Lent) (last' : Option StepSaid) (taken' : ℕ) → Reached bytes s₀ l s'
-      → Reached bytes s₀ (l ++ tells s') (again s' last' taken' .after))
-      → Reached bytes s₀ answers s → (b : Bool) (x : Option ℕ)
-      → Reached bytes s₀ (answers ++ goOn bytes tells s b x) (look bytes again (suc left) s last taken b x .after)
+      → ((l : List StepSaid) (s' : Lent) (last' : Option StepSaid) (taken' : ℕ) → Reached ed bytes s₀ l s'
+      → Reached ed bytes s₀ (l ++ tells s') (again s' last' taken' .after))
+      → Reached ed bytes s₀ answers s → (b : Bool) (x : Option ℕ)
+      → Reached ed bytes s₀ (answers ++ goOn ed bytes tells s b x) (look ed bytes again (suc left) s last taken b x .after)
   unfolding look goOn
   look-reached left again tells s last taken on q true x = same-answers q
   look-reached left again tells s last taken on q false none = same-answers q
   look-reached left again tells {answers} s last taken on q false (some v) =
-      and-more answers (step bytes s v .answer) (tells (step bytes s v .after))
-      (on (answers ++ (step bytes s v .answer ∷ [])) (step bytes s v .after) (some (step bytes s v .answer)) (suc taken) (stepped q v))
+      and-more answers (step ed bytes s v .answer) (tells (step ed bytes s v .after))
+      (on (answers ++ (step ed bytes s v .answer ∷ [])) (step ed bytes s v .after) (some (step ed bytes s v .answer)) (suc taken) (stepped q v))
 
   -- from where a run has come to, with so much of its budget left
   on-reached :
-      (left : ℕ) (answers : List StepSaid) (s : Lent) (last : Option StepSaid) (taken : ℕ) → Reached bytes s₀ answers s
-      → Reached bytes s₀ (answers ++ runAnswers bytes left s) (runOn bytes left s last taken .after)
+      (left : ℕ) (answers : List StepSaid) (s : Lent) (last : Option StepSaid) (taken : ℕ) → Reached ed bytes s₀ answers s
+      → Reached ed bytes s₀ (answers ++ runAnswers ed bytes left s) (runOn ed bytes left s last taken .after)
   unfolding runAnswers runOn
   on-reached zero answers s last taken q =
       same-answers (spent-reached _ s last taken q _ _)
   on-reached (suc left) answers s last taken q =
-      look-reached left (runOn bytes left) (runAnswers bytes left) s last taken (λ l s' last' taken'. on-reached left l s' last' taken') q
-      (allFinished s) (lowest bytes s)
+      look-reached left (runOn ed bytes left) (runAnswers ed bytes left) s last taken (λ l s' last' taken'. on-reached left l s' last' taken') q
+      (allFinished s) (lowest ed bytes s)
 
   -- a run
   run-on-reached :
-      (budget : ℕ) {answers : List StepSaid} (s : Lent) → Reached bytes s₀ answers s → (b : Bool)
-      → Reached bytes s₀ (answers ++ cond b (runAnswers bytes budget s) [])
-      (cond b (runOn bytes budget s none 0) (ended (refused unsound-tables 0) none 0 s) .after)
+      (budget : ℕ) {answers : List StepSaid} (s : Lent) → Reached ed bytes s₀ answers s → (b : Bool)
+      → Reached ed bytes s₀ (answers ++ cond b (runAnswers ed bytes budget s) [])
+      (cond b (runOn ed bytes budget s none 0) (ended (refused unsound-tables 0) none 0 s) .after)
   run-on-reached budget {answers} s q true = on-reached budget answers s none 0 q
   run-on-reached budget s q false = same-answers q
 
   -- a call
   call-reached :
-      {answers : List StepSaid} (s : Lent) (c : Call) → Reached bytes s₀ answers s
-      → Reached bytes s₀ (answers ++ callAnswers bytes s c) (callLeaves bytes s c)
+      {answers : List StepSaid} (s : Lent) (c : Call) → Reached ed bytes s₀ answers s
+      → Reached ed bytes s₀ (answers ++ callAnswers ed bytes s c) (callLeaves ed bytes s c)
   unfolding callAnswers callLeaves run
   call-reached s (a-step v) q = stepped q v
   call-reached s (a-run budget) q = run-on-reached budget s q (steppable s)
 
   pub run-reached :
-      {answers : List StepSaid} (s : Lent) (budget : ℕ) → Reached bytes s₀ answers s
-      → Reached bytes s₀ (answers ++ callAnswers bytes s (a-run budget)) (run bytes s budget .after)
+      {answers : List StepSaid} (s : Lent) (budget : ℕ) → Reached ed bytes s₀ answers s
+      → Reached ed bytes s₀ (answers ++ callAnswers ed bytes s (a-run budget)) (run ed bytes s budget .after)
   unfolding callLeaves
   run-reached s budget q = call-reached s (a-run budget) q
 
   -- a list of calls, from what was reached
   pub calls-reached :
-      (cs : List Call) {answers : List StepSaid} (s : Lent) → Reached bytes s₀ answers s
-      → Reached bytes s₀ (answers ++ answersOf bytes s cs) (leavesOf bytes s cs)
+      (cs : List Call) {answers : List StepSaid} (s : Lent) → Reached ed bytes s₀ answers s
+      → Reached ed bytes s₀ (answers ++ answersOf ed bytes s cs) (leavesOf ed bytes s cs)
   unfolding answersOf leavesOf
   calls-reached [] s q = same-answers q
   calls-reached (c ∷ cs) {answers} s q =
-      subst (λ (l : List StepSaid). Reached bytes s₀ l (leavesOf bytes (callLeaves bytes s c) cs))
-      (append-assoc answers (callAnswers bytes s c) (answersOf bytes (callLeaves bytes s c) cs))
-      (calls-reached cs (callLeaves bytes s c) (call-reached s c q))
+      subst (λ (l : List StepSaid). Reached ed bytes s₀ l (leavesOf ed bytes (callLeaves ed bytes s c) cs))
+      (append-assoc answers (callAnswers ed bytes s c) (answersOf ed bytes (callLeaves ed bytes s c) cs))
+      (calls-reached cs (callLeaves ed bytes s c) (call-reached s c q))
 
 -- the same answers, with the run that makes these steps, from where it has come to
 record Along (before : Option StepSaid) (taken : ℕ) (answers : List StepSaid) (o : RunOutcome) : Type 0 where
@@ -116,11 +117,11 @@ along-more :
 unfolding AllAccepted lastOr
 along-more h x = record { accepts = (h, x .accepts); last-is = x .last-is; number-is = omega (arith, x .number-is) }
 
-module _ (bytes : List ℕ) where
+module _ (ed : Edition) (bytes : List ℕ) where
   -- one look when the budget is used
   spent-along :
       (again : Lent → Option StepSaid → ℕ → RunOutcome) (s : Lent) (before : Option StepSaid) (taken : ℕ) (b : Bool) (x : Option ℕ)
-      → Along before taken [] (look bytes again 0 s before taken b x)
+      → Along before taken [] (look ed bytes again 0 s before taken b x)
   unfolding look
   spent-along again s before taken true x = along-none _ before taken s
   spent-along again s before taken false none = along-none _ before taken s
@@ -130,8 +131,8 @@ module _ (bytes : List ℕ) where
   look-along :
       (left : ℕ) (again : Lent → Option StepSaid → ℕ → RunOutcome) (tells : Lent → List StepSaid) (s : Lent) (before : Option StepSaid) (taken : ℕ)
       → ((s' : Lent) (before' : Option StepSaid) (taken' : ℕ) → Along before' taken' (tells s') (again s' before' taken'))
-      → (b : Bool) (x : Option ℕ) → Finds (canStep bytes s) (s .made) x
-      → Along before taken (goOn bytes tells s b x) (look bytes again (suc left) s before taken b x)
+      → (b : Bool) (x : Option ℕ) → Finds (canStep ed bytes s) (s .made) x
+      → Along before taken (goOn ed bytes tells s b x) (look ed bytes again (suc left) s before taken b x)
   unfolding look goOn
   look-along left again tells s before taken on true x finds = along-none _ before taken s
   look-along left again tells s before taken on false none finds = along-none _ before taken s
@@ -140,12 +141,12 @@ module _ (bytes : List ℕ) where
   -- from where a run has come to, with so much of its budget left
   on-along :
       (left : ℕ) (s : Lent) (before : Option StepSaid) (taken : ℕ)
-      → Along before taken (runAnswers bytes left s) (runOn bytes left s before taken)
+      → Along before taken (runAnswers ed bytes left s) (runOn ed bytes left s before taken)
   unfolding runAnswers runOn
   on-along zero s before taken = spent-along _ s before taken _ _
   on-along (suc left) s before taken =
-      look-along left (runOn bytes left) (runAnswers bytes left) s before taken (on-along left) (allFinished s) (lowest bytes s)
-      (lowest-finds bytes s)
+      look-along left (runOn ed bytes left) (runAnswers ed bytes left) s before taken (on-along left) (allFinished s) (lowest ed bytes s)
+      (lowest-finds ed bytes s)
 
 -- no step at all
 stands-none : (e : Ending) (s : Lent) → StandsAs [] (ended e none 0 s)
@@ -154,21 +155,22 @@ stands-none e s = record { all-accepted = tt; last-of-them = refl; their-number 
 
 -- "A run lent the same stands in a list as the steps that it makes": all are accepted, and it answers the last of them and their number.
 pub run-stands :
-    (bytes : List ℕ) (s : Lent) (budget : ℕ) → StandsAs (callAnswers bytes s (a-run budget)) (run bytes s budget)
+    (ed : Edition) (bytes : List ℕ) (s : Lent) (budget : ℕ) → StandsAs (callAnswers ed bytes s (a-run budget)) (run ed bytes s budget)
 unfolding callAnswers run
-run-stands bytes s budget = go (steppable s) refl (run-ran bytes s budget)
+run-stands ed bytes s budget = go (steppable s) refl (run-ran ed bytes s budget)
   where
-    along : Along none 0 (runAnswers bytes budget s) (runOn bytes budget s none 0)
-    along = on-along bytes budget s none 0
+    along : Along none 0 (runAnswers ed bytes budget s) (runOn ed bytes budget s none 0)
+    along = on-along ed bytes budget s none 0
 
-    not-refused : {o : RunOutcome} (n p : ℕ) → steppable s ≡ true → OnlySuchSteps bytes s budget o → o .ending ≡ refused n p → ⊥
+    not-refused : {o : RunOutcome} (n p : ℕ) → steppable s ≡ true → OnlySuchSteps ed bytes s budget o → o .ending ≡ refused n p → ⊥
     not-refused n p h (run-refused f _) e = true-false h f
-    not-refused {o} n p h (run-steps _ _ _ looks _) e = subst (λ (x : Ending). Looks bytes budget (o .taken) (o .after) x) e looks
+    not-refused {o} n p h (run-steps _ _ _ looks _) e = subst (λ (x : Ending). Looks ed bytes budget (o .taken) (o .after) x) e looks
 
     go :
-        (b : Bool) → steppable s ≡ b → OnlySuchSteps bytes s budget (cond b (runOn bytes budget s none 0) (ended (refused unsound-tables 0) none 0 s))
-        → StandsAs (cond b (runAnswers bytes budget s) [])
-        (cond b (runOn bytes budget s none 0) (ended (refused unsound-tables 0) none 0 s))
+        (b : Bool) → steppable s ≡ b
+        → OnlySuchSteps ed bytes s budget (cond b (runOn ed bytes budget s none 0) (ended (refused unsound-tables 0) none 0 s))
+        → StandsAs (cond b (runAnswers ed bytes budget s) [])
+        (cond b (runOn ed bytes budget s none 0) (ended (refused unsound-tables 0) none 0 s))
     go true h ran =
         record {
           all-accepted = along .accepts;

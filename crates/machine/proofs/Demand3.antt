@@ -1,7 +1,8 @@
--- Demand 3, of whatever is reached from an accepted loading. What was reached follows a run of the ghost machine (Tracked). Its counts are
--- conserved (CountLaws), its edges lead to higher ranks (Acyclic), one of its vertices can move on as long as one is not over (Progress), and
--- a job that is answered has nothing ahead of it that is not (WaitLaws, Unanswered). How a run ends from there is in RunEnds.
-use Prim.Native.Nat.{ℕ, _+_, _-_, _<_, _≤_}
+-- Demand 3, of whatever is reached from an accepted loading by steps of its edition. What was reached follows a run of the ghost machine
+-- (Tracked). Its counts are conserved (CountLaws), its edges lead to higher ranks (Acyclic), one of its vertices can move on as long as one is
+-- not over (Progress), and a job that is answered has nothing ahead of it that is not (WaitLaws, Unanswered). How a run ends from there is in
+-- RunEnds.
+use Prim.Native.Nat.{ℕ, _+_, _<_, _≤_}
 use mathlib.Core.Path.{_≡_, refl, sym, _∙_, ap, subst}
 use mathlib.Core.Bool.{Bool, true, false, not}
 use mathlib.Core.Logic.{_⊎_, inl, inr, _↔_}
@@ -15,7 +16,8 @@ use Rattle.graph.specs.Paths.{CycleFree, more, holds}
 use Rattle.graph.specs.Answers.{Outcome}
 use Rattle.graph.proofs.TestLaws.{true-false, both-true}
 use Rattle.program.specs.Trees.{Body, counts}
-use Rattle.program.specs.Encodings.{stepsTaken, firstEdition, stepFormula}
+use Rattle.program.specs.declared.Edition.{Edition}
+use Rattle.program.specs.Encodings.{stepsTaken, stepFormula}
 use Rattle.program.specs.Reader.{reading, program}
 use Rattle.program.specs.Located.{Code, job-at, located}
 use Rattle.program.proofs.LocatedLaws.{laid-located}
@@ -45,14 +47,15 @@ use Rattle.machine.proofs.Counting.Unanswered.{nothing-or-held}
 use Rattle.machine.proofs.JobOrder.Order.{Pre, Held}
 use Rattle.machine.proofs.JobOrder.OrderLaws.{written-job}
 use Rattle.machine.proofs.JobOrder.WaitLaws.{in-order}
-use Rattle.machine.proofs.TablesFollow.Follows.{Refuses, absent, blocked, is-new, is-over, Answers, says-start, says-new, says-edge}
-use Rattle.machine.proofs.TablesFollow.Follows.{says-release, says-transfer, says-job, says-stop, Followed, refused, moved}
+use Rattle.machine.proofs.TablesFollow.Follows.{settingOf, Refuses, absent, blocked, is-new, is-over, Answers, says-start, says-new}
+use Rattle.machine.proofs.TablesFollow.Follows.{says-edge, says-release, says-transfer, says-job, says-stop, says-yield, Followed}
+use Rattle.machine.proofs.TablesFollow.Follows.{refused, moved}
 use Rattle.machine.proofs.TablesFollow.Tracked.{Tracked, opens-located, answers-accepted, stepped-as, room-steps, rows-lent, tracked}
 use Rattle.machine.proofs.TablesFollow.RunEnds.{Ends, ends-done, ends-spent, run-ends}
 
 -- no path of held edges closes
 acyclic :
-    {bytes : List ℕ} {t : Body} {s₀ : Lent} {answers : List StepSaid} {s : Lent} → Tracked bytes t s₀ answers s
+    {ed : Edition} {bytes : List ℕ} {t : Body} {s₀ : Lent} {answers : List StepSaid} {s : Lent} → Tracked ed bytes t s₀ answers s
     → CycleFree (holds (s .edges) (s .held))
 acyclic T = cycle-free (T .inv .shape) (T .inv .ranks) (T .follows .edges-are)
 
@@ -103,39 +106,40 @@ answers-at {S} {v} {n} {o} (says-job {o = o'} {n = n'} {r} at) h =
     let same : (n' ≡ n) × (o' ≡ o) = (cc, cc) in
     (r, at ∙ ap (λ (x : ℕ). busy (job-at x n' r) []) (same .1) ∙ ap (λ (x : ℕ). busy (job-at o x r) []) (same .0))
 answers-at says-stop h = clash cc
+answers-at says-yield h = clash cc
 
 -- What was reached, and a further step of v.
-module _ (bytes : List ℕ) (t : Body) {s₀ : Lent} {answers : List StepSaid} {s : Lent} (r : reading bytes ≡ program t)
-    (q : Reached bytes s₀ answers s)
+module _ (ed : Edition) (bytes : List ℕ) (t : Body) {s₀ : Lent} {answers : List StepSaid} {s : Lent} (r : reading ed bytes ≡ program t)
+    (q : Reached ed bytes s₀ answers s)
   where
-    abbrev T : Tracked bytes t s₀ answers s
-    T = tracked bytes t r q
+    abbrev T : Tracked ed bytes t s₀ answers s
+    T = tracked ed bytes t r q
 
-    seen : (v : ℕ) → Followed (located t) (length bytes - 1) s (T .state) v (step bytes s v)
-    seen v = stepped-as bytes t s₀ r (rows-lent bytes t r q) T v
+    seen : (v : ℕ) → Followed (located t) (settingOf ed bytes) s (T .state) v (step ed bytes s v)
+    seen v = stepped-as ed bytes t s₀ r (rows-lent ed bytes t r q) T v
 
     -- an accepted step is one of those that are left
-    one-left : (v : ℕ) → canStep bytes s v ≡ true → acceptedIn answers < stepFormula (counts t)
-    one-left v h = go (step bytes s v) h (seen v)
+    one-left : (v : ℕ) → canStep ed bytes s v ≡ true → acceptedIn answers < stepFormula ed (counts t)
+    one-left v h = go (step ed bytes s v) h (seen v)
       where
         go :
-            (o : Outcome StepSaid) → accepted (o .answer) ≡ true → Followed (located t) (length bytes - 1) s (T .state) v o
-            → acceptedIn answers < stepFormula (counts t)
+            (o : Outcome StepSaid) → accepted (o .answer) ≡ true → Followed (located t) (settingOf ed bytes) s (T .state) v o
+            → acceptedIn answers < stepFormula ed (counts t)
         go o p (refused n why e) = true-false p (ap (λ (x : Outcome StepSaid). accepted (x .answer)) e)
         go o p (moved e S' m f says tally) =
-            let b : length (e ∷ T .events) ≤ stepsTaken firstEdition t = steps-bound t (length bytes - 1) (and-then (T .runs) m) in
-            omega (arith, b, T .accepted-are, steps-formula t)
+            let b : length (e ∷ T .events) ≤ stepsTaken ed t = steps-bound t (settingOf ed bytes) (and-then (T .runs) m) in
+            omega (arith, b, T .accepted-are, steps-formula ed t)
 
     -- a vertex that can move on can step
-    pub free-steps : (v : ℕ) → Free (T .state) v → canStep bytes s v ≡ true
-    free-steps v f = go (step bytes s v) (seen v)
+    pub free-steps : (v : ℕ) → Free (T .state) v → canStep ed bytes s v ≡ true
+    free-steps v f = go (step ed bytes s v) (seen v)
       where
-        go : (o : Outcome StepSaid) → Followed (located t) (length bytes - 1) s (T .state) v o → accepted (o .answer) ≡ true
+        go : (o : Outcome StepSaid) → Followed (located t) (settingOf ed bytes) s (T .state) v o → accepted (o .answer) ≡ true
         go o (refused n why e) = absurd (free-taken (T .inv .shape) f why)
         go o (moved e S' m f' says tally) = answers-accepted says
 
     -- where steps are left, some vertex is not over
-    live : acceptedIn answers < stepFormula (counts t) → (v : ℕ) × (T .state .control v ≡ over → ⊥)
+    live : acceptedIn answers < stepFormula ed (counts t) → (v : ℕ) × (T .state .control v ≡ over → ⊥)
     unfolding isOver
     live lt = go (seek (λ v. not (isOver (T .state .control v))) (T .state .count))
       where
@@ -146,22 +150,22 @@ module _ (bytes : List ℕ) (t : Body) {s₀ : Lent} {answers : List StepSaid} {
         go (inl (v, h)) = (v, λ e. true-false h (ap (λ (x : Control). not (isOver x)) e))
         go (inr none) =
             let z : total each (T .state) ≡ 0 = over-all each (T .state) (λ v l. is-all (T .state .control v) (none v l)) in
-            absurd (omega (arith, lt, z, steps-run t (length bytes - 1) (T .runs), T .accepted-are, steps-formula t))
+            absurd (omega (arith, lt, z, steps-run t (settingOf ed bytes) (T .runs), T .accepted-are, steps-formula ed t))
 
     -- at the full count nothing is left
-    nothing : acceptedIn answers ≡ stepFormula (counts t) → total each (T .state) ≡ 0
-    nothing h = omega (arith, h, steps-run t (length bytes - 1) (T .runs), T .accepted-are, steps-formula t)
+    nothing : acceptedIn answers ≡ stepFormula ed (counts t) → total each (T .state) ≡ 0
+    nothing h = omega (arith, h, steps-run t (settingOf ed bytes) (T .runs), T .accepted-are, steps-formula ed t)
 
-    keeps : (v : ℕ) → accepted (step bytes s v .answer) ≡ false → step bytes s v .after ≡ s
-    keeps v h = go (step bytes s v) h (seen v)
+    keeps : (v : ℕ) → accepted (step ed bytes s v .answer) ≡ false → step ed bytes s v .after ≡ s
+    keeps v h = go (step ed bytes s v) h (seen v)
       where
-        go : (o : Outcome StepSaid) → accepted (o .answer) ≡ false → Followed (located t) (length bytes - 1) s (T .state) v o → o .after ≡ s
+        go : (o : Outcome StepSaid) → accepted (o .answer) ≡ false → Followed (located t) (settingOf ed bytes) s (T .state) v o → o .after ≡ s
         go o p (refused n why e) = ap (λ (x : Outcome StepSaid). x .after) e
         go o p (moved e S' m f says tally) = true-false (answers-accepted says) p
 
     -- a job ahead of one that is answered now was answered
-    was-answered : (v n o p : ℕ) → step bytes s v .answer ≡ said.job n o → Ahead (located t) p o → ranIn p answers ≡ 1
-    was-answered v n o p h a = go (step bytes s v) h (seen v)
+    was-answered : (v n o p : ℕ) → step ed bytes s v .answer ≡ said.job n o → Ahead (located t) p o → ranIn p answers ≡ 1
+    was-answered v n o p h a = go (step ed bytes s v) h (seen v)
       where
         before : Pre (located t) p o
         before = ahead-is-pre (located t) p o .0 a
@@ -172,20 +176,24 @@ module _ (bytes : List ℕ) (t : Body) {s₀ : Lent} {answers : List StepSaid} {
             → ranIn p answers ≡ 1
         now at (inl z) =
             T .jobs-are p
-            ∙ job-past p (located t) (length bytes - 1) (laid-located t) (pre-jobs (located t) p o (opens-located bytes t r) before .0) (T .runs) z
+            ∙ job-past p (located t) (settingOf ed bytes) (laid-located t) (pre-jobs (located t) p o (opens-located ed bytes t r) before .0)
+            (T .runs)
+            z
         now (r', at) (inr (u, h')) =
             let inv = T .inv in
             absurd (in-order (inv .roads) (laid-located t) (inv .coded) (inv .orders) v o n r' at u p h' before)
 
-        go : (x : Outcome StepSaid) → x .answer ≡ said.job n o → Followed (located t) (length bytes - 1) s (T .state) v x → ranIn p answers ≡ 1
+        go :
+            (x : Outcome StepSaid) → x .answer ≡ said.job n o → Followed (located t) (settingOf ed bytes) s (T .state) v x
+            → ranIn p answers ≡ 1
         go x e (refused k why eq) = let g : said.refused k 0 ≡ said.job n o = sym (ap (λ (y : Outcome StepSaid). y .answer) eq) ∙ e in clash cc
         go x e (moved ev S' m f says tally) = now (answers-at says e) (nothing-or-held (T .state) p (T .inv .shape))
 
     -- at the full count each written job was answered once
-    runs-once : (n o : ℕ) → Written t o n → acceptedIn answers ≡ stepFormula (counts t) → ranIn o answers ≡ 1
+    runs-once : (n o : ℕ) → Written t o n → acceptedIn answers ≡ stepFormula ed (counts t) → ranIn o answers ≡ 1
     runs-once n o w h =
         T .jobs-are o
-        ∙ job-done o (located t) (length bytes - 1) (laid-located t) (written-job t o n w) (T .runs) (nothing h)
+        ∙ job-done o (located t) (settingOf ed bytes) (laid-located t) (written-job t o n w) (T .runs) (nothing h)
 
 -- an answer in a list with one more at its end is that one, or stands before it
 snoc-split :
@@ -211,104 +219,109 @@ snoc-split (c ∷ answers) (d ∷ before) after a b e =
 
 -- where no vertex can step the full count is reached
 none-left :
-    (bytes : List ℕ) (t : Body) {s₀ : Lent} {answers : List StepSaid} {s : Lent} → reading bytes ≡ program t → Reached bytes s₀ answers s
-    → ((v : ℕ) → canStep bytes s v ≡ false) → s .steps ≡ stepFormula (counts t)
-none-left bytes t {s₀} {answers} {s} r q none = go (ltb (acceptedIn answers) (stepFormula (counts t))) refl (tracked bytes t r q)
+    (ed : Edition) (bytes : List ℕ) (t : Body) {s₀ : Lent} {answers : List StepSaid} {s : Lent} → reading ed bytes ≡ program t
+    → Reached ed bytes s₀ answers s → ((v : ℕ) → canStep ed bytes s v ≡ false) → s .steps ≡ stepFormula ed (counts t)
+none-left ed bytes t {s₀} {answers} {s} r q none = go (ltb (acceptedIn answers) (stepFormula ed (counts t))) refl (tracked ed bytes t r q)
   where
-    over-count : acceptedIn answers < stepFormula (counts t) → ⊥
+    over-count : acceptedIn answers < stepFormula ed (counts t) → ⊥
     over-count lt =
-        let U = tracked bytes t r q in
-        let (v, l) = live bytes t r q lt in
+        let U = tracked ed bytes t r q in
+        let (v, l) = live ed bytes t r q lt in
         let (w, f) = can-go-on (U .inv .shape) (U .inv .ranks) (U .inv .ended) v l in
-        true-false (free-steps bytes t r q w f) (none w)
+        true-false (free-steps ed bytes t r q w f) (none w)
 
     go :
-        (b : Bool) → ltb (acceptedIn answers) (stepFormula (counts t)) ≡ b → Tracked bytes t s₀ answers s
-        → s .steps ≡ stepFormula (counts t)
-    go true e U = absurd (over-count (ltb-true (acceptedIn answers) (stepFormula (counts t)) e))
+        (b : Bool) → ltb (acceptedIn answers) (stepFormula ed (counts t)) ≡ b → Tracked ed bytes t s₀ answers s
+        → s .steps ≡ stepFormula ed (counts t)
+    go true e U = absurd (over-count (ltb-true (acceptedIn answers) (stepFormula ed (counts t)) e))
     go false e U =
-        let ge : stepFormula (counts t) ≤ acceptedIn answers = ltb-false (acceptedIn answers) (stepFormula (counts t)) e in
-        omega (arith, ge, U .accepted-are, U .steps-are, steps-bound t (length bytes - 1) (U .runs), steps-formula t)
+        let ge : stepFormula ed (counts t) ≤ acceptedIn answers = ltb-false (acceptedIn answers) (stepFormula ed (counts t)) e in
+        omega (arith, ge, U .accepted-are, U .steps-are, steps-bound t (settingOf ed bytes) (U .runs), steps-formula ed t)
 
 -- how a run ends from here
 ends :
-    (bytes : List ℕ) (t : Body) {s₀ : Lent} {answers : List StepSaid} {s : Lent} → reading bytes ≡ program t → Reached bytes s₀ answers s
-    → (budget : ℕ) → Ends t s (run bytes s budget)
+    (ed : Edition) (bytes : List ℕ) (t : Body) {s₀ : Lent} {answers : List StepSaid} {s : Lent} → reading ed bytes ≡ program t
+    → Reached ed bytes s₀ answers s → (budget : ℕ) → Ends ed t s (run ed bytes s budget)
 unfolding steppable
-ends bytes t {s₀} {s = s} r q budget =
-    let U = tracked bytes t r q in
-    let q' = run-reached bytes s₀ s budget q in
-    let fit = both-true (U .follows .sound-is) (lt-ltb (s .steps) stepLimit (room-steps bytes t s₀ r (rows-lent bytes t r q) U 0)) in
-    run-ends (run bytes s budget) fit (run-ran bytes s budget) (tracked bytes t r q') (none-left bytes t r q')
+ends ed bytes t {s₀} {s = s} r q budget =
+    let U = tracked ed bytes t r q in
+    let q' = run-reached ed bytes s₀ s budget q in
+    let fit = both-true (U .follows .sound-is) (lt-ltb (s .steps) stepLimit (room-steps ed bytes t s₀ r (rows-lent ed bytes t r q) U 0)) in
+    run-ends (run ed bytes s budget) fit (run-ran ed bytes s budget) (tracked ed bytes t r q') (none-left ed bytes t r q')
 
 -- after loading and after every step
 never :
-    (bytes : List ℕ) (t : Body) {s₀ : Lent} {answers : List StepSaid} {s : Lent} → reading bytes ≡ program t → (q : Reached bytes s₀ answers s)
-    → Throughout (λ s'. CycleFree (holds (s' .edges) (s' .held))) q
+    (ed : Edition) (bytes : List ℕ) (t : Body) {s₀ : Lent} {answers : List StepSaid} {s : Lent} → reading ed bytes ≡ program t
+    → (q : Reached ed bytes s₀ answers s) → Throughout (λ s'. CycleFree (holds (s' .edges) (s' .held))) q
 unfolding Throughout
-never bytes t r (begun h) = acyclic (tracked bytes t r (begun h))
-never bytes t r (stepped q v) = (never bytes t r q, acyclic (tracked bytes t r (stepped q v)))
+never ed bytes t r (begun h) = acyclic (tracked ed bytes t r (begun h))
+never ed bytes t r (stepped q v) = (never ed bytes t r q, acyclic (tracked ed bytes t r (stepped q v)))
 
 -- what its end says
-done-full : {t : Body} {s : Lent} {o : RunOutcome} → Ends t s o → (o .ending ≡ done) ↔ (o .after .steps ≡ stepFormula (counts t))
+done-full :
+    {ed : Edition} {t : Body} {s : Lent} {o : RunOutcome} → Ends ed t s o
+    → (o .ending ≡ done) ↔ (o .after .steps ≡ stepFormula ed (counts t))
 done-full (ends-done e f c) = (λ h. f, λ h. e)
 done-full (ends-spent e f c) = (λ h. let z : done ≡ spent = sym h ∙ e in clash cc, λ h. absurd (f h))
 
-else-spent : {t : Body} {s : Lent} {o : RunOutcome} → Ends t s o → (o .ending ≡ done → ⊥) → o .ending ≡ spent
+else-spent : {ed : Edition} {t : Body} {s : Lent} {o : RunOutcome} → Ends ed t s o → (o .ending ≡ done → ⊥) → o .ending ≡ spent
 else-spent (ends-done e f c) h = absurd (h e)
 else-spent (ends-spent e f c) h = e
 
-rises : {t : Body} {s : Lent} {o : RunOutcome} → Ends t s o → o .after .steps ≡ s .steps + o .taken
+rises : {ed : Edition} {t : Body} {s : Lent} {o : RunOutcome} → Ends ed t s o → o .after .steps ≡ s .steps + o .taken
 rises (ends-done e f c) = c
 rises (ends-spent e f c) = c
 
 -- in every list of answers
 ordered :
-    (bytes : List ℕ) (t : Body) {s₀ : Lent} {answers : List StepSaid} {s : Lent} → reading bytes ≡ program t → (q : Reached bytes s₀ answers s)
-    → (before after : List StepSaid) (n o p : ℕ) → answers ≡ before ++ (said.job n o ∷ after) → Ahead (located t) p o → ranIn p before ≡ 1
-ordered bytes t r (begun h) [] after n o p e a = clash cc
-ordered bytes t r (begun h) (b ∷ before) after n o p e a = clash cc
-ordered bytes t r (stepped {answers} {s} q v) before after n o p e a =
-    go (snoc-split answers before after (step bytes s v .answer) (said.job n o) e) (λ rest f. ordered bytes t r q before rest n o p f a)
+    (ed : Edition) (bytes : List ℕ) (t : Body) {s₀ : Lent} {answers : List StepSaid} {s : Lent} → reading ed bytes ≡ program t
+    → (q : Reached ed bytes s₀ answers s) → (before after : List StepSaid) (n o p : ℕ) → answers ≡ before ++ (said.job n o ∷ after)
+    → Ahead (located t) p o → ranIn p before ≡ 1
+ordered ed bytes t r (begun h) [] after n o p e a = clash cc
+ordered ed bytes t r (begun h) (b ∷ before) after n o p e a = clash cc
+ordered ed bytes t r (stepped {answers} {s} q v) before after n o p e a =
+    go (snoc-split answers before after (step ed bytes s v .answer) (said.job n o) e) (λ rest f. ordered ed bytes t r q before rest n o p f a)
   where
     go :
-        ((step bytes s v .answer ≡ said.job n o) × (answers ≡ before)) ⊎ ((rest : List StepSaid) × (answers ≡ before ++ (said.job n o ∷ rest)))
+        ((step ed bytes s v .answer ≡ said.job n o) × (answers ≡ before))
+        ⊎ ((rest : List StepSaid) × (answers ≡ before ++ (said.job n o ∷ rest)))
         → ((rest : List StepSaid) → answers ≡ before ++ (said.job n o ∷ rest) → ranIn p before ≡ 1) → ranIn p before ≡ 1
-    go (inl (x, y)) again = subst (λ (l : List StepSaid). ranIn p l ≡ 1) y (was-answered bytes t r q v n o p x a)
+    go (inl (x, y)) again = subst (λ (l : List StepSaid). ranIn p l ≡ 1) y (was-answered ed bytes t r q v n o p x a)
     go (inr (rest, f)) again = again rest f
 
 -- Demand 3, of whatever is reached from an accepted loading.
 pub demand3 :
-    (bytes : List ℕ) (t : Body) {s₀ : Lent} {answers : List StepSaid} {s : Lent} → reading bytes ≡ program t → (q : Reached bytes s₀ answers s)
-    → Demand3 bytes t q
-demand3 bytes t {answers} r q =
-    let U = tracked bytes t r q in
+    (ed : Edition) (bytes : List ℕ) (t : Body) {s₀ : Lent} {answers : List StepSaid} {s : Lent} → reading ed bytes ≡ program t
+    → (q : Reached ed bytes s₀ answers s) → Demand3 ed bytes t q
+demand3 ed bytes t {answers} r q =
+    let U = tracked ed bytes t r q in
     record {
-      at-most = omega (arith, U .accepted-are, steps-bound t (length bytes - 1) (U .runs), steps-formula t);
+      at-most = omega (arith, U .accepted-are, steps-bound t (settingOf ed bytes) (U .runs), steps-formula ed t);
       tally-tells = U .steps-are ∙ sym (U .accepted-are);
       progress = (
-        λ (v, h). one-left bytes t r q v h,
+        λ (v, h). one-left ed bytes t r q v h,
         λ lt.
-            let (v, l) = live bytes t r q lt in
+            let (v, l) = live ed bytes t r q lt in
             let (w, f) = can-go-on (U .inv .shape) (U .inv .ranks) (U .inv .ended) v l in
-            (w, free-steps bytes t r q w f),
+            (w, free-steps ed bytes t r q w f),
       );
-      once = λ o. subst (λ (n : ℕ). n ≤ 1) (sym (U .jobs-are o)) (job-once o (located t) (length bytes - 1) (laid-located t) (U .runs));
+      once = λ o. subst (λ (n : ℕ). n ≤ 1) (sym (U .jobs-are o)) (job-once o (located t) (settingOf ed bytes) (laid-located t) (U .runs));
       only-written = U .only-written;
-      in-order = ordered bytes t r q;
-      all-run = λ h n o w. runs-once bytes t r q n o w h;
-      never-cyclic = never bytes t r q;
+      in-order = ordered ed bytes t r q;
+      all-run = λ h n o w. runs-once ed bytes t r q n o w h;
+      never-cyclic = never ed bytes t r q;
       refusals = U .refusals;
-      refused-keep = keeps bytes t r q;
-      run-done = λ budget. done-full (ends bytes t r q budget);
-      run-else = λ budget. else-spent (ends bytes t r q budget);
-      run-counts = λ budget. rises (ends bytes t r q budget);
+      refused-keep = keeps ed bytes t r q;
+      run-done = λ budget. done-full (ends ed bytes t r q budget);
+      run-else = λ budget. else-spent (ends ed bytes t r q budget);
+      run-counts = λ budget. rises (ends ed bytes t r q budget);
     }
 
 -- What was loaded has a tree.
 pub reached-program :
-    (bytes : List ℕ) {s₀ : Lent} {answers : List StepSaid} {s : Lent} → Reached bytes s₀ answers s → (t : Body) × (reading bytes ≡ program t)
-reached-program bytes {s₀} (begun h) =
-    let (t, l, e, n) = load-exact bytes s₀ .0 h in
-    (t, ap reading e ∙ reading-complete t l)
-reached-program bytes (stepped q v) = reached-program bytes q
+    (ed : Edition) (bytes : List ℕ) {s₀ : Lent} {answers : List StepSaid} {s : Lent} → Reached ed bytes s₀ answers s
+    → (t : Body) × (reading ed bytes ≡ program t)
+reached-program ed bytes {s₀} (begun h) =
+    let (t, l, e, n) = load-exact ed bytes s₀ .0 h in
+    (t, ap (reading ed) e ∙ reading-complete ed t l)
+reached-program ed bytes (stepped q v) = reached-program ed bytes q

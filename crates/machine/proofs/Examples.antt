@@ -8,7 +8,7 @@ use Rattle.graph.specs.Answers as a
 use Rattle.graph.specs.Commands as g
 use Rattle.program.specs.Trees.{total, withFirst, openBehind}
 use Rattle.program.specs.Bytes.{encode, groupBytes, encodeNumber, size, numberSize}
-use Rattle.program.specs.Encodings.{verticesMade, edgeRowsNeeded, firstEdition, weight, makes, links, itemsWeight}
+use Rattle.program.specs.Encodings.{verticesMade, edgeRowsNeeded, rowOf, forkRow, weight, makes, links, itemsWeight}
 use Rattle.program.specs.Reader as r
 use Rattle.program.specs.Located as l
 use Rattle.machine.specs.Loading.{load, loadRead, loadedTables}
@@ -24,15 +24,21 @@ unfolding anything cycleLent runs takesSteps edgeWritten wordWritten commands co
     lowestBelow orThis allFinished step stored due nextAt nextOf filledIn dueIf movedOn pastItem withPhase withKept withMade ownOf nth
     task spots named allStand stands isVertex orZero followed further openFuture startDue steppable load loadRead loadedTables r.reading r.whole
     r.body r.bodyOf r.item r.itemOf r.deeper r.kindOf r.number r.groups r.andThen r.takeIf r.jobOf r.forceOf r.counted verticesMade
-    edgeRowsNeeded itemsWeight firstEdition weight makes links total withFirst openBehind l.itemAt l.standsIn l.found l.head l.codeAt
+    edgeRowsNeeded itemsWeight rowOf forkRow weight makes links total withFirst openBehind l.itemAt l.standsIn l.found l.head l.codeAt
     l.here l.orElse l.located l.locate l.openAt l.startOf size encode encodeNumber groupBytes numberSize g.openedTables g.opening
-    g.command g.newTd g.newEdge g.release g.transfer g.start g.stop g.callerRefusal g.newTdRefusal g.endsRefusal g.addsNothing
-    g.appendRefusal g.newEdgeRefusal g.releaseRefusal g.transferRefusal g.startRefusal g.stopRefusal g.newRow g.withVertex g.withEdge
+    g.command g.newTd g.newEdge g.release g.transfer g.start g.stop g.yield g.callerRefusal g.newTdRefusal g.endsRefusal g.addsNothing
+    g.appendRefusal g.newEdgeRefusal g.releaseRefusal g.transferRefusal g.startRefusal g.stopRefusal g.yieldRefusal g.newRow g.withVertex g.withEdge
     g.oneMore g.moreInto g.lessInto g.loweredRow g.lowered
     g.appended g.targetReaches g.movedRow g.moved g.withMoved g.keptRows g.kept g.withoutEdgesOf g.stopped clear sound tallyFits
     statusKnown statusesKnown endsMade edgesMade both either every any holds leadsOutOf reaches a.decided a.unless
 examples =
     refl
+    & refl
+    & refl
+    & refl
+    & refl
+    & refl
+    & refl
     & refl
     & refl
     & refl

@@ -15,6 +15,7 @@
 --     RanksKept       every move leaves edges leading from lower ranks to higher ones
 --     CodedKept       every move leaves each vertex with code of the program
 --     OpenedKept      every move leaves at each vertex the futures that are open at its place
+--     ScopesAsleep    the scope of a vertex that has an item is new or released
 --     Acyclic         ranks rise along edges, so no path closes
 --     Ended           a vertex that is over has no edge out
 --     Unsplit         an item that is not split has vertices to make
@@ -39,6 +40,7 @@ pub mod RoadsKept
 pub mod RanksKept
 pub mod CodedKept
 pub mod OpenedKept
+pub mod ScopesAsleep
 pub mod Acyclic
 pub mod Ended
 pub mod Unsplit

@@ -17,6 +17,7 @@ use Rattle.graph.specs.Commands.{start}
 use Rattle.graph.specs.InCounts.{CountsTrue, fullSearch}
 use Rattle.graph.proofs.SoundLaws.{sound-tally}
 use Rattle.graph.proofs.InCounts.{count-clear, start-searches}
+use Rattle.program.specs.declared.Edition.{Edition}
 use Rattle.refusal.specs.Refusals.{edge-leads-in}
 use Rattle.machine.specs.Answers.{StepSaid, isLoaded}
 use Rattle.machine.specs.Loading.{load}
@@ -30,37 +31,40 @@ use Rattle.machine.proofs.Calls.{calls-reached}
 use Rattle.machine.proofs.Traces.{trace-reached}
 
 -- The words are true in whatever is reached,
-pub reached-true : {bytes : List ℕ} {s₀ : Lent} {answers : List StepSaid} {s : Lent} → Reached bytes s₀ answers s → CountsTrue s
-reached-true {bytes} q =
-    let (t, r) = reached-program bytes q in
-    tracked bytes t r q .counts-true
+pub reached-true :
+    {ed : Edition} {bytes : List ℕ} {s₀ : Lent} {answers : List StepSaid} {s : Lent} → Reached ed bytes s₀ answers s → CountsTrue s
+reached-true {ed} {bytes} q =
+    let (t, r) = reached-program ed bytes q in
+    tracked ed bytes t r q .counts-true
 
 -- by every list of calls,
 pub calls-true :
-    (bytes : List ℕ) (s₀ : Lent) → isLoaded (load bytes s₀ .answer) ≡ true → (cs : List Call)
-    → CountsTrue (leavesOf bytes (load bytes s₀ .after) cs)
-calls-true bytes s₀ h cs = reached-true (calls-reached bytes s₀ cs (load bytes s₀ .after) (begun h))
+    (ed : Edition) (bytes : List ℕ) (s₀ : Lent) → isLoaded (load ed bytes s₀ .answer) ≡ true → (cs : List Call)
+    → CountsTrue (leavesOf ed bytes (load ed bytes s₀ .after) cs)
+calls-true ed bytes s₀ h cs = reached-true (calls-reached ed bytes s₀ cs (load ed bytes s₀ .after) (begun h))
 
 -- and in every trace.
-pub trace-true : {bytes : List ℕ} {s₀ : Lent} {answers : List StepSaid} {s : Lent} → Trace bytes s₀ answers s → CountsTrue s
+pub trace-true : {ed : Edition} {bytes : List ℕ} {s₀ : Lent} {answers : List StepSaid} {s : Lent} → Trace ed bytes s₀ answers s → CountsTrue s
 trace-true tr = reached-true (trace-reached tr)
 
 -- So start answers there, and leaves, what the full search would.
 pub reached-start :
-    {bytes : List ℕ} {s₀ : Lent} {answers : List StepSaid} {s : Lent} → Reached bytes s₀ answers s → (v : ℕ) → start s v ≡ fullSearch s v
-reached-start {bytes} {s = s} q v =
-    let (t, r) = reached-program bytes q in
-    start-searches s v (tracked bytes t r q .follows .sound-is) (reached-true q v)
+    {ed : Edition} {bytes : List ℕ} {s₀ : Lent} {answers : List StepSaid} {s : Lent} → Reached ed bytes s₀ answers s → (v : ℕ)
+    → start s v ≡ fullSearch s v
+reached-start {ed} {bytes} {s = s} q v =
+    let (t, r) = reached-program ed bytes q in
+    start-searches s v (tracked ed bytes t r q .follows .sound-is) (reached-true q v)
 
 -- A step of a released vertex starts it there, and is refused by 21 exactly where an edge leads in.
 pub reached-step :
-    {bytes : List ℕ} {s₀ : Lent} {answers : List StepSaid} {s : Lent} → Reached bytes s₀ answers s → (v : ℕ) → v < s .made
+    {ed : Edition} {bytes : List ℕ} {s₀ : Lent} {answers : List StepSaid} {s : Lent} → Reached ed bytes s₀ answers s → (v : ℕ) → v < s .made
     → status (s .vertices) v ≡ RELEASED
-    → step bytes s v .answer ≡ cond (leadsInto (s .edges) (s .held) v) (StepSaid.refused edge-leads-in 0) StepSaid.start
-reached-step {bytes} {s₀} {s = s} q v made released =
-    let (t, r) = reached-program bytes q in
-    let T = tracked bytes t r q in
-    released-step bytes s v (sound-tally s (T .follows .sound-is)) (room-steps bytes t s₀ r (rows-lent bytes t r q) T v) made released
+    → step ed bytes s v .answer ≡ cond (leadsInto (s .edges) (s .held) v) (StepSaid.refused edge-leads-in 0) StepSaid.start
+reached-step {ed} {bytes} {s₀} {s = s} q v made released =
+    let (t, r) = reached-program ed bytes q in
+    let T = tracked ed bytes t r q in
+    released-step ed bytes s v (sound-tally s (T .follows .sound-is)) (room-steps ed bytes t s₀ r (rows-lent ed bytes t r q) T v) made
+    released
     ∙ rw (count-clear s v (reached-true q v made)) (other-way (leadsInto (s .edges) (s .held) v) _ _)
   where
     other-way : (b : Bool) (x y : StepSaid) → cond (not b) x y ≡ cond b y x

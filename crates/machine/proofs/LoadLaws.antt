@@ -26,7 +26,7 @@ use Rattle.graph.proofs.TableLaws.{length-clear, clear-out}
 use Rattle.program.specs.Trees.{Body}
 use Rattle.program.specs.Bytes.{encode}
 use Rattle.program.specs.Encodings as needs
-use Rattle.program.specs.Encodings.{firstEdition}
+use Rattle.program.specs.declared.Edition.{Edition}
 use Rattle.program.specs.Reader.{Reading, program, refusal, reading}
 use Rattle.program.specs.Claims.{Loadable, BadNumber, too-long, not-shortest, too-large, Offends, unknown, opener, misnumbered, no-byte, unopened}
 use Rattle.program.proofs.CodeLaws.{cond-yes, cond-no}
@@ -43,116 +43,125 @@ abbrev pub loadedOutcome : List ℕ → Lent → Outcome LoadingSaid
 loadedOutcome bytes s = record { answer = loaded; after = loadedTables bytes s }
 
 -- the tests of the rows
-module _ (bytes : List ℕ) (s : Lent) (b : Body) where
-  enough-rows : Lends b s → loadRead bytes s (program b) ≡ loadedOutcome bytes s
+module _ (ed : Edition) (bytes : List ℕ) (s : Lent) (b : Body) where
+  enough-rows : Lends ed b s → loadRead ed bytes s (program b) ≡ loadedOutcome bytes s
   unfolding loadRead
   enough-rows h = sym (cond-no _ _ (le-ltb _ _ (h .vertex-rows))) ∙ sym (cond-no _ _ (le-ltb _ _ (h .edge-rows)))
 
-  vertex-rows-wanting : vertexRows (s .vertices) < needs.verticesMade firstEdition b → loadRead bytes s (program b) ≡ refuseLoading s too-few-vertex-rows 0
+  vertex-rows-wanting :
+      vertexRows (s .vertices) < needs.verticesMade ed b → loadRead ed bytes s (program b) ≡ refuseLoading s too-few-vertex-rows 0
   unfolding loadRead
   vertex-rows-wanting lt = sym (cond-yes _ _ (lt-ltb _ _ lt))
 
   edge-rows-wanting :
-      needs.verticesMade firstEdition b ≤ vertexRows (s .vertices) → edgeRows (s .edges) < needs.edgeRowsNeeded firstEdition b
-      → loadRead bytes s (program b) ≡ refuseLoading s too-few-edge-rows 0
+      needs.verticesMade ed b ≤ vertexRows (s .vertices) → edgeRows (s .edges) < needs.edgeRowsNeeded ed b
+      → loadRead ed bytes s (program b) ≡ refuseLoading s too-few-edge-rows 0
   unfolding loadRead
   edge-rows-wanting le lt = sym (cond-no _ _ (le-ltb _ _ le)) ∙ sym (cond-yes _ _ (lt-ltb _ _ lt))
 
-pub load-taken : (bytes : List ℕ) (s : Lent) (b : Body) → reading bytes ≡ program b → Lends b s → load bytes s ≡ loadedOutcome bytes s
+pub load-taken :
+    (ed : Edition) (bytes : List ℕ) (s : Lent) (b : Body) → reading ed bytes ≡ program b → Lends ed b s
+    → load ed bytes s ≡ loadedOutcome bytes s
 unfolding load
-load-taken bytes s b r h = rw r (enough-rows bytes s b h)
+load-taken ed bytes s b r h = rw r (enough-rows ed bytes s b h)
 
 -- what loading comes to: loaded, or refused for one of its reasons
-data Comes (bytes : List ℕ) (s : Lent) (o : Outcome LoadingSaid) : Type 0 where
-  loads : (b : Body) → reading bytes ≡ program b → Lends b s → o ≡ loadedOutcome bytes s → Comes bytes s o
-  refuses : (n p : ℕ) → Unloaded bytes s n p → o ≡ refuseLoading s n p → Comes bytes s o
+data Comes (ed : Edition) (bytes : List ℕ) (s : Lent) (o : Outcome LoadingSaid) : Type 0 where
+  loads : (b : Body) → reading ed bytes ≡ program b → Lends ed b s → o ≡ loadedOutcome bytes s → Comes ed bytes s o
+  refuses : (n p : ℕ) → Unloaded ed bytes s n p → o ≡ refuseLoading s n p → Comes ed bytes s o
 
 -- bytes that are read as a program
-comes-program : (bytes : List ℕ) (s : Lent) (b : Body) → reading bytes ≡ program b → Comes bytes s (loadRead bytes s (program b))
-comes-program bytes s b r =
+comes-program :
+    (ed : Edition) (bytes : List ℕ) (s : Lent) (b : Body) → reading ed bytes ≡ program b → Comes ed bytes s (loadRead ed bytes s (program b))
+comes-program ed bytes s b r =
     ⊎-elim
-    (λ p. refuses _ 0 (few-vertex-rows b r (ltb-true _ _ p)) (vertex-rows-wanting bytes s b (ltb-true _ _ p)))
+    (λ p. refuses _ 0 (few-vertex-rows b r (ltb-true _ _ p)) (vertex-rows-wanting ed bytes s b (ltb-true _ _ p)))
     (λ p.
     ⊎-elim
     (λ q.
-    refuses _ 0 (few-edge-rows b r (ltb-false _ _ p) (ltb-true _ _ q)) (edge-rows-wanting bytes s b (ltb-false _ _ p) (ltb-true _ _ q)))
+    refuses _ 0 (few-edge-rows b r (ltb-false _ _ p) (ltb-true _ _ q)) (edge-rows-wanting ed bytes s b (ltb-false _ _ p) (ltb-true _ _ q)))
     (λ q.
-    let l : Lends b s = record { vertex-rows = ltb-false _ _ p; edge-rows = ltb-false _ _ q } in
-    loads b r l (enough-rows bytes s b l))
-    (decide (ltb (edgeRows (s .edges)) (needs.edgeRowsNeeded firstEdition b))))
-    (decide (ltb (vertexRows (s .vertices)) (needs.verticesMade firstEdition b)))
+    let l : Lends ed b s = record { vertex-rows = ltb-false _ _ p; edge-rows = ltb-false _ _ q } in
+    loads b r l (enough-rows ed bytes s b l))
+    (decide (ltb (edgeRows (s .edges)) (needs.edgeRowsNeeded ed b))))
+    (decide (ltb (vertexRows (s .vertices)) (needs.verticesMade ed b)))
 
 -- any bytes
-comes-of : (bytes : List ℕ) (s : Lent) (r : Reading) → reading bytes ≡ r → Comes bytes s (loadRead bytes s r)
+comes-of : (ed : Edition) (bytes : List ℕ) (s : Lent) (r : Reading) → reading ed bytes ≡ r → Comes ed bytes s (loadRead ed bytes s r)
 unfolding loadRead
-comes-of bytes s (program b) e = comes-program bytes s b e
-comes-of bytes s (refusal n p) e = refuses n p (unread e) refl
+comes-of ed bytes s (program b) e = comes-program ed bytes s b e
+comes-of ed bytes s (refusal n p) e = refuses n p (unread e) refl
 
-load-comes : (bytes : List ℕ) (s : Lent) → Comes bytes s (load bytes s)
+load-comes : (ed : Edition) (bytes : List ℕ) (s : Lent) → Comes ed bytes s (load ed bytes s)
 unfolding load
-load-comes bytes s = comes-of bytes s (reading bytes) refl
+load-comes ed bytes s = comes-of ed bytes s (reading ed bytes) refl
 
 -- Loading accepts exactly the encodings of trees within all limits for which the rows needed are lent.
 pub load-exact :
-    (bytes : List ℕ) (s : Lent)
-    → (isLoaded (load bytes s .answer) ≡ true) ↔ ((b : Body) × Loadable b × (bytes ≡ encode b) × Lends b s)
-load-exact bytes s = (
-  λ h. there (load-comes bytes s) h,
-  λ (b, h, e, l). ap (λ (o : Outcome LoadingSaid). isLoaded (o .answer)) (load-taken bytes s b (ap reading e ∙ reading-complete b h) l),
+    (ed : Edition) (bytes : List ℕ) (s : Lent)
+    → (isLoaded (load ed bytes s .answer) ≡ true) ↔ ((b : Body) × Loadable ed b × (bytes ≡ encode b) × Lends ed b s)
+load-exact ed bytes s = (
+  λ h. there (load-comes ed bytes s) h,
+  λ (b, h, e, l).
+      ap (λ (o : Outcome LoadingSaid). isLoaded (o .answer)) (load-taken ed bytes s b (ap (reading ed) e ∙ reading-complete ed b h) l),
 )
   where
     there :
-        {o : Outcome LoadingSaid} → Comes bytes s o → isLoaded (o .answer) ≡ true
-        → (b : Body) × Loadable b × (bytes ≡ encode b) × Lends b s
-    there (loads b r l e) h = let (p, q) = reading-sound bytes b r in (b, q, p, l)
+        {o : Outcome LoadingSaid} → Comes ed bytes s o → isLoaded (o .answer) ≡ true
+        → (b : Body) × Loadable ed b × (bytes ≡ encode b) × Lends ed b s
+    there (loads b r l e) h = let (p, q) = reading-sound ed bytes b r in (b, q, p, l)
     there (refuses n p u e) h = true-false h (ap (λ (o : Outcome LoadingSaid). isLoaded (o .answer)) e)
 
 -- It is refused as reading is, or by 10 or 11 where rows are wanting.
-load-refuses : (bytes : List ℕ) (s : Lent) {n p : ℕ} → Unloaded bytes s n p → load bytes s ≡ refuseLoading s n p
+load-refuses : (ed : Edition) (bytes : List ℕ) (s : Lent) {n p : ℕ} → Unloaded ed bytes s n p → load ed bytes s ≡ refuseLoading s n p
 unfolding load loadRead
-load-refuses bytes s (unread r) = rw r refl
-load-refuses bytes s (few-vertex-rows b r lt) = rw r (vertex-rows-wanting bytes s b lt)
-load-refuses bytes s (few-edge-rows b r le lt) = rw r (edge-rows-wanting bytes s b le lt)
+load-refuses ed bytes s (unread r) = rw r refl
+load-refuses ed bytes s (few-vertex-rows b r lt) = rw r (vertex-rows-wanting ed bytes s b lt)
+load-refuses ed bytes s (few-edge-rows b r le lt) = rw r (edge-rows-wanting ed bytes s b le lt)
 
-pub load-refused : (bytes : List ℕ) (s : Lent) (n p : ℕ) → (load bytes s .answer ≡ loading-refused n p) ↔ Unloaded bytes s n p
-load-refused bytes s n p = (λ h. there (load-comes bytes s) h, λ u. ap (λ (o : Outcome LoadingSaid). o .answer) (load-refuses bytes s u))
+pub load-refused :
+    (ed : Edition) (bytes : List ℕ) (s : Lent) (n p : ℕ) → (load ed bytes s .answer ≡ loading-refused n p) ↔ Unloaded ed bytes s n p
+load-refused ed bytes s n p = (
+  λ h. there (load-comes ed bytes s) h,
+  λ u. ap (λ (o : Outcome LoadingSaid). o .answer) (load-refuses ed bytes s u),
+)
   where
-    there : {o : Outcome LoadingSaid} → Comes bytes s o → o .answer ≡ loading-refused n p → Unloaded bytes s n p
+    there : {o : Outcome LoadingSaid} → Comes ed bytes s o → o .answer ≡ loading-refused n p → Unloaded ed bytes s n p
     there (loads b r l e) h = true-false (ap (λ (o : Outcome LoadingSaid). isLoaded (o .answer)) e) (ap isLoaded h)
     there (refuses n' p' u e) h =
         let q : loading-refused n p ≡ loading-refused n' p' = sym h ∙ ap (λ (o : Outcome LoadingSaid). o .answer) e in
         let qn : n' ≡ n = cc in
         let qp : p' ≡ p = cc in
-        subst (λ (x : ℕ). Unloaded bytes s x p) qn (subst (λ (x : ℕ). Unloaded bytes s n' x) qp u)
+        subst (λ (x : ℕ). Unloaded ed bytes s x p) qn (subst (λ (x : ℕ). Unloaded ed bytes s n' x) qp u)
 
 -- A refused loading changes nothing.
-pub load-keeps : (bytes : List ℕ) (s : Lent) → isLoaded (load bytes s .answer) ≡ false → load bytes s .after ≡ s
-load-keeps bytes s = keeps (load-comes bytes s)
+pub load-keeps : (ed : Edition) (bytes : List ℕ) (s : Lent) → isLoaded (load ed bytes s .answer) ≡ false → load ed bytes s .after ≡ s
+load-keeps ed bytes s = keeps (load-comes ed bytes s)
   where
-    keeps : {o : Outcome LoadingSaid} → Comes bytes s o → isLoaded (o .answer) ≡ false → o .after ≡ s
+    keeps : {o : Outcome LoadingSaid} → Comes ed bytes s o → isLoaded (o .answer) ≡ false → o .after ≡ s
     keeps (loads b r l e) h = true-false (ap (λ (o : Outcome LoadingSaid). isLoaded (o .answer)) e) h
     keeps (refuses n p u e) h = ap (λ (o : Outcome LoadingSaid). o .after) e
 
 -- The tables that an accepted loading leaves, and that the rows were lent.
 pub load-accepted :
-    (bytes : List ℕ) (s : Lent) (t : Body) → reading bytes ≡ program t → isLoaded (load bytes s .answer) ≡ true
-    → Lends t s × (load bytes s .after ≡ loadedTables bytes s)
-load-accepted bytes s t r = there (load-comes bytes s)
+    (ed : Edition) (bytes : List ℕ) (s : Lent) (t : Body) → reading ed bytes ≡ program t → isLoaded (load ed bytes s .answer) ≡ true
+    → Lends ed t s × (load ed bytes s .after ≡ loadedTables bytes s)
+load-accepted ed bytes s t r = there (load-comes ed bytes s)
   where
-    there : {o : Outcome LoadingSaid} → Comes bytes s o → isLoaded (o .answer) ≡ true → Lends t s × (o .after ≡ loadedTables bytes s)
+    there : {o : Outcome LoadingSaid} → Comes ed bytes s o → isLoaded (o .answer) ≡ true → Lends ed t s × (o .after ≡ loadedTables bytes s)
     there (loads b q l e) h =
         let same : b ≡ t = cc in
-        (subst (λ (x : Body). Lends x s) same l, ap (λ (o : Outcome LoadingSaid). o .after) e)
+        (subst (λ (x : Body). Lends ed x s) same l, ap (λ (o : Outcome LoadingSaid). o .after) e)
     there (refuses n p u e) h = true-false h (ap (λ (o : Outcome LoadingSaid). isLoaded (o .answer)) e)
 
 -- a program needs two vertex rows and one edge row
-pub two-rows : (t : Body) (s : Lent) → Lends t s → 2 ≤ vertexRows (s .vertices)
+pub two-rows : (ed : Edition) (t : Body) (s : Lent) → Lends ed t s → 2 ≤ vertexRows (s .vertices)
 unfolding needs.verticesMade
-two-rows t s h = omega (arith, h .vertex-rows)
+two-rows ed t s h = omega (arith, h .vertex-rows)
 
-pub one-edge-row : (t : Body) (s : Lent) → Lends t s → 0 < edgeRows (s .edges)
+pub one-edge-row : (ed : Edition) (t : Body) (s : Lent) → Lends ed t s → 0 < edgeRows (s .edges)
 unfolding needs.edgeRowsNeeded
-one-edge-row t s h = omega (arith, h .edge-rows)
+one-edge-row ed t s h = omega (arith, h .edge-rows)
 
 -- the words from n on are what they were
 record Rest (l : List ℕ) (n : ℕ) (l' : List ℕ) : Type 0 where
@@ -174,11 +183,11 @@ rest-placed k x lt h =
     rest-set (vertexWords * k + scopeWord) _ lt
     (rest-set (vertexWords * k + placeWord) x (omega arith) (rest-set (vertexWords * k + statusWord) _ (omega arith) h))
 
-loaded-usable : (bytes : List ℕ) (s : Lent) (t : Body) → Lends t s → UsableOnly s (loadedTables bytes s)
+loaded-usable : (ed : Edition) (bytes : List ℕ) (s : Lent) (t : Body) → Lends ed t s → UsableOnly s (loadedTables bytes s)
 unfolding loadedTables appended
-loaded-usable bytes s t h =
-    let two : 2 ≤ vertexRows (s .vertices) = two-rows t s h in
-    let one : 0 < edgeRows (s .edges) = one-edge-row t s h in
+loaded-usable ed bytes s t h =
+    let two : 2 ≤ vertexRows (s .vertices) = two-rows ed t s h in
+    let one : 0 < edgeRows (s .edges) = one-edge-row ed t s h in
     record {
       vertex-words =
           rest-set (vertexWords * 1 + inCountWord) _ (omega arith)
@@ -192,11 +201,11 @@ loaded-usable bytes s t h =
     }
 
 -- Loading, accepted or refused, changes no word past the usable rows, and no table's length.
-pub load-usable : (bytes : List ℕ) (s : Lent) → UsableOnly s (load bytes s .after)
-load-usable bytes s = there (load-comes bytes s)
+pub load-usable : (ed : Edition) (bytes : List ℕ) (s : Lent) → UsableOnly s (load ed bytes s .after)
+load-usable ed bytes s = there (load-comes ed bytes s)
   where
-    there : {o : Outcome LoadingSaid} → Comes bytes s o → UsableOnly s (o .after)
-    there (loads b r l e) = subst (λ (o : Outcome LoadingSaid). UsableOnly s (o .after)) (sym e) (loaded-usable bytes s b l)
+    there : {o : Outcome LoadingSaid} → Comes ed bytes s o → UsableOnly s (o .after)
+    there (loads b r l e) = subst (λ (o : Outcome LoadingSaid). UsableOnly s (o .after)) (sym e) (loaded-usable ed bytes s b l)
     there (refuses n p u e) =
         subst (λ (o : Outcome LoadingSaid). UsableOnly s (o .after)) (sym e)
         (record { vertex-words = (refl, λ i out. refl); edge-words = (refl, λ i out. refl) })
@@ -221,17 +230,17 @@ item-place (offended first bad rest o e q) = offends-place o
 stop-place : {level opened n : ℕ} {xs left : List ℕ} → Stop level opened xs n left → HasPlace n
 stop-place (stop to there before ys l e s) = item-place s
 
-reading-place : {bytes : List ℕ} {n p : ℕ} → read.Comes bytes (refusal n p) → HasPlace n ⊎ (p ≡ 0)
+reading-place : {ed : Edition} {bytes : List ℕ} {n p : ℕ} → read.Comes ed bytes (refusal n p) → HasPlace n ⊎ (p ≡ 0)
 reading-place (read.outside o) = inr refl
-reading-place {bytes} (read.stopped n left w e) = inl (stop-place (main-stop bytes n left e))
+reading-place {bytes = bytes} (read.stopped n left w e) = inl (stop-place (main-stop bytes n left e))
 reading-place (read.overran b x left w e) = inl (inl (omega arith))
 reading-place (read.crowds b w e v) = inr refl
 
 -- A refused loading has a place from 2 to 7 and for 43 only.
-pub load-place : (bytes : List ℕ) (s : Lent) (n p : ℕ) → load bytes s .answer ≡ loading-refused n p → HasPlace n ⊎ (p ≡ 0)
-load-place bytes s n p h = there (load-refused bytes s n p .0 h)
+pub load-place : (ed : Edition) (bytes : List ℕ) (s : Lent) (n p : ℕ) → load ed bytes s .answer ≡ loading-refused n p → HasPlace n ⊎ (p ≡ 0)
+load-place ed bytes s n p h = there (load-refused ed bytes s n p .0 h)
   where
-    there : {n p : ℕ} → Unloaded bytes s n p → HasPlace n ⊎ (p ≡ 0)
-    there (unread r) = reading-place (subst (λ (x : Reading). read.Comes bytes x) r (read.reading-comes bytes))
+    there : {n p : ℕ} → Unloaded ed bytes s n p → HasPlace n ⊎ (p ≡ 0)
+    there (unread r) = reading-place (subst (λ (x : Reading). read.Comes ed bytes x) r (read.reading-comes ed bytes))
     there (few-vertex-rows b r lt) = inr refl
     there (few-edge-rows b r le lt) = inr refl

@@ -32,6 +32,7 @@ use Rattle.graph.proofs.LowestLaws.{found-is, none-is}
 use Rattle.graph.proofs.SoundLaws.{Known, sound-tally, sound-fits, fits-sound}
 use Rattle.graph.proofs.Demand2.{stays-sound}
 use Rattle.graph.proofs.InCounts.{stays-true, same-counts}
+use Rattle.program.specs.declared.Edition.{Edition}
 use Rattle.refusal.specs.Refusals.{unsound-tables}
 use Rattle.machine.specs.Answers.{StepSaid, accepted}
 use Rattle.machine.specs.Stepping.{stepLimit, steppable, Own, Due, refusal-due, job-due, command-due, due, doDue, step}
@@ -82,132 +83,138 @@ does-keep P s v o (command-due c w) does p commands adds =
     (decide (accepted (o .answer)))
 
 -- A step leaves sound tables sound,
-pub step-sound : (bytes : List ℕ) (s : Lent) (v : ℕ) → sound s ≡ true → sound (step bytes s v .after) ≡ true
-step-sound bytes s v known =
-    does-keep (λ s'. sound s' ≡ true) s v (step bytes s v) (due bytes s v) (step-does bytes s v) known (λ c. stays-sound c s known) (adds-sound v)
+pub step-sound : (ed : Edition) (bytes : List ℕ) (s : Lent) (v : ℕ) → sound s ≡ true → sound (step ed bytes s v .after) ≡ true
+step-sound ed bytes s v known =
+    does-keep (λ s'. sound s' ≡ true) s v (step ed bytes s v) (due ed bytes s v) (step-does ed bytes s v) known (λ c. stays-sound c s known)
+    (adds-sound v)
 
 -- and true in-counts true, on any tables.
-pub step-true : (bytes : List ℕ) (s : Lent) (v : ℕ) → CountsTrue s → CountsTrue (step bytes s v .after)
-step-true bytes s v true-before =
-    does-keep (λ s'. CountsTrue s') s v (step bytes s v) (due bytes s v) (step-does bytes s v) true-before (λ c. stays-true c s true-before)
+pub step-true : (ed : Edition) (bytes : List ℕ) (s : Lent) (v : ℕ) → CountsTrue s → CountsTrue (step ed bytes s v .after)
+step-true ed bytes s v true-before =
+    does-keep (λ s'. CountsTrue s') s v (step ed bytes s v) (due ed bytes s v) (step-does ed bytes s v) true-before
+    (λ c. stays-true c s true-before)
     (adds-true v)
 
 -- where a vertex that is not released can step, 12 found nothing at all
 can-steppable :
-    (bytes : List ℕ) (s : Lent) (v : ℕ) → (status (s .vertices) v ≡ RELEASED → ⊥) → canStep bytes s v ≡ true → steppable s ≡ true
+    (ed : Edition) (bytes : List ℕ) (s : Lent) (v : ℕ) → (status (s .vertices) v ≡ RELEASED → ⊥) → canStep ed bytes s v ≡ true
+    → steppable s ≡ true
 unfolding step
-can-steppable bytes s v other h =
+can-steppable ed bytes s v other h =
     if-passed s v (steppable s) _ _
-    (subst (λ (d : Due). accepted (doDue s v d .answer) ≡ true) (due-other bytes s v (λ made. other)) h)
+    (subst (λ (d : Due). accepted (doDue s v d .answer) ≡ true) (due-other ed bytes s v (λ made. other)) h)
     .0
 
 -- a finished vertex cannot step
-finished-cannot : (bytes : List ℕ) (s : Lent) (v : ℕ) → v < s .made → status (s .vertices) v ≡ FINISHED → canStep bytes s v ≡ false
-finished-cannot bytes s v made over =
-    not-so (canStep bytes s v)
+finished-cannot :
+    (ed : Edition) (bytes : List ℕ) (s : Lent) (v : ℕ) → v < s .made → status (s .vertices) v ≡ FINISHED → canStep ed bytes s v ≡ false
+finished-cannot ed bytes s v made over =
+    not-so (canStep ed bytes s v)
     (λ h.
     true-false h
     (ap (λ (o : Outcome StepSaid). accepted (o .answer))
-    (step-is bytes s v (due-over bytes s v (can-steppable bytes s v (omega arith) h) made over))))
+    (step-is ed bytes s v (due-over ed bytes s v (can-steppable ed bytes s v (omega arith) h) made over))))
 
 -- nor can a new one
-new-cannot : (bytes : List ℕ) (s : Lent) (v : ℕ) → v < s .made → status (s .vertices) v ≡ NEW → canStep bytes s v ≡ false
-new-cannot bytes s v made new =
-    not-so (canStep bytes s v)
+new-cannot : (ed : Edition) (bytes : List ℕ) (s : Lent) (v : ℕ) → v < s .made → status (s .vertices) v ≡ NEW → canStep ed bytes s v ≡ false
+new-cannot ed bytes s v made new =
+    not-so (canStep ed bytes s v)
     (λ h.
     true-false h
     (ap (λ (o : Outcome StepSaid). accepted (o .answer))
-    (step-is bytes s v (due-new bytes s v (can-steppable bytes s v (omega arith) h) made new))))
+    (step-is ed bytes s v (due-new ed bytes s v (can-steppable ed bytes s v (omega arith) h) made new))))
 
 -- nor, on sound tables, a released one whose word is not 0
 blocked-cannot :
-    (bytes : List ℕ) (s : Lent) (v : ℕ) → sound s ≡ true → v < s .made → status (s .vertices) v ≡ RELEASED
-    → (inCount (s .vertices) v ≡ 0 → ⊥) → canStep bytes s v ≡ false
-blocked-cannot bytes s v known made released into =
-    not-so (canStep bytes s v)
+    (ed : Edition) (bytes : List ℕ) (s : Lent) (v : ℕ) → sound s ≡ true → v < s .made → status (s .vertices) v ≡ RELEASED
+    → (inCount (s .vertices) v ≡ 0 → ⊥) → canStep ed bytes s v ≡ false
+blocked-cannot ed bytes s v known made released into =
+    not-so (canStep ed bytes s v)
     (λ h.
     true-false h
     (ap (λ (o : Outcome StepSaid). accepted (o .answer))
-    (blocked-step bytes s v (sound-tally s known) (can-ready bytes s v h .1) made released into)))
+    (blocked-step ed bytes s v (sound-tally s known) (can-ready ed bytes s v h .1) made released into)))
 
 -- A vertex that does not execute can step only if it is released, and its word says that no edge leads into it.
 pub idle-cannot :
-    (bytes : List ℕ) (s : Lent) (v : ℕ) → sound s ≡ true → v < s .made → (status (s .vertices) v ≡ EXECUTING → ⊥)
-    → ((status (s .vertices) v ≡ RELEASED → ⊥) ⊎ (inCount (s .vertices) v ≡ 0 → ⊥)) → canStep bytes s v ≡ false
-idle-cannot bytes s v known made idle waits =
-    ⊎-elim (λ new. new-cannot bytes s v made new)
+    (ed : Edition) (bytes : List ℕ) (s : Lent) (v : ℕ) → sound s ≡ true → v < s .made → (status (s .vertices) v ≡ EXECUTING → ⊥)
+    → ((status (s .vertices) v ≡ RELEASED → ⊥) ⊎ (inCount (s .vertices) v ≡ 0 → ⊥)) → canStep ed bytes s v ≡ false
+idle-cannot ed bytes s v known made idle waits =
+    ⊎-elim (λ new. new-cannot ed bytes s v made new)
     (λ not-new.
-    ⊎-elim (λ over. finished-cannot bytes s v made over)
+    ⊎-elim (λ over. finished-cannot ed bytes s v made over)
     (λ not-over.
     let released : status (s .vertices) v ≡ RELEASED = omega (arith, sound-fits s known .statuses-known v made, idle, not-new, not-over) in
-    ⊎-elim (λ not-released. absurd (not-released released)) (λ into. blocked-cannot bytes s v known made released into) waits)
+    ⊎-elim (λ not-released. absurd (not-released released)) (λ into. blocked-cannot ed bytes s v known made released into) waits)
     (equal? (status (s .vertices) v) FINISHED))
     (equal? (status (s .vertices) v) NEW)
 
 -- A look finds none where none can step,
-pub lowest-none : (bytes : List ℕ) (s : Lent) → ((u : ℕ) → u < s .made → canStep bytes s u ≡ false) → lowest bytes s ≡ none
+pub lowest-none : (ed : Edition) (bytes : List ℕ) (s : Lent) → ((u : ℕ) → u < s .made → canStep ed bytes s u ≡ false) → lowest ed bytes s ≡ none
 unfolding lowest
-lowest-none bytes s = none-is (canStep bytes s) (s .made)
+lowest-none ed bytes s = none-is (canStep ed bytes s) (s .made)
 
 -- and the vertex that can step, below which none can.
 pub lowest-is :
-    (bytes : List ℕ) (s : Lent) (v : ℕ) → v < s .made → canStep bytes s v ≡ true → ((u : ℕ) → u < v → canStep bytes s u ≡ false)
-    → lowest bytes s ≡ some v
+    (ed : Edition) (bytes : List ℕ) (s : Lent) (v : ℕ) → v < s .made → canStep ed bytes s v ≡ true
+    → ((u : ℕ) → u < v → canStep ed bytes s u ≡ false) → lowest ed bytes s ≡ some v
 unfolding lowest
-lowest-is bytes s = found-is (canStep bytes s) (s .made)
+lowest-is ed bytes s = found-is (canStep ed bytes s) (s .made)
 
 -- It finds none once the steps are used up,
-pub late-none : (bytes : List ℕ) (s : Lent) → stepLimit ≤ s .steps → lowest bytes s ≡ none
-late-none bytes s late =
-    lowest-none bytes s
-    (λ u lt. not-so (canStep bytes s u) (λ h. let early : s .steps < stepLimit = can-ready bytes s u h .1 in absurd (omega arith)))
+pub late-none : (ed : Edition) (bytes : List ℕ) (s : Lent) → stepLimit ≤ s .steps → lowest ed bytes s ≡ none
+late-none ed bytes s late =
+    lowest-none ed bytes s
+    (λ u lt. not-so (canStep ed bytes s u) (λ h. let early : s .steps < stepLimit = can-ready ed bytes s u h .1 in absurd (omega arith)))
 
 -- and once all vertices are finished.
-pub finished-none : (bytes : List ℕ) (s : Lent) → allFinished s ≡ true → lowest bytes s ≡ none
-finished-none bytes s all = lowest-none bytes s (λ u lt. finished-cannot bytes s u lt (finished-all s all u lt))
+pub finished-none : (ed : Edition) (bytes : List ℕ) (s : Lent) → allFinished s ≡ true → lowest ed bytes s ≡ none
+finished-none ed bytes s all = lowest-none ed bytes s (λ u lt. finished-cannot ed bytes s u lt (finished-all s all u lt))
 
 -- A run on tables that take no step is refused by 12,
 pub run-turned :
-    (bytes : List ℕ) (s : Lent) (budget : ℕ) → steppable s ≡ false → run bytes s budget ≡ ended (refused unsound-tables 0) none 0 s
+    (ed : Edition) (bytes : List ℕ) (s : Lent) (budget : ℕ) → steppable s ≡ false
+    → run ed bytes s budget ≡ ended (refused unsound-tables 0) none 0 s
 unfolding run
-run-turned bytes s budget h = rw h refl
+run-turned ed bytes s budget h = rw h refl
 
 -- and another one looks.
-pub run-goes : (bytes : List ℕ) (s : Lent) (budget : ℕ) → steppable s ≡ true → run bytes s budget ≡ runOn bytes budget s none 0
+pub run-goes :
+    (ed : Edition) (bytes : List ℕ) (s : Lent) (budget : ℕ) → steppable s ≡ true → run ed bytes s budget ≡ runOn ed bytes budget s none 0
 unfolding run
-run-goes bytes s budget h = rw h refl
+run-goes ed bytes s budget h = rw h refl
 
 -- a look that finds none
 look-none :
-    (bytes : List ℕ) (again : Lent → Option StepSaid → ℕ → RunOutcome) (left : ℕ) (s : Lent) (last : Option StepSaid) (taken : ℕ) (all : Bool)
-    → look bytes again left s last taken all none ≡ ended (cond all done stuck) last taken s
+    (ed : Edition) (bytes : List ℕ) (again : Lent → Option StepSaid → ℕ → RunOutcome) (left : ℕ) (s : Lent) (last : Option StepSaid)
+    (taken : ℕ) (all : Bool) → look ed bytes again left s last taken all none ≡ ended (cond all done stuck) last taken s
 unfolding look
-look-none bytes again left s last taken true = refl
-look-none bytes again left s last taken false = refl
+look-none ed bytes again left s last taken true = refl
+look-none ed bytes again left s last taken false = refl
 
 -- A run ends where it finds none: done or stuck.
 pub rests :
-    (bytes : List ℕ) (left : ℕ) (s : Lent) (last : Option StepSaid) (taken : ℕ) → lowest bytes s ≡ none
-    → runOn bytes left s last taken ≡ ended (cond (allFinished s) done stuck) last taken s
+    (ed : Edition) (bytes : List ℕ) (left : ℕ) (s : Lent) (last : Option StepSaid) (taken : ℕ) → lowest ed bytes s ≡ none
+    → runOn ed bytes left s last taken ≡ ended (cond (allFinished s) done stuck) last taken s
 unfolding runOn
-rests bytes zero s last taken h = rw h (look-none bytes _ 0 s last taken (allFinished s))
-rests bytes (suc left) s last taken h = rw h (look-none bytes (runOn bytes left) (suc left) s last taken (allFinished s))
+rests ed bytes zero s last taken h = rw h (look-none ed bytes _ 0 s last taken (allFinished s))
+rests ed bytes (suc left) s last taken h = rw h (look-none ed bytes (runOn ed bytes left) (suc left) s last taken (allFinished s))
 
 -- not all vertices are finished where it finds one
-found-live : (bytes : List ℕ) (s : Lent) (v : ℕ) → lowest bytes s ≡ some v → allFinished s ≡ false
-found-live bytes s v h =
-    not-so (allFinished s) (λ all. Option·none-ne-some v (sym (finished-none bytes s all) ∙ h))
+found-live : (ed : Edition) (bytes : List ℕ) (s : Lent) (v : ℕ) → lowest ed bytes s ≡ some v → allFinished s ≡ false
+found-live ed bytes s v h =
+    not-so (allFinished s) (λ all. Option·none-ne-some v (sym (finished-none ed bytes s all) ∙ h))
 
 -- It ends where it finds a vertex and the budget is used,
 pub used-up :
-    (bytes : List ℕ) (s : Lent) (last : Option StepSaid) (taken v : ℕ) → lowest bytes s ≡ some v
-    → runOn bytes 0 s last taken ≡ ended spent last taken s
+    (ed : Edition) (bytes : List ℕ) (s : Lent) (last : Option StepSaid) (taken v : ℕ) → lowest ed bytes s ≡ some v
+    → runOn ed bytes 0 s last taken ≡ ended spent last taken s
 unfolding runOn look
-used-up bytes s last taken v h = rw (found-live bytes s v h, h) refl
+used-up ed bytes s last taken v h = rw (found-live ed bytes s v h, h) refl
 
 -- and otherwise goes on behind the step of this vertex.
 pub goes-on :
-    (bytes : List ℕ) (left : ℕ) (s : Lent) (last : Option StepSaid) (taken v : ℕ) → lowest bytes s ≡ some v
-    → runOn bytes (suc left) s last taken ≡ runOn bytes left (step bytes s v .after) (some (step bytes s v .answer)) (suc taken)
+    (ed : Edition) (bytes : List ℕ) (left : ℕ) (s : Lent) (last : Option StepSaid) (taken v : ℕ) → lowest ed bytes s ≡ some v
+    → runOn ed bytes (suc left) s last taken ≡ runOn ed bytes left (step ed bytes s v .after) (some (step ed bytes s v .answer)) (suc taken)
 unfolding runOn look
-goes-on bytes left s last taken v h = rw (found-live bytes s v h, h) refl
+goes-on ed bytes left s last taken v h = rw (found-live ed bytes s v h, h) refl

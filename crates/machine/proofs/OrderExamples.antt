@@ -1,12 +1,14 @@
--- "`04 01 01 00 01 02 00 01 03 00`: .. job 3 last": in every list of steps, as an instance of demand 3. (That the jobs of
--- `02 01 01 00 01 02 00` come in either order stands in the table of specs/Examples.antt, as two lists of steps.) And of `05 01 01 00 06 00 01
--- 02 00`, a future of job 1 and a force before job 2: job 2 last.
+-- "`04 01 01 00 01 02 00 01 03 00`: .. job 3 last": in every list of steps of either edition, as an instance of demand 3. (That the jobs
+-- of `02 01 01 00 01 02 00` come in either order stands in the table of specs/Examples.antt, as two lists of steps.) And of `05 01 01 00 06 00
+-- 01 02 00`, a future of job 1 and a force before job 2: job 2 last.
 use Prim.Native.Nat.{ℕ}
 use mathlib.Core.Path.{_≡_, refl}
 use mathlib.Core.List.{List, [], _∷_, _++_}
 use Rattle.graph.specs.Tables.{Lent}
 use Rattle.program.specs.Trees.{withFirst, openBehind, total}
-use Rattle.program.specs.Encodings.{verticesMade, itemsWeight, firstEdition, weight, makes}
+use Rattle.program.specs.declared.Edition.{Edition}
+use Rattle.program.specs.declared.Edition.the-variants.{First, Second}
+use Rattle.program.specs.Encodings.{verticesMade, itemsWeight, rowOf, forkRow, weight, makes}
 use Rattle.program.specs.Reader as reader
 use Rattle.program.specs.Reader.{reading, program}
 use Rattle.machine.specs.Answers.{StepSaid, job}
@@ -18,31 +20,34 @@ use Rattle.machine.proofs.Demand3.{demand3}
 abbrev bytes : List ℕ
 bytes = 0x04 ∷ 0x01 ∷ 0x01 ∷ 0x00 ∷ 0x01 ∷ 0x02 ∷ 0x00 ∷ 0x01 ∷ 0x03 ∷ 0x00 ∷ []
 
--- the bytes are this program's
-reads : reading bytes ≡ program forked
+-- the bytes are this program's, in either edition
+reads : (ed : Edition) → reading ed bytes ≡ program forked
 unfolding reading reader.whole reader.body reader.bodyOf reader.item reader.itemOf reader.deeper reader.kindOf reader.number
-    reader.groups reader.takeIf reader.andThen reader.jobOf reader.counted verticesMade itemsWeight firstEdition weight makes total withFirst
+    reader.groups reader.takeIf reader.andThen reader.jobOf reader.counted verticesMade itemsWeight rowOf forkRow weight makes total withFirst
     openBehind
-reads = refl
+reads First = refl
+reads Second = refl
 
 -- Before job 3, at offset 7, is answered, jobs 1 and 2, at offsets 1 and 4, were answered once.
-pub job-3-last : {s₀ : Lent} {answers : List StepSaid} {s : Lent} → Reached bytes s₀ answers s → (before after : List StepSaid) (n : ℕ)
+pub job-3-last :
+    {ed : Edition} {s₀ : Lent} {answers : List StepSaid} {s : Lent} → Reached ed bytes s₀ answers s → (before after : List StepSaid) (n : ℕ)
     → answers ≡ before ++ (job n 7 ∷ after) → (ranIn 1 before ≡ 1) × (ranIn 4 before ≡ 1)
-job-3-last q before after n e =
-    let d = demand3 bytes forked reads q in
+job-3-last {ed} q before after n e =
+    let d = demand3 ed bytes forked (reads ed) q in
     (d .in-order before after n 7 1 e left-ahead, d .in-order before after n 7 4 e right-ahead)
 
 abbrev awaitedBytes : List ℕ
 awaitedBytes = 0x05 ∷ 0x01 ∷ 0x01 ∷ 0x00 ∷ 0x06 ∷ 0x00 ∷ 0x01 ∷ 0x02 ∷ 0x00 ∷ []
 
 -- the bytes are this program's
-awaited-reads : reading awaitedBytes ≡ program awaited
+awaited-reads : (ed : Edition) → reading ed awaitedBytes ≡ program awaited
 unfolding reading reader.whole reader.body reader.bodyOf reader.item reader.itemOf reader.deeper reader.kindOf reader.number
-    reader.groups reader.takeIf reader.andThen reader.jobOf reader.forceOf reader.counted verticesMade itemsWeight firstEdition weight makes
-    total withFirst openBehind
-awaited-reads = refl
+    reader.groups reader.takeIf reader.andThen reader.jobOf reader.forceOf reader.counted verticesMade itemsWeight rowOf weight makes total
+    withFirst openBehind
+awaited-reads ed = refl
 
 -- Before job 2, at offset 6, is answered, job 1, at offset 1, was answered once: the force waits for the future's body.
-pub forced-job-last : {s₀ : Lent} {answers : List StepSaid} {s : Lent} → Reached awaitedBytes s₀ answers s → (before after : List StepSaid)
+pub forced-job-last :
+    {ed : Edition} {s₀ : Lent} {answers : List StepSaid} {s : Lent} → Reached ed awaitedBytes s₀ answers s → (before after : List StepSaid)
     (n : ℕ) → answers ≡ before ++ (job n 6 ∷ after) → ranIn 1 before ≡ 1
-forced-job-last q before after n e = demand3 awaitedBytes awaited awaited-reads q .in-order before after n 6 1 e future-ahead
+forced-job-last {ed} q before after n e = demand3 ed awaitedBytes awaited (awaited-reads ed) q .in-order before after n 6 1 e future-ahead

@@ -45,7 +45,8 @@ use Rattle.graph.proofs.RefusalLaws.{unless-pass}
 use Rattle.graph.proofs.SoundLaws.{sound-fits}
 use Rattle.graph.proofs.Reasons.{refused-place, never-34}
 use Rattle.graph.proofs.Demand2.{refused-keeps, words-stay, effect, acceptance}
-use Rattle.program.specs.Encodings.{Spot, Command, perform, newTd, newEdge, transfer, release, Row}
+use Rattle.program.specs.declared.Edition.{Edition}
+use Rattle.program.specs.Encodings.{Spot, Command, perform, newTd, newEdge, transfer, release, yield, Row}
 use Rattle.program.specs.Located.{itemAt}
 use Rattle.machine.specs.Answers.{StepSaid, accepted, refuse, saidAs}
 use Rattle.machine.specs.Stepping.{stepLimit, steppable, startDue, place, phase, allStand, Task, item, ends, nothing, task, Own, Due}
@@ -62,6 +63,7 @@ said-accepted (of-graph.edge a b) = refl
 said-accepted (of-graph.release v) = refl
 said-accepted (of-graph.transfer v) = refl
 said-accepted of-graph.stop = refl
+said-accepted of-graph.yield = refl
 said-accepted (of-graph.refused n p) = refl
 
 -- where no refusal is due before any command, the vertex's row is in the table, a step may be counted and b holds
@@ -105,9 +107,9 @@ ready-start s v w h =
     let fits : s .made ≤ vertexRows (s .vertices) = leb-true _ _ (both-left _ _ (both-left _ _ tally)) in
     (omega arith, ltb-true (s .steps) stepLimit (both-right _ _ tally), refl, lt)
 
-pub ready-due : (bytes : List ℕ) (s : Lent) (v : ℕ) → ReadyFor s v (due bytes s v)
+pub ready-due : (ed : Edition) (bytes : List ℕ) (s : Lent) (v : ℕ) → ReadyFor s v (due ed bytes s v)
 unfolding due
-ready-due bytes s v =
+ready-due ed bytes s v =
     ready-cond s v (startDue s v) _ _ (ready-start s v _)
     (ready-if s v (steppable s) _ _ (λ p. ready-if s v (isMade s v) _ _ (λ q. ready-any s v _ (ready-of s v p q))))
 
@@ -119,9 +121,10 @@ taken-ready s v (job-due n p w) r h = (r .3, r .1)
 taken-ready s v (command-due c w) r h = (r .3, r .1)
 
 -- Only a made vertex steps, and only where a step may be counted.
-pub can-ready : (bytes : List ℕ) (s : Lent) (v : ℕ) → accepted (step bytes s v .answer) ≡ true → (v < s .made) × (s .steps < stepLimit)
+pub can-ready :
+    (ed : Edition) (bytes : List ℕ) (s : Lent) (v : ℕ) → accepted (step ed bytes s v .answer) ≡ true → (v < s .made) × (s .steps < stepLimit)
 unfolding step
-can-ready bytes s v = taken-ready s v (due bytes s v) (ready-due bytes s v)
+can-ready ed bytes s v = taken-ready s v (due ed bytes s v) (ready-due ed bytes s v)
 
 -- what is done is what is due
 does-due : (s : Lent) (v : ℕ) (d : Due) → ReadyFor s v d → Does s v (doDue s v d) d
@@ -139,9 +142,9 @@ does-due s v (command-due c w) r =
     }
 
 -- A step is what is due.
-pub step-does : (bytes : List ℕ) (s : Lent) (v : ℕ) → Does s v (step bytes s v) (due bytes s v)
+pub step-does : (ed : Edition) (bytes : List ℕ) (s : Lent) (v : ℕ) → Does s v (step ed bytes s v) (due ed bytes s v)
 unfolding step
-step-does bytes s v = does-due s v (due bytes s v) (ready-due bytes s v)
+step-does ed bytes s v = does-due s v (due ed bytes s v) (ready-due ed bytes s v)
 
 -- A refused step changes nothing.
 keeps-due : (s : Lent) (v : ℕ) (o : Outcome StepSaid) (d : Due) → Does s v o d → accepted (o .answer) ≡ false → o .after ≡ s
@@ -149,8 +152,8 @@ keeps-due s v o (refusal-due n) e h = ap (λ (o : Outcome StepSaid). o .after) e
 keeps-due s v o (job-due n p w) e h = true-false (ap accepted (e .0)) h
 keeps-due s v o (command-due c w) e h = e .refused-keeps h
 
-pub step-keeps : (bytes : List ℕ) (s : Lent) (v : ℕ) → accepted (step bytes s v .answer) ≡ false → step bytes s v .after ≡ s
-step-keeps bytes s v = keeps-due s v (step bytes s v) (due bytes s v) (step-does bytes s v)
+pub step-keeps : (ed : Edition) (bytes : List ℕ) (s : Lent) (v : ℕ) → accepted (step ed bytes s v .answer) ≡ false → step ed bytes s v .after ≡ s
+step-keeps ed bytes s v = keeps-due s v (step ed bytes s v) (due ed bytes s v) (step-does ed bytes s v)
 
 -- An accepted step is one step more.
 counts-due : (s : Lent) (v : ℕ) (o : Outcome StepSaid) (d : Due) → Does s v o d → accepted (o .answer) ≡ true → o .after .steps ≡ s .steps + 1
@@ -160,43 +163,44 @@ counts-due s v o (command-due c w) e h =
     e .taken-adds h .one-step ∙ ap (λ (n : ℕ). n + 1) (words-stay c s .2)
 
 pub step-counts :
-    (bytes : List ℕ) (s : Lent) (v : ℕ) → accepted (step bytes s v .answer) ≡ true → step bytes s v .after .steps ≡ s .steps + 1
-step-counts bytes s v = counts-due s v (step bytes s v) (due bytes s v) (step-does bytes s v)
+    (ed : Edition) (bytes : List ℕ) (s : Lent) (v : ℕ) → accepted (step ed bytes s v .answer) ≡ true
+    → step ed bytes s v .after .steps ≡ s .steps + 1
+step-counts ed bytes s v = counts-due s v (step ed bytes s v) (due ed bytes s v) (step-does ed bytes s v)
 
 -- A step that is a job names it, and leaves the graph.
 pub job-step :
-    (bytes : List ℕ) (s : Lent) (v n p : ℕ) (w : Own) → due bytes s v ≡ job-due n p w
-    → (step bytes s v .answer ≡ StepSaid.job n p) × (graph (step bytes s v .after) ≡ graph s)
-job-step bytes s v n p w e =
-    let d = subst (λ (d : Due). Does s v (step bytes s v) d) e (step-does bytes s v) in
+    (ed : Edition) (bytes : List ℕ) (s : Lent) (v n p : ℕ) (w : Own) → due ed bytes s v ≡ job-due n p w
+    → (step ed bytes s v .answer ≡ StepSaid.job n p) × (graph (step ed bytes s v .after) ≡ graph s)
+job-step ed bytes s v n p w e =
+    let d = subst (λ (d : Due). Does s v (step ed bytes s v) d) e (step-does ed bytes s v) in
     (d .0, d .1 .same-graph)
 
 -- a step that is a command
-module _ (bytes : List ℕ) (s : Lent) (v : ℕ) (c : single.Command) (w : Own) (e : due bytes s v ≡ command-due c w) where
-  is-this : IsCommand c w s v (step bytes s v)
-  is-this = subst (λ (d : Due). Does s v (step bytes s v) d) e (step-does bytes s v)
+module _ (ed : Edition) (bytes : List ℕ) (s : Lent) (v : ℕ) (c : single.Command) (w : Own) (e : due ed bytes s v ≡ command-due c w) where
+  is-this : IsCommand c w s v (step ed bytes s v)
+  is-this = subst (λ (d : Due). Does s v (step ed bytes s v) d) e (step-does ed bytes s v)
 
   -- A step that is a command is taken where that command is,
-  pub command-step : accepted (step bytes s v .answer) ≡ of-graph.accepted (command c s .answer)
+  pub command-step : accepted (step ed bytes s v .answer) ≡ of-graph.accepted (command c s .answer)
   command-step = ap accepted (is-this .says) ∙ said-accepted (command c s .answer)
 
   -- and changes the graph as that command does.
-  pub command-graph : graph (step bytes s v .after) ≡ graph (command c s .after)
-  command-graph = go (accepted (step bytes s v .answer)) refl
+  pub command-graph : graph (step ed bytes s v .after) ≡ graph (command c s .after)
+  command-graph = go (accepted (step ed bytes s v .answer)) refl
     where
-      go : (b : Bool) → accepted (step bytes s v .answer) ≡ b → graph (step bytes s v .after) ≡ graph (command c s .after)
+      go : (b : Bool) → accepted (step ed bytes s v .answer) ≡ b → graph (step ed bytes s v .after) ≡ graph (command c s .after)
       go true h = is-this .taken-adds h .same-graph
       go false h =
           ap (λ (s' : Lent). graph s') (is-this .refused-keeps h ∙ sym (refused-keeps c s (sym command-step ∙ h)))
 
   -- So it is a step of that command's published rule, where the word that the command reads is true,
-  pub step-rule : ReadsTrue c s → accepted (step bytes s v .answer) ≡ true → Unguarded c (graph s) (graph (step bytes s v .after))
+  pub step-rule : ReadsTrue c s → accepted (step ed bytes s v .answer) ≡ true → Unguarded c (graph s) (graph (step ed bytes s v .after))
   step-rule reads h = subst (λ (G : Graph). Unguarded c (graph s) G) (sym command-graph) (effect c s reads (sym command-step ∙ h) .rule)
 
   -- and on sound tables that hold a graph without a cycle is accepted exactly where the rule has a step and any row that it needs is free.
   pub step-acceptance :
       sound s ≡ true → ReadsTrue c s → CycleFree (graph s .edge)
-      → (accepted (step bytes s v .answer) ≡ true) ↔ (((G' : Graph) × Printed c (graph s) G') × RowFree c s)
+      → (accepted (step ed bytes s v .answer) ≡ true) ↔ (((G' : Graph) × Printed c (graph s) G') × RowFree c s)
   step-acceptance known reads free = rw command-step (acceptance c s known reads free)
 
 -- the refusals before any command
@@ -225,6 +229,7 @@ before-command s v n spot w (newTd p a) = tt
 before-command s v n spot w (newEdge a b) = tt
 before-command s v n spot w (transfer a) = tt
 before-command s v n spot w (release a) = tt
+before-command s v n spot w yield = tt
 
 before-nth : (s : Lent) (v : ℕ) (row : Row) (n : ℕ) (spot : Spot → ℕ) (x : Option Command) → OnlyBefore (nextOf s v row n spot x)
 unfolding nextOf
@@ -237,15 +242,15 @@ before-task s v (item row n spot) = before-nth s v row n spot _
 before-task s v ends = before-if (eqb (phase s v) 0) _ _ unreadable-before tt
 before-task s v nothing = unreadable-before
 
-before-due : (bytes : List ℕ) (s : Lent) (v : ℕ) → OnlyBefore (due bytes s v)
+before-due : (ed : Edition) (bytes : List ℕ) (s : Lent) (v : ℕ) → OnlyBefore (due ed bytes s v)
 unfolding due
-before-due bytes s v =
+before-due ed bytes s v =
     before-cond (startDue s v) _ _ tt
     (before-if (steppable s) _ _ (inl refl)
     (before-if (isMade s v) _ _ (inr (inl refl))
     (before-if (not (hasStatus s v NEW)) _ _ (inr (inr (inl refl)))
     (before-if (not (hasStatus s v FINISHED)) _ _ (inr (inr (inr (inl refl))))
-    (before-task s v (task (length bytes - 1) (itemAt bytes (place s v))))))))
+    (before-task s v (task ed (length bytes - 1) (itemAt ed bytes (place s v))))))))
 
 -- only a refused command is said to be refused
 said-refused : (a : of-graph.CommandSaid) {n p : ℕ} → saidAs a ≡ StepSaid.refused n p → a ≡ of-graph.refused n p
@@ -255,31 +260,33 @@ said-refused (of-graph.edge a b) h = true-false refl (ap accepted h)
 said-refused (of-graph.release v) h = true-false refl (ap accepted h)
 said-refused (of-graph.transfer v) h = true-false refl (ap accepted h)
 said-refused of-graph.stop h = true-false refl (ap accepted h)
+said-refused of-graph.yield h = true-false refl (ap accepted h)
 said-refused (of-graph.refused n p) h = cc
 
 -- A step is refused by 12, 20, 22, 23 or 13, before any command, or exactly as its command is.
-pub step-refused : (bytes : List ℕ) (s : Lent) (v n p : ℕ) → (step bytes s v .answer ≡ StepSaid.refused n p) ↔ Refused bytes s v n p
-step-refused bytes s v n p = (there (due bytes s v) refl (step-does bytes s v) (before-due bytes s v), back)
+pub step-refused :
+    (ed : Edition) (bytes : List ℕ) (s : Lent) (v n p : ℕ) → (step ed bytes s v .answer ≡ StepSaid.refused n p) ↔ Refused ed bytes s v n p
+step-refused ed bytes s v n p = (there (due ed bytes s v) refl (step-does ed bytes s v) (before-due ed bytes s v), back)
   where
     there :
-        (d : Due) → due bytes s v ≡ d → Does s v (step bytes s v) d → OnlyBefore d → step bytes s v .answer ≡ StepSaid.refused n p
-        → Refused bytes s v n p
+        (d : Due) → due ed bytes s v ≡ d → Does s v (step ed bytes s v) d → OnlyBefore d → step ed bytes s v .answer ≡ StepSaid.refused n p
+        → Refused ed bytes s v n p
     there (refusal-due m) e does only h =
         let q : StepSaid.refused n p ≡ StepSaid.refused m 0 = sym h ∙ ap (λ (o : Outcome StepSaid). o .answer) does in
         let qn : m ≡ n = cc in
         let qp : 0 ≡ p = cc in
-        subst (λ (y : ℕ). Refused bytes s v n y) qp (subst (λ (x : ℕ). Refused bytes s v x 0) qn (before e only))
+        subst (λ (y : ℕ). Refused ed bytes s v n y) qp (subst (λ (x : ℕ). Refused ed bytes s v x 0) qn (before e only))
     there (job-due m q w) e does only h = true-false (ap accepted (does .0)) (ap accepted h)
     there (command-due c w) e does only h = by-command c w e (said-refused (command c s .answer) (sym (does .says) ∙ h))
 
-    back : {n p : ℕ} → Refused bytes s v n p → step bytes s v .answer ≡ StepSaid.refused n p
-    back (before e b) = ap (λ (o : Outcome StepSaid). o .answer) (subst (λ (d : Due). Does s v (step bytes s v) d) e (step-does bytes s v))
-    back (by-command c w e h) = is-this bytes s v c w e .says ∙ ap saidAs h
+    back : {n p : ℕ} → Refused ed bytes s v n p → step ed bytes s v .answer ≡ StepSaid.refused n p
+    back (before e b) = ap (λ (o : Outcome StepSaid). o .answer) (subst (λ (d : Due). Does s v (step ed bytes s v) d) e (step-does ed bytes s v))
+    back (by-command c w e h) = is-this ed bytes s v c w e .says ∙ ap saidAs h
 
 -- a released vertex, where the tally is as it must be, whatever the other rows hold
 module _
-    (bytes : List ℕ) (s : Lent) (v : ℕ) (fits : tallyFits (s .vertices) (s .edges) (s .made) (s .held) ≡ true) (early : s .steps < stepLimit)
-    (lt : v < s .made) (q : status (s .vertices) v ≡ RELEASED)
+    (ed : Edition) (bytes : List ℕ) (s : Lent) (v : ℕ) (fits : tallyFits (s .vertices) (s .edges) (s .made) (s .held) ≡ true)
+    (early : s .steps < stepLimit) (lt : v < s .made) (q : status (s .vertices) v ≡ RELEASED)
   where
     -- its status is a status, and none of the others
     is-status : statusKnown (s .vertices) v ≡ true
@@ -301,10 +308,10 @@ module _
         ∙ unless-pass _ _ (not-status FINISHED (omega arith))
 
     -- "A released one is started", or refused by 21 where its word is not 0: "on altered tables 21 follows the word" (note 6).
-    pub released-step : step bytes s v .answer ≡ cond (eqb (inCount (s .vertices) v) 0) StepSaid.start (StepSaid.refused edge-leads-in 0)
+    pub released-step : step ed bytes s v .answer ≡ cond (eqb (inCount (s .vertices) v) 0) StepSaid.start (StepSaid.refused edge-leads-in 0)
     unfolding command g.start decided of-graph.unless
     released-step =
-        ap (λ (o : Outcome StepSaid). o .answer) (step-is bytes s v (due-start bytes s v (start-due s v fits early lt q)))
+        ap (λ (o : Outcome StepSaid). o .answer) (step-is ed bytes s v (due-start ed bytes s v (start-due s v fits early lt q)))
         ∙ rw start-refusal (go (eqb (inCount (s .vertices) v) 0))
       where
         go :
@@ -314,23 +321,23 @@ module _
         go true = refl
         go false = refl
 
-    pub blocked-step : (inCount (s .vertices) v ≡ 0 → ⊥) → step bytes s v ≡ refuse s edge-leads-in 0
-    blocked-step h = λ i. record { answer = says i; after = step-keeps bytes s v (ap accepted says) i }
+    pub blocked-step : (inCount (s .vertices) v ≡ 0 → ⊥) → step ed bytes s v ≡ refuse s edge-leads-in 0
+    blocked-step h = λ i. record { answer = says i; after = step-keeps ed bytes s v (ap accepted says) i }
       where
-        says : step bytes s v .answer ≡ StepSaid.refused edge-leads-in 0
+        says : step ed bytes s v .answer ≡ StepSaid.refused edge-leads-in 0
         says = released-step ∙ rw (ne-eqb (inCount (s .vertices) v) 0 h) refl
 
 -- A refused step has no place.
-pub step-place : (bytes : List ℕ) (s : Lent) (v n p : ℕ) → step bytes s v .answer ≡ StepSaid.refused n p → p ≡ 0
-step-place bytes s v n p h = there (step-refused bytes s v n p .0 h)
+pub step-place : (ed : Edition) (bytes : List ℕ) (s : Lent) (v n p : ℕ) → step ed bytes s v .answer ≡ StepSaid.refused n p → p ≡ 0
+step-place ed bytes s v n p h = there (step-refused ed bytes s v n p .0 h)
   where
-    there : {n p : ℕ} → Refused bytes s v n p → p ≡ 0
+    there : {n p : ℕ} → Refused ed bytes s v n p → p ≡ 0
     there (before e b) = refl
     there {n} {p} (by-command c w e q) = refused-place c s n p q
 
 -- "Refusal 34 is never given" (note 3), by a step either.
-pub step-never-34 : (bytes : List ℕ) (s : Lent) (v p : ℕ) → step bytes s v .answer ≡ StepSaid.refused 34 p → ⊥
-step-never-34 bytes s v p h = there (step-refused bytes s v 34 p .0 h) refl
+pub step-never-34 : (ed : Edition) (bytes : List ℕ) (s : Lent) (v p : ℕ) → step ed bytes s v .answer ≡ StepSaid.refused 34 p → ⊥
+step-never-34 ed bytes s v p h = there (step-refused ed bytes s v 34 p .0 h) refl
   where
     not-before : {n : ℕ} → Before n → n ≡ 34 → ⊥
     not-before (inl z) q = omega arith
@@ -339,6 +346,6 @@ step-never-34 bytes s v p h = there (step-refused bytes s v 34 p .0 h) refl
     not-before (inr (inr (inr (inl z)))) q = omega arith
     not-before (inr (inr (inr (inr z)))) q = omega arith
 
-    there : {n p : ℕ} → Refused bytes s v n p → n ≡ 34 → ⊥
+    there : {n p : ℕ} → Refused ed bytes s v n p → n ≡ 34 → ⊥
     there (before e b) q = not-before b q
     there {p = p} (by-command c w e r) q = never-34 c s p (subst (λ (n : ℕ). command c s .answer ≡ of-graph.refused n p) q r)

@@ -5,8 +5,8 @@ use Rattle.graph.specs.Tables.{Lent}
 use Rattle.graph.specs.Answers as of-graph
 use Rattle.graph.specs.Answers.{Outcome}
 
--- "An accepted step says one of seven things: start, new v, edge a b, release v, transfer v, job (number, offset), stop." A refusal has its
--- number and place.
+-- "An accepted step says one of seven things: start, new v, edge a b, release v, transfer v, job (number, offset), stop." "An accepted step may
+-- then also say yield." (note 10) A refusal has its number and place.
 pub data StepSaid : Type 0 where
   start : StepSaid
   new : ℕ → StepSaid
@@ -15,6 +15,7 @@ pub data StepSaid : Type 0 where
   transfer : ℕ → StepSaid
   job : ℕ → ℕ → StepSaid
   stop : StepSaid
+  yield : StepSaid
   refused : ℕ → ℕ → StepSaid
 
 abbrev pub accepted : StepSaid → Bool
@@ -25,6 +26,7 @@ accepted (release v) = true
 accepted (transfer v) = true
 accepted (job n o) = true
 accepted stop = true
+accepted yield = true
 accepted (refused n p) = false
 
 -- "A refusal gives its number and place, and every lent table and the tally hold what they held."
@@ -56,4 +58,5 @@ saidAs (of-graph.edge a b) = edge a b
 saidAs (of-graph.release v) = release v
 saidAs (of-graph.transfer v) = transfer v
 saidAs of-graph.stop = stop
+saidAs of-graph.yield = yield
 saidAs (of-graph.refused n p) = refused n p

@@ -18,7 +18,7 @@ use Rattle.graph.specs.declared.Command as single
 use Rattle.graph.specs.Answers.{Outcome}
 use Rattle.program.specs.Trees.{Body}
 use Rattle.program.specs.Encodings as needs
-use Rattle.program.specs.Encodings.{firstEdition}
+use Rattle.program.specs.declared.Edition.{Edition}
 use Rattle.program.specs.Reader.{program, refusal, reading}
 use Rattle.machine.specs.Answers.{StepSaid, accepted, refuse, saidAs}
 use Rattle.machine.specs.Stepping.{steppable, Own, ownOf, Due, refusal-due, job-due, command-due, due, step}
@@ -26,19 +26,19 @@ use Rattle.machine.specs.Running.{canStep, Ending, done, stuck, spent, r
 
 -- LOADING
 -- "where the rows they need are lent"
-pub record Lends (b : Body) (s : Lent) : Type 0 where
-  pub vertex-rows : needs.verticesMade firstEdition b ≤ vertexRows (s .vertices)
-  pub edge-rows : needs.edgeRowsNeeded firstEdition b ≤ edgeRows (s .edges)
+pub record Lends (ed : Edition) (b : Body) (s : Lent) : Type 0 where
+  pub vertex-rows : needs.verticesMade ed b ≤ vertexRows (s .vertices)
+  pub edge-rows : needs.edgeRowsNeeded ed b ≤ edgeRows (s .edges)
 
 -- why loading is refused: as reading is, or "10 fewer than V vertex rows", or "11 too few edge rows"
-pub data Unloaded (bytes : List ℕ) (s : Lent) : ℕ → ℕ → Type 0 where
-  unread : {n p : ℕ} → reading bytes ≡ refusal n p → Unloaded bytes s n p
+pub data Unloaded (ed : Edition) (bytes : List ℕ) (s : Lent) : ℕ → ℕ → Type 0 where
+  unread : {n p : ℕ} → reading ed bytes ≡ refusal n p → Unloaded ed bytes s n p
   few-vertex-rows :
-      (b : Body) → reading bytes ≡ program b → vertexRows (s .vertices) < needs.verticesMade firstEdition b
-      → Unloaded bytes s too-few-vertex-rows 0
+      (b : Body) → reading ed bytes ≡ program b → vertexRows (s .vertices) < needs.verticesMade ed b
+      → Unloaded ed bytes s too-few-vertex-rows 0
   few-edge-rows :
-      (b : Body) → reading bytes ≡ program b → needs.verticesMade firstEdition b ≤ vertexRows (s .vertices)
-      → edgeRows (s .edges) < needs.edgeRowsNeeded firstEdition b → Unloaded bytes s too-few-edge-rows 0
+      (b : Body) → reading ed bytes ≡ program b → needs.verticesMade ed b ≤ vertexRows (s .vertices)
+      → edgeRows (s .edges) < needs.edgeRowsNeeded ed b → Unloaded ed bytes s too-few-edge-rows 0
 
 -- "the first of 2 to 7 by place", and 43 "by place among 2 to 7": these refusals have a place. All others have the place 0, as `load-place`,
 -- `step-place` and `run-place` say.
@@ -79,39 +79,39 @@ abbrev pub Before : ℕ → Type 0
 Before n = (n ≡ unsound-tables) ⊎ (n ≡ no-such-vertex) ⊎ (n ≡ vertex-is-new) ⊎ (n ≡ vertex-is-finished) ⊎ (n ≡ nothing-starts)
 
 -- why a step is refused: before any command, or as its command is
-pub data Refused (bytes : List ℕ) (s : Lent) (v : ℕ) : ℕ → ℕ → Type 0 where
-  before : {n : ℕ} → due bytes s v ≡ refusal-due n → Before n → Refused bytes s v n 0
+pub data Refused (ed : Edition) (bytes : List ℕ) (s : Lent) (v : ℕ) : ℕ → ℕ → Type 0 where
+  before : {n : ℕ} → due ed bytes s v ≡ refusal-due n → Before n → Refused ed bytes s v n 0
   by-command :
-      {n p : ℕ} (c : single.Command) (w : Own) → due bytes s v ≡ command-due c w → command c s .answer ≡ of-graph.refused n p
-      → Refused bytes s v n p
+      {n p : ℕ} (c : single.Command) (w : Own) → due ed bytes s v ≡ command-due c w → command c s .answer ≡ of-graph.refused n p
+      → Refused ed bytes s v n p
 
 -- RUNS
 -- "the lowest vertex whose step would be accepted"
-pub record Lowest (bytes : List ℕ) (s : Lent) (v : ℕ) : Type 0 where
-  pub can : canStep bytes s v ≡ true
-  pub none-lower : (u : ℕ) → u < v → canStep bytes s u ≡ false
+pub record Lowest (ed : Edition) (bytes : List ℕ) (s : Lent) (v : ℕ) : Type 0 where
+  pub can : canStep ed bytes s v ≡ true
+  pub none-lower : (u : ℕ) → u < v → canStep ed bytes s u ≡ false
 
 -- so many steps from s, each of the lowest vertex that can step; the last of them said this; they leave s'
-pub data Steps (bytes : List ℕ) (s : Lent) : ℕ → Option StepSaid → Lent → Type 0 where
-  no-step : Steps bytes s 0 none s
+pub data Steps (ed : Edition) (bytes : List ℕ) (s : Lent) : ℕ → Option StepSaid → Lent → Type 0 where
+  no-step : Steps ed bytes s 0 none s
   one-more :
-      {n : ℕ} {last : Option StepSaid} {s' : Lent} (v : ℕ) → Steps bytes s n last s' → Lowest bytes s' v
-      → Steps bytes s (suc n) (some (step bytes s' v .answer)) (step bytes s' v .after)
+      {n : ℕ} {last : Option StepSaid} {s' : Lent} (v : ℕ) → Steps ed bytes s n last s' → Lowest ed bytes s' v
+      → Steps ed bytes s (suc n) (some (step ed bytes s' v .answer)) (step ed bytes s' v .after)
 
 -- "all vertices made are finished"
 abbrev pub AllFinished : Lent → Type 0
 AllFinished s = (v : ℕ) → v < s .made → status (s .vertices) v ≡ FINISHED
 
 -- "Before each step it looks: done if all vertices made are finished; stuck if no step would be accepted; spent if the budget is used."
-abbrev pub Looks : List ℕ → ℕ → ℕ → Lent → Ending → Type 0
-Looks bytes budget taken s done = AllFinished s
-Looks bytes budget taken s stuck = (AllFinished s → ⊥) × ((v : ℕ) → canStep bytes s v ≡ false)
-Looks bytes budget taken s spent = (AllFinished s → ⊥) × ((v : ℕ) × Lowest bytes s v) × (taken ≡ budget)
-Looks bytes budget taken s (refused n p) = ⊥
+abbrev pub Looks : Edition → List ℕ → ℕ → ℕ → Lent → Ending → Type 0
+Looks ed bytes budget taken s done = AllFinished s
+Looks ed bytes budget taken s stuck = (AllFinished s → ⊥) × ((v : ℕ) → canStep ed bytes s v ≡ false)
+Looks ed bytes budget taken s spent = (AllFinished s → ⊥) × ((v : ℕ) × Lowest ed bytes s v) × (taken ≡ budget)
+Looks ed bytes budget taken s (refused n p) = ⊥
 
 -- a run's outcome: refused by 12, or such steps
-pub data OnlySuchSteps (bytes : List ℕ) (s : Lent) (budget : ℕ) (o : RunOutcome) : Type 0 where
-  run-refused : steppable s ≡ false → o ≡ ended (refused unsound-tables 0) none 0 s → OnlySuchSteps bytes s budget o
+pub data OnlySuchSteps (ed : Edition) (bytes : List ℕ) (s : Lent) (budget : ℕ) (o : RunOutcome) : Type 0 where
+  run-refused : steppable s ≡ false → o ≡ ended (refused unsound-tables 0) none 0 s → OnlySuchSteps ed bytes s budget o
   run-steps :
-      steppable s ≡ true → Steps bytes s (o .taken) (o .last) (o .after) → o .taken ≤ budget
-      → Looks bytes budget (o .taken) (o .after) (o .ending) → o .after .steps ≡ s .steps + o .taken → OnlySuchSteps bytes s budget o
+      steppable s ≡ true → Steps ed bytes s (o .taken) (o .last) (o .after) → o .taken ≤ budget
+      → Looks ed bytes budget (o .taken) (o .after) (o .ending) → o .after .steps ≡ s .steps + o .taken → OnlySuchSteps ed bytes s budget o

@@ -12,7 +12,8 @@ use Rattle.graph.specs.Paths.{CycleFree, holds}
 use Rattle.program.specs.Trees.{Body, counts}
 use Rattle.program.specs.Encodings.{stepFormula}
 use Rattle.program.specs.Located.{Code, job-at, located, codeAt}
-use Rattle.machine.specs.Answers.{StepSaid, accepted, start, new, edge, release, transfer, job, stop, refused}
+use Rattle.program.specs.declared.Edition.{Edition}
+use Rattle.machine.specs.Answers.{StepSaid, accepted, start, new, edge, release, transfer, job, stop, yield, refused}
 use Rattle.machine.specs.Loading.{load}
 use Rattle.machine.specs.Stepping.{step}
 use Rattle.machine.specs.Running.{canStep, done, spent, run}
@@ -33,6 +34,7 @@ answersJob o (edge a b) = 0
 answersJob o (release v) = 0
 answersJob o (transfer v) = 0
 answersJob o stop = 0
+answersJob o yield = 0
 answersJob o (refused n p) = 0
 
 unfoldable pub ranIn : ℕ → List StepSaid → ℕ
@@ -53,18 +55,20 @@ abbrev pub ByChoice : ℕ → Type 0
 ByChoice n = (n ≡ no-such-vertex) ⊎ ((n ≡ edge-leads-in) ⊎ ((n ≡ vertex-is-new) ⊎ (n ≡ vertex-is-finished)))
 
 -- something holds after loading and after every step
-unfoldable pub Throughout : {bytes : List ℕ} {s₀ : Lent} {answers : List StepSaid} {s : Lent} → (Lent → Type 0) → Reached bytes s₀ answers s → Type 0
-Throughout {bytes} {s₀} P (begun h) = P (load bytes s₀ .after)
-Throughout {bytes} P (stepped {s} r v) = Throughout P r × P (step bytes s v .after)
+unfoldable pub Throughout : {ed : Edition} {bytes : List ℕ} {s₀ : Lent} {answers : List StepSaid} {s : Lent} → (Lent → Type 0) → Reached ed bytes s₀ answers s → Type 0
+Throughout {ed} {bytes} {s₀} P (begun h) = P (load ed bytes s₀ .after)
+Throughout {ed} {bytes} P (stepped {s} r v) = Throughout P r × P (step ed bytes s v .after)
 
--- Demand 3 of a program with the tree t, and of what was reached from an accepted loading of it by whatever steps.
-pub record Demand3 (bytes : List ℕ) (t : Body) {s₀ : Lent} {answers : List StepSaid} {s : Lent} (q : Reached bytes s₀ answers s) : Type 0 where
-  -- "after the list the accepted steps number at most 4 + w + 5a + 10f + 15k", with 9 for each future and 6 for each force (note 5)
-  pub at-most : acceptedIn answers ≤ stepFormula (counts t)
+-- Demand 3 of a program with the tree t, and of what was reached from an accepted loading of it by whatever steps: "Demand 3 and the order of
+-- jobs are for a loading and steps that are all of one edition" (note 10), the edition ed.
+pub record Demand3 (ed : Edition) (bytes : List ℕ) (t : Body) {s₀ : Lent} {answers : List StepSaid} {s : Lent} (q : Reached ed bytes s₀ answers s) : Type 0 where
+  -- "after the list the accepted steps number at most 4 + w + 5a + 10f + 15k", with 9 for each future and 6 for each force (note 5), and for a
+  -- fork 12 "in place of 15" in the second edition (note 10)
+  pub at-most : acceptedIn answers ≤ stepFormula ed (counts t)
   -- "the tally's third number is how many were since loading"
   pub tally-tells : s .steps ≡ acceptedIn answers
   -- "and some vertex can step exactly when they are fewer"
-  pub progress : ((v : ℕ) × (canStep bytes s v ≡ true)) ↔ (acceptedIn answers < stepFormula (counts t))
+  pub progress : ((v : ℕ) × (canStep ed bytes s v ≡ true)) ↔ (acceptedIn answers < stepFormula ed (counts t))
   -- "No written job has run twice"; "only written jobs are answered"
   pub once : (o : ℕ) → ranIn o answers ≤ 1
   pub only-written : (n o : ℕ) → Answered (job n o) answers → Written t o n
@@ -72,14 +76,14 @@ pub record Demand3 (bytes : List ℕ) (t : Body) {s₀ : Lent} {answers : List S
   pub in-order :
       (before after : List StepSaid) (n o p : ℕ) → answers ≡ before ++ (job n o ∷ after) → Ahead (located t) p o → ranIn p before ≡ 1
   -- "at the full count each has run once"
-  pub all-run : acceptedIn answers ≡ stepFormula (counts t) → (n o : ℕ) → Written t o n → ranIn o answers ≡ 1
+  pub all-run : acceptedIn answers ≡ stepFormula ed (counts t) → (n o : ℕ) → Written t o n → ranIn o answers ≡ 1
   -- "Never cyclic: neither after loading nor after any step does a path of one or more edges lead from a vertex to itself."
   pub never-cyclic : Throughout (λ s'. CycleFree (holds (s' .edges) (s' .held))) q
   -- "No row was wanting: no step is answered 31 or 32": only the host's choice of a vertex is ever refused
   pub refusals : (n p : ℕ) → Answered (refused n p) answers → ByChoice n
   -- "the refused steps changed nothing"
-  pub refused-keep : (v : ℕ) → accepted (step bytes s v .answer) ≡ false → step bytes s v .after ≡ s
+  pub refused-keep : (v : ℕ) → accepted (step ed bytes s v .answer) ≡ false → step ed bytes s v .after ≡ s
   -- "A run .. answers done exactly when the full count is then reached, otherwise spent"; its steps are the tally's rise
-  pub run-done : (budget : ℕ) → (run bytes s budget .ending ≡ done) ↔ (run bytes s budget .after .steps ≡ stepFormula (counts t))
-  pub run-else : (budget : ℕ) → (run bytes s budget .ending ≡ done → ⊥) → run bytes s budget .ending ≡ spent
-  pub run-counts : (budget : ℕ) → run bytes s budget .after .steps ≡ s .steps + run bytes s budget .taken
+  pub run-done : (budget : ℕ) → (run ed bytes s budget .ending ≡ done) ↔ (run ed bytes s budget .after .steps ≡ stepFormula ed (counts t))
+  pub run-else : (budget : ℕ) → (run ed bytes s budget .ending ≡ done → ⊥) → run ed bytes s budget .ending ≡ spent
+  pub run-counts : (budget : ℕ) → run ed bytes s budget .after .steps ≡ s .steps + run ed bytes s budget .taken

@@ -9,7 +9,7 @@ use Rattle.graph.specs.Tables.{Lent, RELEASED, vertexWords, edgeWords, placeWor
 use Rattle.graph.specs.Commands.{appended}
 use Rattle.graph.specs.Answers.{Outcome}
 use Rattle.program.specs.Encodings as needs
-use Rattle.program.specs.Encodings.{firstEdition}
+use Rattle.program.specs.declared.Edition.{Edition}
 use Rattle.program.specs.Reader.{Reading, program, refusal, reading}
 use Rattle.refusal.specs.Refusals.{too-few-vertex-rows, too-few-edge-rows}
 use Rattle.machine.specs.Answers.{loaded, refuseLoading, LoadingSaid}
@@ -29,13 +29,13 @@ loadedTables bytes s =
       steps = 0;
     }
 
--- "Load: 1; the first of 2 to 7 by place, ..; 8; 10; 11."
-unfoldable pub loadRead : List ℕ → Lent → Reading → Outcome LoadingSaid
-loadRead bytes s (refusal n p) = refuseLoading s n p
-loadRead bytes s (program b) =
-    cond (ltb (vertexRows (s .vertices)) (needs.verticesMade firstEdition b)) (refuseLoading s too-few-vertex-rows 0)
-    (cond (ltb (edgeRows (s .edges)) (needs.edgeRowsNeeded firstEdition b)) (refuseLoading s too-few-edge-rows 0)
+-- "Load: 1; the first of 2 to 7 by place, ..; 8; 10; 11." "V and the commands of a fork are counted by the edition" (note 10).
+unfoldable pub loadRead : Edition → List ℕ → Lent → Reading → Outcome LoadingSaid
+loadRead ed bytes s (refusal n p) = refuseLoading s n p
+loadRead ed bytes s (program b) =
+    cond (ltb (vertexRows (s .vertices)) (needs.verticesMade ed b)) (refuseLoading s too-few-vertex-rows 0)
+    (cond (ltb (edgeRows (s .edges)) (needs.edgeRowsNeeded ed b)) (refuseLoading s too-few-edge-rows 0)
     (record { answer = loaded; after = loadedTables bytes s }))
 
-unfoldable pub load : List ℕ → Lent → Outcome LoadingSaid
-load bytes s = loadRead bytes s (reading bytes)
+unfoldable pub load : Edition → List ℕ → Lent → Outcome LoadingSaid
+load ed bytes s = loadRead ed bytes s (reading ed bytes)

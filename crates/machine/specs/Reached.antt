@@ -7,17 +7,18 @@ use mathlib.Core.List.{List, [], _∷_, _++_}
 use mathlib.Core.Option.{Option, none, some}
 use lib.ListN.{length}
 use Rattle.graph.specs.Tables.{Lent}
+use Rattle.program.specs.declared.Edition.{Edition}
 use Rattle.machine.specs.Answers.{StepSaid, accepted, isLoaded}
 use Rattle.machine.specs.Loading.{load}
 use Rattle.machine.specs.Stepping.{steppable, step}
 use Rattle.machine.specs.Running.{lowest, allFinished, refused, RunOutcome, run}
 
 -- From the loading of these bytes onto s₀, by steps with these answers, this is lent.
-pub data Reached (bytes : List ℕ) (s₀ : Lent) : List StepSaid → Lent → Type 0 where
-  begun : isLoaded (load bytes s₀ .answer) ≡ true → Reached bytes s₀ [] (load bytes s₀ .after)
+pub data Reached (ed : Edition) (bytes : List ℕ) (s₀ : Lent) : List StepSaid → Lent → Type 0 where
+  begun : isLoaded (load ed bytes s₀ .answer) ≡ true → Reached ed bytes s₀ [] (load ed bytes s₀ .after)
   stepped :
-      {answers : List StepSaid} {s : Lent} → Reached bytes s₀ answers s → (v : ℕ)
-      → Reached bytes s₀ (answers ++ (step bytes s v .answer ∷ [])) (step bytes s v .after)
+      {answers : List StepSaid} {s : Lent} → Reached ed bytes s₀ answers s → (v : ℕ)
+      → Reached ed bytes s₀ (answers ++ (step ed bytes s v .answer ∷ [])) (step ed bytes s v .after)
 
 -- A call names a vertex to step, or a budget to run.
 pub data Call : Type 0 where
@@ -25,14 +26,14 @@ pub data Call : Type 0 where
   a-run : ℕ → Call
 
 -- "A run lent the same stands in a list as the steps that it makes": their answers
-unfoldable pub goOn : List ℕ → (Lent → List StepSaid) → Lent → Bool → Option ℕ → List StepSaid
-goOn bytes again s true v = []
-goOn bytes again s false none = []
-goOn bytes again s false (some v) = step bytes s v .answer ∷ again (step bytes s v .after)
+unfoldable pub goOn : Edition → List ℕ → (Lent → List StepSaid) → Lent → Bool → Option ℕ → List StepSaid
+goOn ed bytes again s true v = []
+goOn ed bytes again s false none = []
+goOn ed bytes again s false (some v) = step ed bytes s v .answer ∷ again (step ed bytes s v .after)
 
-unfoldable pub runAnswers : List ℕ → ℕ → Lent → List StepSaid
-runAnswers bytes zero s = []
-runAnswers bytes (suc budget) s = goOn bytes (runAnswers bytes budget) s (allFinished s) (lowest bytes s)
+unfoldable pub runAnswers : Edition → List ℕ → ℕ → Lent → List StepSaid
+runAnswers ed bytes zero s = []
+runAnswers ed bytes (suc budget) s = goOn ed bytes (runAnswers ed bytes budget) s (allFinished s) (lowest ed bytes s)
 
 -- the last of a list of answers, or what was answered before, where there is none
 unfoldable pub lastOr : Option StepSaid → List StepSaid → Option StepSaid
@@ -53,19 +54,19 @@ pub record StandsAs (answers : List StepSaid) (o : RunOutcome) : Type 0 where
   pub refused-none : (n p : ℕ) → o .ending ≡ refused n p → answers ≡ []
 
 -- what a call answers, step by step, and what it leaves; `run-stands` in proofs/Calls.antt says what a run answers in a list
-unfoldable pub callAnswers : List ℕ → Lent → Call → List StepSaid
-callAnswers bytes s (a-step v) = step bytes s v .answer ∷ []
-callAnswers bytes s (a-run budget) = cond (steppable s) (runAnswers bytes budget s) []
+unfoldable pub callAnswers : Edition → List ℕ → Lent → Call → List StepSaid
+callAnswers ed bytes s (a-step v) = step ed bytes s v .answer ∷ []
+callAnswers ed bytes s (a-run budget) = cond (steppable s) (runAnswers ed bytes budget s) []
 
-unfoldable pub callLeaves : List ℕ → Lent → Call → Lent
-callLeaves bytes s (a-step v) = step bytes s v .after
-callLeaves bytes s (a-run budget) = run bytes s budget .after
+unfoldable pub callLeaves : Edition → List ℕ → Lent → Call → Lent
+callLeaves ed bytes s (a-step v) = step ed bytes s v .after
+callLeaves ed bytes s (a-run budget) = run ed bytes s budget .after
 
 -- a list of calls, one after the other
-unfoldable pub answersOf : List ℕ → Lent → List Call → List StepSaid
-answersOf bytes s [] = []
-answersOf bytes s (c ∷ cs) = callAnswers bytes s c ++ answersOf bytes (callLeaves bytes s c) cs
+unfoldable pub answersOf : Edition → List ℕ → Lent → List Call → List StepSaid
+answersOf ed bytes s [] = []
+answersOf ed bytes s (c ∷ cs) = callAnswers ed bytes s c ++ answersOf ed bytes (callLeaves ed bytes s c) cs
 
-unfoldable pub leavesOf : List ℕ → Lent → List Call → Lent
-leavesOf bytes s [] = s
-leavesOf bytes s (c ∷ cs) = leavesOf bytes (callLeaves bytes s c) cs
+unfoldable pub leavesOf : Edition → List ℕ → Lent → List Call → Lent
+leavesOf ed bytes s [] = s
+leavesOf ed bytes s (c ∷ cs) = leavesOf ed bytes (callLeaves ed bytes s c) cs

@@ -1,5 +1,5 @@
 -- "A step names a vertex. A released one is started. An executing one does the next command of the item at its place." What is due there is
--- told first, and then done.
+-- told first, and then done. A step is of an edition, whose table of commands it goes by (note 10).
 use Prim.Native.Nat.{ℕ, zero, suc, _+_, _-_}
 use mathlib.Core.Bool.{Bool, true, false, not, cond}
 use mathlib.Core.List.{List, [], _∷_}
@@ -13,11 +13,12 @@ use Rattle.graph.specs.Answers as of-graph
 use Rattle.graph.specs.Sound.{tallyFits, sound}
 use Rattle.graph.specs.Commands.{isMade, hasStatus, command}
 use Rattle.graph.specs.declared.Command as single
-use Rattle.graph.specs.declared.Command.the-variants.{NewTd, NewEdge, Release, Transfer, Start, Stop}
+use Rattle.graph.specs.declared.Command.the-variants.{NewTd, NewEdge, Release, Transfer, Start, Stop, Yield}
 use Rattle.graph.specs.Answers.{Outcome}
 use Rattle.program.specs.Trees.{jobs, asyncs, finishes, forks, futures, forces}
-use Rattle.program.specs.Encodings.{Name, own-scope, made-1, made-2, made-3, forced, Spot, first-body, second-body, past-item, last-byte}
-use Rattle.program.specs.Encodings.{Command, perform, newTd, newEdge, transfer, release, Row, firstEdition, weight, makes}
+use Rattle.program.specs.declared.Edition.{Edition}
+use Rattle.program.specs.Encodings.{Name, self, own-scope, made-1, made-2, made-3, forced, Spot, first-body, second-body, past-item, last-byte}
+use Rattle.program.specs.Encodings.{Command, perform, newTd, newEdge, transfer, release, yield, Row, rowOf, weight, makes}
 use Rattle.program.specs.Answers as of-program
 use Rattle.program.specs.Answers.{Stands}
 use Rattle.program.specs.Located.{itemAt}
@@ -77,6 +78,7 @@ orZero (some t) = t
 
 -- what a name in an item's command stands for; n is the item's number, where it has one
 unfoldable pub named : Lent → ℕ → ℕ → Name → ℕ
+named s v n self = v
 named s v n own-scope = scope s v
 named s v n made-1 = made s v 0
 named s v n made-2 = made s v 1
@@ -90,6 +92,7 @@ isVertex (some t) = true
 -- "13 .. is also given at a force's newEdge where the words followed come to 0 or to no made vertex": whether a name stands for a vertex, and
 -- each name of a command does. In the table of commands only a force's newEdge has the name `forced`; the other names are not looked at here.
 unfoldable pub stands : Lent → ℕ → ℕ → Name → Bool
+stands s v n self = true
 stands s v n own-scope = true
 stands s v n made-1 = true
 stands s v n made-2 = true
@@ -102,6 +105,7 @@ allStand s v n (newTd p a) = stands s v n a
 allStand s v n (newEdge a b) = both (stands s v n a) (stands s v n b)
 allStand s v n (transfer a) = stands s v n a
 allStand s v n (release a) = stands s v n a
+allStand s v n yield = true
 
 -- An item, as it stands in the program: the table's row for its kind, its number where it has one, a job's or a force's, and the places of its
 -- bodies and past it; or an end byte; or nothing.
@@ -117,16 +121,16 @@ spots first second past last second-body = second
 spots first second past last past-item = past
 spots first second past last last-byte = last
 
--- `last` is the offset of the program's last byte
-unfoldable pub task : ℕ → Stands → Task
-task last (of-program.job n past) = item (firstEdition jobs) n (spots past past past last)
-task last (of-program.async body past) = item (firstEdition asyncs) 0 (spots body body past last)
-task last (of-program.finish body past) = item (firstEdition finishes) 0 (spots body body past last)
-task last (of-program.fork left right past) = item (firstEdition forks) 0 (spots left right past last)
-task last (of-program.future body past) = item (firstEdition futures) 0 (spots body body past last)
-task last (of-program.force n past) = item (firstEdition forces) n (spots past past past last)
-task last of-program.end = ends
-task last (of-program.refused n p) = nothing
+-- the item in an edition; `last` is the offset of the program's last byte
+unfoldable pub task : Edition → ℕ → Stands → Task
+task ed last (of-program.job n past) = item (rowOf ed jobs) n (spots past past past last)
+task ed last (of-program.async body past) = item (rowOf ed asyncs) 0 (spots body body past last)
+task ed last (of-program.finish body past) = item (rowOf ed finishes) 0 (spots body body past last)
+task ed last (of-program.fork left right past) = item (rowOf ed forks) 0 (spots left right past last)
+task ed last (of-program.future body past) = item (rowOf ed futures) 0 (spots body body past last)
+task ed last (of-program.force n past) = item (rowOf ed forces) n (spots past past past last)
+task ed last of-program.end = ends
+task ed last (of-program.refused n p) = nothing
 
 -- command number n of a list
 unfoldable pub nth : List Command → ℕ → Option Command
@@ -155,6 +159,7 @@ withKept (newTd p a) k x w = withMade k x w
 withKept (newEdge a b) k x w = w
 withKept (transfer a) k x w = w
 withKept (release a) k x w = w
+withKept yield k x w = w
 
 unfoldable pub withPhase : ℕ → Own → Own
 withPhase n (own p φ a b c l) = own p n a b c l
@@ -190,6 +195,7 @@ filledIn s v n spot w (newTd p a) = command-due (NewTd v (spot p) (named s v n a
 filledIn s v n spot w (newEdge a b) = command-due (NewEdge v (named s v n a) (named s v n b)) w
 filledIn s v n spot w (transfer a) = command-due (Transfer v (named s v n a)) w
 filledIn s v n spot w (release a) = command-due (Release v (named s v n a)) w
+filledIn s v n spot w yield = command-due (Yield v) w
 
 -- "a phase not below that item's commands"; "13 and the command's own": where a name stands for no vertex, 13 comes first
 unfoldable pub nextOf : Lent → ℕ → Row → ℕ → (Spot → ℕ) → Option Command → Due
@@ -204,13 +210,13 @@ nextAt s v ends = dueIf (eqb (phase s v) 0) nothing-starts (command-due (Stop v)
 nextAt s v nothing = refusal-due nothing-starts
 
 -- "Step: 12, 20, 22, 23, then 21, or 13 and the command's own": 21 is start's own
-unfoldable pub due : List ℕ → Lent → ℕ → Due
-due bytes s v =
+unfoldable pub due : Edition → List ℕ → Lent → ℕ → Due
+due ed bytes s v =
     cond (startDue s v) (command-due (Start v) (ownOf s v))
     (dueIf (steppable s) unsound-tables
     (dueIf (isMade s v) no-such-vertex
     (dueIf (not (hasStatus s v NEW)) vertex-is-new
-    (dueIf (not (hasStatus s v FINISHED)) vertex-is-finished (nextAt s v (task (length bytes - 1) (itemAt bytes (place s v))))))))
+    (dueIf (not (hasStatus s v FINISHED)) vertex-is-finished (nextAt s v (task ed (length bytes - 1) (itemAt ed bytes (place s v))))))))
 
 -- a vertex's own words are stored in its row
 unfoldable pub stored : List ℕ → ℕ → Own → List ℕ
@@ -240,5 +246,5 @@ doDue s v (command-due c w) =
       after = cond (of-graph.accepted (command c s .answer)) (oneStep (withOwn (command c s .after) v w)) s;
     }
 
-unfoldable pub step : List ℕ → Lent → ℕ → Outcome StepSaid
-step bytes s v = doDue s v (due bytes s v)
+unfoldable pub step : Edition → List ℕ → Lent → ℕ → Outcome StepSaid
+step ed bytes s v = doDue s v (due ed bytes s v)

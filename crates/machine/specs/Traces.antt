@@ -7,6 +7,7 @@ use mathlib.Core.Bool.{true}
 use mathlib.Core.List.{List, [], _∷_, _++_}
 use mathlib.Core.Option.{Option}
 use Rattle.graph.specs.Tables.{Lent}
+use Rattle.program.specs.declared.Edition.{Edition}
 use Rattle.machine.specs.Answers.{StepSaid, LoadingSaid, isLoaded}
 use Rattle.machine.specs.Loading.{load}
 use Rattle.machine.specs.Stepping.{step}
@@ -14,28 +15,28 @@ use Rattle.machine.specs.Running.{Ending, run}
 use Rattle.machine.specs.Reached.{a-run, callAnswers}
 
 -- loading these bytes onto what was lent before
-pub record Loaded (bytes : List ℕ) (before : Lent) (answer : LoadingSaid) (after : Lent) : Type 0 where
-  pub says : answer ≡ load bytes before .answer
-  pub leaves : after ≡ load bytes before .after
+pub record Loaded (ed : Edition) (bytes : List ℕ) (before : Lent) (answer : LoadingSaid) (after : Lent) : Type 0 where
+  pub says : answer ≡ load ed bytes before .answer
+  pub leaves : after ≡ load ed bytes before .after
 
 -- a step of the vertex v
-pub record Stepped (bytes : List ℕ) (before : Lent) (v : ℕ) (answer : StepSaid) (after : Lent) : Type 0 where
-  pub says : answer ≡ step bytes before v .answer
-  pub leaves : after ≡ step bytes before v .after
+pub record Stepped (ed : Edition) (bytes : List ℕ) (before : Lent) (v : ℕ) (answer : StepSaid) (after : Lent) : Type 0 where
+  pub says : answer ≡ step ed bytes before v .answer
+  pub leaves : after ≡ step ed bytes before v .after
 
 -- a run with a budget
-pub record Ran (bytes : List ℕ) (before : Lent) (budget : ℕ) (ending : Ending) (last : Option StepSaid) (taken : ℕ) (after : Lent) : Type 0 where
-  pub ends : ending ≡ run bytes before budget .ending
-  pub last-is : last ≡ run bytes before budget .last
-  pub takes : taken ≡ run bytes before budget .taken
-  pub leaves : after ≡ run bytes before budget .after
+pub record Ran (ed : Edition) (bytes : List ℕ) (before : Lent) (budget : ℕ) (ending : Ending) (last : Option StepSaid) (taken : ℕ) (after : Lent) : Type 0 where
+  pub ends : ending ≡ run ed bytes before budget .ending
+  pub last-is : last ≡ run ed bytes before budget .last
+  pub takes : taken ≡ run ed bytes before budget .taken
+  pub leaves : after ≡ run ed bytes before budget .after
 
 -- A trace from a loading onto s₀: the steps' answers, a run's steps among them, and what is lent at its end.
-pub data Trace (bytes : List ℕ) (s₀ : Lent) : List StepSaid → Lent → Type 0 where
-  load-first : {answer : LoadingSaid} {s : Lent} → Loaded bytes s₀ answer s → isLoaded answer ≡ true → Trace bytes s₀ [] s
+pub data Trace (ed : Edition) (bytes : List ℕ) (s₀ : Lent) : List StepSaid → Lent → Type 0 where
+  load-first : {answer : LoadingSaid} {s : Lent} → Loaded ed bytes s₀ answer s → isLoaded answer ≡ true → Trace ed bytes s₀ [] s
   then-step :
-      {answers : List StepSaid} {s s' : Lent} (v : ℕ) (answer : StepSaid) → Trace bytes s₀ answers s → Stepped bytes s v answer s'
-      → Trace bytes s₀ (answers ++ (answer ∷ [])) s'
+      {answers : List StepSaid} {s s' : Lent} (v : ℕ) (answer : StepSaid) → Trace ed bytes s₀ answers s → Stepped ed bytes s v answer s'
+      → Trace ed bytes s₀ (answers ++ (answer ∷ [])) s'
   then-run :
-      {answers : List StepSaid} {s s' : Lent} (budget : ℕ) (ending : Ending) (last : Option StepSaid) (taken : ℕ) → Trace bytes s₀ answers s
-      → Ran bytes s budget ending last taken s' → Trace bytes s₀ (answers ++ callAnswers bytes s (a-run budget)) s'
+      {answers : List StepSaid} {s s' : Lent} (budget : ℕ) (ending : Ending) (last : Option StepSaid) (taken : ℕ) → Trace ed bytes s₀ answers s
+      → Ran ed bytes s budget ending last taken s' → Trace ed bytes s₀ (answers ++ callAnswers ed bytes s (a-run budget)) s'

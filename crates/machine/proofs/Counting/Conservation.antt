@@ -6,7 +6,7 @@
 --
 --     conserved      Beyond S → Move S v e S' → total ω S ≡ ω e + total ω S', where Beyond S is that
 --     runs-pay       Beyond S → Runs S es S' → total ω S ≡ spent ω es + total ω S', where Runs is a row of moves with the events es
---     nothing-left   left each x ≡ 0 → x ≡ over, where each event weighs 1
+--     nothing-left   left Γ each x ≡ 0 → x ≡ over, where each event weighs 1
 use Prim.Native.Nat.{ℕ, zero, suc, _+_, _<_, _≤_}
 use mathlib.Core.Path.{_≡_, refl, sym, _∙_, ap}
 use mathlib.Core.Bool.{Bool, true, false, cond}
@@ -15,17 +15,20 @@ use mathlib.Core.List.{List, [], _∷_, _++_}
 use native.Mathlib.Nat.{eq-or-lt-of-le, le-of-suc-le-suc, lt-of-not-le}
 use native.Mathlib.Omega.{arith}
 use lib.ListN.{length, drop, length-append}
-use Rattle.program.specs.Encodings.{Command, perform, newTd, newEdge, transfer, release, weight}
+use Rattle.program.specs.Trees.{Kind, jobs, asyncs, finishes, forks, futures, forces}
+use Rattle.program.specs.declared.Edition.{Edition}
+use Rattle.program.specs.declared.Edition.the-variants.{First, Second}
+use Rattle.program.specs.Encodings.{forkRow, rowOf, weight}
 use Rattle.program.specs.Located.{Code, end-at, job-at, async-at, finish-at, fork-at, future-at, force-at}
-use Rattle.machine.proofs.GhostMachine.Ghost.{Do, link, hand, free, Control, draft, fresh, ready, busy, joining, over, State, put, Kid, kids}
-use Rattle.machine.proofs.GhostMachine.Ghost.{goes}
-use Rattle.machine.proofs.GhostMachine.Ghost.{kindOf, commandsOf, forcedBy, joins, todo, onward, done, Event, a-start, a-new, a-job, a-stop}
-use Rattle.machine.proofs.GhostMachine.Ghost.{woken, freed, among, eventOf, Move, begins, performs, stops, makes, splits, acts, stirred}
+use Rattle.machine.proofs.GhostMachine.Ghost.{Do, link, hand, free, yield, Control, draft, fresh, ready, busy, joining, over, Setting, State}
+use Rattle.machine.proofs.GhostMachine.Ghost.{put, Kid, forkKids, forkGoes, kids, goes, kindOf, commandsOf, forcedBy, joins, todo, onward}
+use Rattle.machine.proofs.GhostMachine.Ghost.{resumed, woken, freed, among, withControl, done, Event, a-start, a-new, a-job, a-stop, eventOf}
+use Rattle.machine.proofs.GhostMachine.Ghost.{Move, begins, performs, stops, makes, splits, acts, stirred}
 use Rattle.machine.proofs.GhostMachine.GhostLaws.{put-same, put-other, put-cases, clash}
 use Rattle.machine.proofs.GhostMachine.RoadLaws.{done-keeps}
 use Rattle.machine.proofs.GhostMachine.SplitLaws.{stirred-keeps}
-use Rattle.machine.proofs.Counting.Weights.{joinWeight, joinsWeight, bodyWeight, kidsWeight, behindWeight, tasksWeight, left, sumBelow, total}
-use Rattle.machine.proofs.Counting.Weights.{spent, each}
+use Rattle.machine.proofs.Counting.Weights.{joinWeight, joinsWeight, forkRest, bodyWeight, kidsWeight, behindWeight, tasksWeight, left}
+use Rattle.machine.proofs.Counting.Weights.{sumBelow, total, spent, each}
 
 -- Sums.
 
@@ -62,33 +65,44 @@ sum-but f g (suc n) v h same =
 
 -- What is left to a vertex.
 
--- joining commands weigh the same with their vertices filled in
-joins-weight :
-    (ω : Event → ℕ) (σ f : ℕ) (ms : List ℕ) (cs : List Command) → tasksWeight ω (joins σ f ms cs) ≡ weight (joinWeight ω) cs
-unfolding tasksWeight joins weight joinWeight eventOf
-joins-weight ω σ f ms [] = refl
-joins-weight ω σ f ms (perform ∷ cs) = omega (arith, joins-weight ω σ f ms cs)
-joins-weight ω σ f ms (newTd p a ∷ cs) = omega (arith, joins-weight ω σ f ms cs)
-joins-weight ω σ f ms (newEdge a b ∷ cs) = omega (arith, joins-weight ω σ f ms cs)
-joins-weight ω σ f ms (transfer a ∷ cs) = omega (arith, joins-weight ω σ f ms cs)
-joins-weight ω σ f ms (release a ∷ cs) = omega (arith, joins-weight ω σ f ms cs)
+-- the joining commands of an item weigh the same with their vertices filled in: a yield is the last of them
+kind-weight :
+    (ed : Edition) (ω : Event → ℕ) (v σ f : ℕ) (ms : List ℕ) (k : Kind)
+    → tasksWeight ω (joins v σ f ms (rowOf ed k .commands)) ≡ joinsWeight ed ω k
+unfolding tasksWeight joins joinsWeight weight joinWeight rowOf forkRow
+kind-weight ed ω v σ f ms jobs = omega arith
+kind-weight ed ω v σ f ms asyncs = omega arith
+kind-weight ed ω v σ f ms finishes = omega arith
+kind-weight First ω v σ f ms forks = omega arith
+kind-weight Second ω v σ f ms forks = omega arith
+kind-weight ed ω v σ f ms futures = omega arith
+kind-weight ed ω v σ f ms forces = omega arith
+
+-- a fork's rest weighs the same with another vertex or with the forking one
+fork-rest :
+    (ed : Edition) (ω : Event → ℕ) (L : ℕ) (r : Code)
+    → forkRest ed ω (bodyWeight ed ω r) ≡ kidsWeight ed ω (forkKids ed r) + bodyWeight ed ω (forkGoes ed L r)
+unfolding forkRest forkKids forkGoes kidsWeight bodyWeight
+fork-rest First ω L r = omega arith
+fork-rest Second ω L r = omega arith
 
 -- an item that has not made any vertex weighs as its code
-busy-none : (ω : Event → ℕ) (c : Code) → left ω (busy c []) ≡ bodyWeight ω c
+busy-none : (Γ : Setting) (ω : Event → ℕ) (c : Code) → left Γ ω (busy c []) ≡ bodyWeight (Γ .edition) ω c
 unfolding left kidsWeight behindWeight bodyWeight kids
-busy-none ω (end-at o) = omega arith
-busy-none ω (job-at o n r) = omega arith
-busy-none ω (async-at o b r) = omega arith
-busy-none ω (finish-at o b r) = omega arith
-busy-none ω (fork-at o b c r) = omega arith
-busy-none ω (future-at o b r) = omega arith
-busy-none ω (force-at o n b r) = omega arith
+busy-none Γ ω (end-at o) = omega arith
+busy-none Γ ω (job-at o n r) = omega arith
+busy-none Γ ω (async-at o b r) = omega arith
+busy-none Γ ω (finish-at o b r) = omega arith
+busy-none Γ ω (fork-at o b c r) = omega (arith, fork-rest (Γ .edition) ω (Γ .lastByte) r)
+busy-none Γ ω (future-at o b r) = omega arith
+busy-none Γ ω (force-at o n b r) = omega arith
 
 -- a vertex that goes on with these commands and then with this code
-onward-weight : (ω : Event → ℕ) (c : Code) (ds : List Do) → left ω (onward c ds) ≡ tasksWeight ω ds + bodyWeight ω c
+onward-weight :
+    (Γ : Setting) (ω : Event → ℕ) (c : Code) (ds : List Do) → left Γ ω (onward c ds) ≡ tasksWeight ω ds + bodyWeight (Γ .edition) ω c
 unfolding onward left tasksWeight
-onward-weight ω c [] = omega (arith, busy-none ω c)
-onward-weight ω c (d ∷ ds) = refl
+onward-weight Γ ω c [] = omega (arith, busy-none Γ ω c)
+onward-weight Γ ω c (d ∷ ds) = refl
 
 -- nothing is behind the first n of none
 drop-some : {A : Type 0} (n : ℕ) (x : A) (xs : List A) → drop n [] ≡ x ∷ xs → ⊥
@@ -101,140 +115,131 @@ drop-more n [] x xs e = absurd (drop-some n x xs e)
 drop-more zero (y ∷ l) x xs e = ap (drop 1) e
 drop-more (suc n) (y ∷ l) x xs e = drop-more n l x xs e
 
--- the vertices still to be made weigh the same wherever the program's last byte is
-kids-anywhere : (ω : Event → ℕ) (L : ℕ) (c : Code) (n : ℕ) → kidsWeight ω (drop n (kids 0 c)) ≡ kidsWeight ω (drop n (kids L c))
-unfolding kids kidsWeight bodyWeight
-kids-anywhere ω L (end-at o) n = refl
-kids-anywhere ω L (job-at o m r) n = refl
-kids-anywhere ω L (async-at o b r) n = refl
-kids-anywhere ω L (finish-at o b r) n = refl
-kids-anywhere ω L (fork-at o b c r) n = refl
-kids-anywhere ω L (future-at o b r) zero = refl
-kids-anywhere ω L (future-at o b r) (suc n) = refl
-kids-anywhere ω L (force-at o m b r) n = refl
-
 -- behind its vertices, an item that makes some has its joining commands, and the code where its vertex goes
 behind-weight :
-    (ω : Event → ℕ) (L : ℕ) (c : Code) (n : ℕ) (k : Kid) (ks : List Kid) → drop n (kids L c) ≡ k ∷ ks
-    → behindWeight ω c ≡ weight (joinWeight ω) (commandsOf (kindOf c)) + bodyWeight ω (goes L c)
-unfolding kids goes kindOf commandsOf behindWeight bodyWeight joinsWeight
-behind-weight ω L (end-at o) n k ks e = absurd (drop-some n k ks e)
-behind-weight ω L (job-at o m r) n k ks e = absurd (drop-some n k ks e)
-behind-weight ω L (async-at o b r) n k ks e = refl
-behind-weight ω L (finish-at o b r) n k ks e = refl
-behind-weight ω L (fork-at o b c r) n k ks e = refl
-behind-weight ω L (future-at o b r) n k ks e = refl
-behind-weight ω L (force-at o m b r) n k ks e = refl
+    (Γ : Setting) (ω : Event → ℕ) (v σ f : ℕ) (all : List ℕ) (c : Code) (n : ℕ) (k : Kid) (ks : List Kid) → drop n (kids Γ c) ≡ k ∷ ks
+    → behindWeight Γ ω c ≡ tasksWeight ω (todo (Γ .edition) v σ f all c) + bodyWeight (Γ .edition) ω (goes Γ c)
+unfolding kids goes kindOf commandsOf todo behindWeight bodyWeight
+behind-weight Γ ω v σ f all (end-at o) n k ks e = absurd (drop-some n k ks e)
+behind-weight Γ ω v σ f all (job-at o m r) n k ks e = absurd (drop-some n k ks e)
+behind-weight Γ ω v σ f all (async-at o b r) n k ks e = omega (arith, kind-weight (Γ .edition) ω v σ f all asyncs)
+behind-weight Γ ω v σ f all (finish-at o b r) n k ks e = omega (arith, kind-weight (Γ .edition) ω v σ f all finishes)
+behind-weight Γ ω v σ f all (fork-at o b c r) n k ks e = omega (arith, kind-weight (Γ .edition) ω v σ f all forks)
+behind-weight Γ ω v σ f all (future-at o b r) n k ks e = omega (arith, kind-weight (Γ .edition) ω v σ f all futures)
+behind-weight Γ ω v σ f all (force-at o m b r) n k ks e = omega (arith, kind-weight (Γ .edition) ω v σ f all forces)
 
 -- What each move takes off the vertex that moves.
 
-begins-weight : (ω : Event → ℕ) (c : Code) → left ω (ready c) ≡ ω a-start + left ω (busy c [])
+begins-weight : (Γ : Setting) (ω : Event → ℕ) (c : Code) → left Γ ω (ready c) ≡ ω a-start + left Γ ω (busy c [])
 unfolding left
-begins-weight ω c = omega (arith, busy-none ω c)
+begins-weight Γ ω c = omega (arith, busy-none Γ ω c)
 
-performs-weight : (ω : Event → ℕ) (o n : ℕ) (r : Code) → left ω (busy (job-at o n r) []) ≡ ω (a-job o) + left ω (busy r [])
+performs-weight :
+    (Γ : Setting) (ω : Event → ℕ) (o n : ℕ) (r : Code) → left Γ ω (busy (job-at o n r) []) ≡ ω (a-job o) + left Γ ω (busy r [])
 unfolding bodyWeight
-performs-weight ω o n r = omega (arith, busy-none ω (job-at o n r), busy-none ω r)
+performs-weight Γ ω o n r = omega (arith, busy-none Γ ω (job-at o n r), busy-none Γ ω r)
 
-stops-weight : (ω : Event → ℕ) (o : ℕ) → left ω (busy (end-at o) []) ≡ ω a-stop + left ω over
+stops-weight : (Γ : Setting) (ω : Event → ℕ) (o : ℕ) → left Γ ω (busy (end-at o) []) ≡ ω a-stop + left Γ ω over
 unfolding bodyWeight left
-stops-weight ω o = omega (arith, busy-none ω (end-at o))
+stops-weight Γ ω o = omega (arith, busy-none Γ ω (end-at o))
 
 makes-weight :
-    (ω : Event → ℕ) (L : ℕ) (c : Code) (ms : List ℕ) (m : ℕ) (k : Kid) (ks : List Kid) → drop (length ms) (kids L c) ≡ k ∷ ks
-    → left ω (busy c ms) ≡ ω a-new + left ω (draft (k .code)) + left ω (busy c (ms ++ (m ∷ [])))
+    (Γ : Setting) (ω : Event → ℕ) (c : Code) (ms : List ℕ) (m : ℕ) (k : Kid) (ks : List Kid) → drop (length ms) (kids Γ c) ≡ k ∷ ks
+    → left Γ ω (busy c ms) ≡ ω a-new + left Γ ω (draft (k .code)) + left Γ ω (busy c (ms ++ (m ∷ [])))
 unfolding left kidsWeight
-makes-weight ω L c ms m k ks e =
+makes-weight Γ ω c ms m k ks e =
     let one : length (ms ++ (m ∷ [])) ≡ suc (length ms) = omega (arith, length-append ms (m ∷ [])) in
-    let now = kids-anywhere ω L c (length ms) ∙ ap (kidsWeight ω) e in
-    let more = kids-anywhere ω L c (suc (length ms)) ∙ ap (kidsWeight ω) (drop-more (length ms) (kids L c) k ks e) in
-    rw (one, now, more) (omega arith)
+    rw (one, e, drop-more (length ms) (kids Γ c) k ks e) (omega arith)
 
 splits-weight :
-    (ω : Event → ℕ) (L σ f : ℕ) (c : Code) (ms all : List ℕ) (k : Kid) → drop (length ms) (kids L c) ≡ k ∷ []
-    → left ω (busy c ms) ≡ ω a-new + left ω (fresh (k .code)) + left ω (onward (goes L c) (todo σ f all c))
-unfolding left kidsWeight todo
-splits-weight ω L σ f c ms all k e =
-    let cs : List Command = commandsOf (kindOf c) in
-    let behind = behind-weight ω L c (length ms) k [] e in
-    let now = kids-anywhere ω L c (length ms) ∙ ap (kidsWeight ω) e in
-    rw now (omega (arith, onward-weight ω (goes L c) (joins σ f all cs), joins-weight ω σ f all cs, behind))
+    (Γ : Setting) (ω : Event → ℕ) (v σ f : ℕ) (c : Code) (ms all : List ℕ) (k : Kid) → drop (length ms) (kids Γ c) ≡ k ∷ []
+    → left Γ ω (busy c ms) ≡ ω a-new + left Γ ω (fresh (k .code)) + left Γ ω (onward (goes Γ c) (todo (Γ .edition) v σ f all c))
+unfolding left kidsWeight
+splits-weight Γ ω v σ f c ms all k e =
+    rw e
+    (omega
+    (arith, onward-weight Γ ω (goes Γ c) (todo (Γ .edition) v σ f all c), behind-weight Γ ω v σ f all c (length ms) k [] e))
 
-acts-weight : (ω : Event → ℕ) (c : Code) (d : Do) (ds : List Do) → left ω (joining c d ds) ≡ ω (eventOf d) + left ω (onward c ds)
-unfolding left tasksWeight
-acts-weight ω c d ds = omega (arith, onward-weight ω c ds)
+acts-weight :
+    (Γ : Setting) (ω : Event → ℕ) (c : Code) (d : Do) (ds : List Do)
+    → left Γ ω (joining c d ds) ≡ ω (eventOf d) + left Γ ω (resumed c d ds)
+unfolding left tasksWeight eventOf resumed
+acts-weight Γ ω c (link a b) ds = omega (arith, onward-weight Γ ω c ds)
+acts-weight Γ ω c (hand h) ds = omega (arith, onward-weight Γ ω c ds)
+acts-weight Γ ω c (free m) ds = omega (arith, onward-weight Γ ω c ds)
+acts-weight Γ ω c yield ds = omega arith
 
 -- in every code there is something to do: it has an end byte
-body-some : (c : Code) → 0 < bodyWeight each c
+body-some : (ed : Edition) (c : Code) → 0 < bodyWeight ed each c
 unfolding bodyWeight
-body-some (end-at o) = omega arith
-body-some (job-at o n r) = omega arith
-body-some (async-at o b r) = omega arith
-body-some (finish-at o b r) = omega arith
-body-some (fork-at o b c r) = omega arith
-body-some (future-at o b r) = omega arith
-body-some (force-at o n b r) = omega arith
+body-some ed (end-at o) = omega arith
+body-some ed (job-at o n r) = omega arith
+body-some ed (async-at o b r) = omega arith
+body-some ed (finish-at o b r) = omega arith
+body-some ed (fork-at o b c r) = omega arith
+body-some ed (future-at o b r) = omega arith
+body-some ed (force-at o n b r) = omega arith
 
 -- so behind the vertices of its first item
-behind-some : (c : Code) → 0 < behindWeight each c
+behind-some : (Γ : Setting) (c : Code) → 0 < behindWeight Γ each c
 unfolding behindWeight
-behind-some (end-at o) = omega arith
-behind-some (job-at o n r) = omega arith
-behind-some (async-at o b r) = omega (arith, body-some r)
-behind-some (finish-at o b r) = omega arith
-behind-some (fork-at o b c r) = omega arith
-behind-some (future-at o b r) = omega (arith, body-some r)
-behind-some (force-at o n b r) = omega arith
+behind-some Γ (end-at o) = omega arith
+behind-some Γ (job-at o n r) = omega arith
+behind-some Γ (async-at o b r) = omega (arith, body-some (Γ .edition) r)
+behind-some Γ (finish-at o b r) = omega arith
+behind-some Γ (fork-at o b c r) = omega (arith, body-some (Γ .edition) (forkGoes (Γ .edition) (Γ .lastByte) r))
+behind-some Γ (future-at o b r) = omega (arith, body-some (Γ .edition) r)
+behind-some Γ (force-at o n b r) = omega arith
 
 -- so only a vertex that is over has nothing to do
-pub nothing-left : (x : Control) → left each x ≡ 0 → x ≡ over
+pub nothing-left : (Γ : Setting) (x : Control) → left Γ each x ≡ 0 → x ≡ over
 unfolding left
-nothing-left (draft c) h = absurd (omega arith)
-nothing-left (fresh c) h = absurd (omega arith)
-nothing-left (ready c) h = absurd (omega arith)
-nothing-left (busy c ms) h = absurd (omega (arith, behind-some c))
-nothing-left (joining c d ds) h = absurd (omega (arith, body-some c))
-nothing-left over h = refl
+nothing-left Γ (draft c) h = absurd (omega arith)
+nothing-left Γ (fresh c) h = absurd (omega arith)
+nothing-left Γ (ready c) h = absurd (omega arith)
+nothing-left Γ (busy c ms) h = absurd (omega (arith, behind-some Γ c))
+nothing-left Γ (joining c d ds) h = absurd (omega (arith, body-some (Γ .edition) c))
+nothing-left Γ over h = refl
 
 -- What is left in all.
 
 -- a vertex v below n comes to have w less to do, and the others have the same as before
 moved :
-    (ω : Event → ℕ) (f g : ℕ → Control) (n v w : ℕ) → v < n → ((u : ℕ) → u < n → (u ≡ v → ⊥) → left ω (f u) ≡ left ω (g u))
-    → left ω (f v) ≡ w + left ω (g v) → sumBelow (λ u. left ω (f u)) n ≡ w + sumBelow (λ u. left ω (g u)) n
-moved ω f g n v w h same e = omega (arith, sum-but (λ u. left ω (f u)) (λ u. left ω (g u)) n v h same)
+    (Γ : Setting) (ω : Event → ℕ) (f g : ℕ → Control) (n v w : ℕ) → v < n → ((u : ℕ) → u < n → (u ≡ v → ⊥) → left Γ ω (f u) ≡ left Γ ω (g u))
+    → left Γ ω (f v) ≡ w + left Γ ω (g v) → sumBelow (λ u. left Γ ω (f u)) n ≡ w + sumBelow (λ u. left Γ ω (g u)) n
+moved Γ ω f g n v w h same e = omega (arith, sum-but (λ u. left Γ ω (f u)) (λ u. left Γ ω (g u)) n v h same)
 
 -- v comes to x
 changed :
-    (ω : Event → ℕ) (f g : ℕ → Control) (n v w : ℕ) (x : Control) → v < n → ((u : ℕ) → left ω (f u) ≡ left ω (g u))
-    → left ω (f v) ≡ w + left ω x → sumBelow (λ u. left ω (f u)) n ≡ w + sumBelow (λ u. left ω (put g v x u)) n
-changed ω f g n v w x h same e =
-    moved ω f (put g v x) n v w h (λ u l ne. same u ∙ ap (left ω) (sym (put-other g v x u ne)))
-    (e ∙ ap (λ y. w + left ω y) (sym (put-same g v x)))
+    (Γ : Setting) (ω : Event → ℕ) (f g : ℕ → Control) (n v w : ℕ) (x : Control) → v < n → ((u : ℕ) → left Γ ω (f u) ≡ left Γ ω (g u))
+    → left Γ ω (f v) ≡ w + left Γ ω x → sumBelow (λ u. left Γ ω (f u)) n ≡ w + sumBelow (λ u. left Γ ω (put g v x u)) n
+changed Γ ω f g n v w x h same e =
+    moved Γ ω f (put g v x) n v w h (λ u l ne. same u ∙ ap (left Γ ω) (sym (put-other g v x u ne)))
+    (e ∙ ap (λ y. w + left Γ ω y) (sym (put-same g v x)))
 
 -- v comes to x, and one more vertex is at y
 increased :
-    (ω : Event → ℕ) (f g : ℕ → Control) (n v w : ℕ) (x y : Control) → v < n → ((u : ℕ) → left ω (f u) ≡ left ω (g u))
-    → left ω (f v) ≡ w + left ω y + left ω x
-    → sumBelow (λ u. left ω (f u)) n ≡ w + sumBelow (λ u. left ω (put (put g n y) v x u)) (suc n)
+    (Γ : Setting) (ω : Event → ℕ) (f g : ℕ → Control) (n v w : ℕ) (x y : Control) → v < n → ((u : ℕ) → left Γ ω (f u) ≡ left Γ ω (g u))
+    → left Γ ω (f v) ≡ w + left Γ ω y + left Γ ω x
+    → sumBelow (λ u. left Γ ω (f u)) n ≡ w + sumBelow (λ u. left Γ ω (put (put g n y) v x u)) (suc n)
 unfolding sumBelow
-increased ω f g n v w x y h same e =
+increased Γ ω f g n v w x y h same e =
     let past : (u : ℕ) → (u ≡ v → ⊥) → put (put g n y) v x u ≡ put g n y u = put-other (put g n y) v x in
-    let old : (u : ℕ) → u < n → (u ≡ v → ⊥) → left ω (f u) ≡ left ω (put (put g n y) v x u)
-    = λ u l ne. same u ∙ ap (left ω) (sym (past u ne ∙ put-other g n y u (λ q. absurd (omega arith)))) in
-    let new : left ω (put (put g n y) v x n) ≡ left ω y = ap (left ω) (past n (λ q. absurd (omega arith)) ∙ put-same g n y) in
-    let here : left ω (put (put g n y) v x v) ≡ left ω x = ap (left ω) (put-same (put g n y) v x) in
-    omega (arith, new, moved ω f (put (put g n y) v x) n v (w + left ω y) h old (omega arith))
+    let old : (u : ℕ) → u < n → (u ≡ v → ⊥) → left Γ ω (f u) ≡ left Γ ω (put (put g n y) v x u)
+    = λ u l ne. same u ∙ ap (left Γ ω) (sym (past u ne ∙ put-other g n y u (λ q. absurd (omega arith)))) in
+    let new : left Γ ω (put (put g n y) v x n) ≡ left Γ ω y = ap (left Γ ω) (past n (λ q. absurd (omega arith)) ∙ put-same g n y) in
+    let here : left Γ ω (put (put g n y) v x v) ≡ left Γ ω x = ap (left Γ ω) (put-same (put g n y) v x) in
+    omega (arith, new, moved Γ ω f (put (put g n y) v x) n v (w + left Γ ω y) h old (omega arith))
 
 -- where drafts become fresh, each vertex has the same to do
-stirred-weight : (ω : Event → ℕ) (f : ℕ → Control) (ms : List ℕ) (u : ℕ) → left ω (f u) ≡ left ω (stirred f ms u)
+stirred-weight : (Γ : Setting) (ω : Event → ℕ) (f : ℕ → Control) (ms : List ℕ) (u : ℕ) → left Γ ω (f u) ≡ left Γ ω (stirred f ms u)
 unfolding left
-stirred-weight ω f ms u = sym (stirred-keeps (left ω) (λ c. refl) f ms u)
+stirred-weight Γ ω f ms u = sym (stirred-keeps (left Γ ω) (λ c. refl) f ms u)
 
 -- and so it has after a joining command
-done-weight : (ω : Event → ℕ) (S : State) (v : ℕ) (d : Do) (u : ℕ) → left ω (S .control u) ≡ left ω (done S v d .control u)
+done-weight : (Γ : Setting) (ω : Event → ℕ) (S : State) (v : ℕ) (d : Do) (u : ℕ) → left Γ ω (S .control u) ≡ left Γ ω (done S v d .control u)
 unfolding left
-done-weight ω S v d u = sym (done-keeps (left ω) (λ c. refl) S v d u)
+done-weight Γ ω S v d u = sym (done-keeps (left Γ ω) (λ c. refl) S v d u)
 
 -- and makes none
 pub done-count : (S : State) (v : ℕ) (d : Do) → done S v d .count ≡ S .count
@@ -242,6 +247,17 @@ unfolding done
 done-count S v (link a b) = refl
 done-count S v (hand h) = refl
 done-count S v (free m) = refl
+done-count S v yield = refl
+
+-- so what is left in all is told by the controls as before
+done-total :
+    (ω : Event → ℕ) (S : State) (v : ℕ) (d : Do) (f : ℕ → Control)
+    → total ω (withControl (done S v d) f) ≡ sumBelow (λ u. left (S .setting) ω (f u)) (S .count)
+unfolding total done
+done-total ω S v (link a b) f = refl
+done-total ω S v (hand h) f = refl
+done-total ω S v (free m) f = refl
+done-total ω S v yield f = refl
 
 -- Vertices beyond those made.
 
@@ -271,6 +287,7 @@ done-over S v (link a b) u o = o
 done-over S v (hand h) u o = o
 done-over S v (free m) u o =
     put-cases (λ x. x ≡ over) (S .control) m (freed (S .control m)) u (λ q. ap (λ w. freed (S .control w)) (sym q) ∙ ap freed o) (λ n. o)
+done-over S v yield u o = o
 
 -- with one vertex more
 new-over :
@@ -294,22 +311,26 @@ beyond-kept {S} {v = v} h (acts {d = d} q) u le =
 pub conserved : (ω : Event → ℕ) {v : ℕ} {S S' : State} {e : Event} → Beyond S → Move S v e S' → total ω S ≡ ω e + total ω S'
 unfolding total
 conserved ω {v} {S} h (begins {c} q bare) =
-    changed ω (S .control) (S .control) (S .count) v _ _ (below S h v (λ o. clash cc)) (λ u. refl) (ap (left ω) q ∙ begins-weight ω c)
+    changed (S .setting) ω (S .control) (S .control) (S .count) v _ _ (below S h v (λ o. clash cc)) (λ u. refl)
+    (ap (left (S .setting) ω) q ∙ begins-weight (S .setting) ω c)
 conserved ω {v} {S} h (performs {o} {n} {r} q) =
-    changed ω (S .control) (S .control) (S .count) v _ _ (below S h v (λ o. clash cc)) (λ u. refl) (ap (left ω) q ∙ performs-weight ω o n r)
+    changed (S .setting) ω (S .control) (S .control) (S .count) v _ _ (below S h v (λ o. clash cc)) (λ u. refl)
+    (ap (left (S .setting) ω) q ∙ performs-weight (S .setting) ω o n r)
 conserved ω {v} {S} h (stops {o} q) =
-    changed ω (S .control) (S .control) (S .count) v _ _ (below S h v (λ o. clash cc)) (λ u. refl) (ap (left ω) q ∙ stops-weight ω o)
+    changed (S .setting) ω (S .control) (S .control) (S .count) v _ _ (below S h v (λ o. clash cc)) (λ u. refl)
+    (ap (left (S .setting) ω) q ∙ stops-weight (S .setting) ω o)
 conserved ω {v} {S} h (makes {c} {ms} {k} q e) =
-    increased ω (S .control) (S .control) (S .count) v _ _ _ (below S h v (λ o. clash cc)) (λ u. refl)
-    (ap (left ω) q ∙ makes-weight ω (S .lastByte) c ms (S .count) k _ e)
+    increased (S .setting) ω (S .control) (S .control) (S .count) v _ _ _ (below S h v (λ o. clash cc)) (λ u. refl)
+    (ap (left (S .setting) ω) q ∙ makes-weight (S .setting) ω c ms (S .count) k _ e)
 conserved ω {v} {S} h (splits {c} {ms} {k} q e) =
-    increased ω (S .control) (stirred (S .control) ms) (S .count) v _ _ _ (below S h v (λ o. clash cc))
-    (stirred-weight ω (S .control) ms)
-    (ap (left ω) q ∙ splits-weight ω (S .lastByte) (S .scope v) (forcedBy (S .opens v) c) c ms (ms ++ (S .count ∷ [])) k e)
+    increased (S .setting) ω (S .control) (stirred (S .control) ms) (S .count) v _ _ _ (below S h v (λ o. clash cc))
+    (stirred-weight (S .setting) ω (S .control) ms)
+    (ap (left (S .setting) ω) q
+    ∙ splits-weight (S .setting) ω v (S .scope v) (forcedBy (S .opens v) c) c ms (ms ++ (S .count ∷ [])) k e)
 conserved ω {v} {S} h (acts {c} {d} {ds} q) =
-    changed ω (S .control) (done S v d .control) (S .count) v _ _ (below S h v (λ o. clash cc)) (done-weight ω S v d)
-    (ap (left ω) q ∙ acts-weight ω c d ds)
-    ∙ ap (λ n. ω (eventOf d) + sumBelow (λ u. left ω (put (done S v d .control) v (onward c ds) u)) n) (sym (done-count S v d))
+    changed (S .setting) ω (S .control) (done S v d .control) (S .count) v _ _ (below S h v (λ o. clash cc)) (done-weight (S .setting) ω S v d)
+    (ap (left (S .setting) ω) q ∙ acts-weight (S .setting) ω c d ds)
+    ∙ ap (λ n. ω (eventOf d) + n) (sym (done-total ω S v d (put (done S v d .control) v (resumed c d ds))))
 
 -- Moves one after the other, with their events, the latest first.
 pub data Runs (S : State) : List Event → State → Type 0 where

@@ -3,15 +3,15 @@
 -- At the beginning a program's state weighs what the table of commands says of its items; so what has been done in a run never weighs more,
 -- and weighs as much once every vertex is over. A job is weighed by its offset, which no other job of laid code has.
 --
--- Of beginning (located t) L:
---     steps-total       total each ≡ steps firstEdition t
---     vertices-total    2 + total news ≡ vertices firstEdition t
---     edges-total       1 + total links ≡ edgeRows firstEdition t
+-- Of beginning (located t) Γ:
+--     steps-total       total each ≡ stepsTaken (Γ .edition) t
+--     vertices-total    2 + total news ≡ verticesMade (Γ .edition) t
+--     edges-total       1 + total links ≡ edgeRowsNeeded (Γ .edition) t
 -- Of what Runs from there to S with the events es:
---     steps-run         length es + total each S ≡ steps firstEdition t
---     steps-bound       length es ≤ steps firstEdition t
---     vertices-bound    S .count ≤ vertices firstEdition t
---     edges-bound       1 + spent links es ≤ edgeRows firstEdition t
+--     steps-run         length es + total each S ≡ stepsTaken (Γ .edition) t
+--     steps-bound       length es ≤ stepsTaken (Γ .edition) t
+--     vertices-bound    S .count ≤ verticesMade (Γ .edition) t
+--     edges-bound       1 + spent links es ≤ edgeRowsNeeded (Γ .edition) t
 -- and for any laid p, where spent (jobAt q) es is how often the job at q was done:
 --     job-once          it is at most 1
 --     job-past          it is 1, if a job is written at q and total (jobAt q) S ≡ 0
@@ -30,17 +30,20 @@ use borrow.Author.Tests.{eq-eqb, ne-eqb}
 use Rattle.graph.proofs.TestLaws.{equal?}
 use Rattle.program.specs.Trees.{Kind, jobs, asyncs, finishes, forks, futures, forces, Body, end, job, async, finish, fork, future, force}
 use Rattle.program.specs.Trees as trees
+use Rattle.program.specs.declared.Edition.{Edition}
+use Rattle.program.specs.declared.Edition.the-variants.{First, Second}
 use Rattle.program.specs.Encodings as table
-use Rattle.program.specs.Encodings.{Command, perform, newTd, newEdge, transfer, release, firstEdition, weight, itemsWeight, verticesMade}
+use Rattle.program.specs.Encodings.{Command, perform, newTd, newEdge, transfer, release, forkRow, rowOf, weight, itemsWeight, verticesMade}
 use Rattle.program.specs.Encodings.{edgeRowsNeeded, stepsTaken}
 use Rattle.program.specs.Bytes.{numberSize, size}
 use Rattle.program.specs.Located.{Code, end-at, job-at, async-at, finish-at, fork-at, future-at, force-at, locate, located, startOf, last}
 use Rattle.program.proofs.LocatedLaws.{Laid}
-use Rattle.machine.proofs.GhostMachine.Ghost.{Event, a-start, a-new, an-edge, a-release, a-transfer, a-job, a-stop, eventOf, Do, link, hand}
-use Rattle.machine.proofs.GhostMachine.Ghost.{free, over, State, Move, begins, performs, stops, makes, splits, acts}
+use Rattle.machine.proofs.GhostMachine.Ghost.{Event, a-start, a-new, an-edge, a-release, a-transfer, a-job, a-stop, a-yield, eventOf, Do, link}
+use Rattle.machine.proofs.GhostMachine.Ghost.{hand, free, yield, over, Setting, State, Move, begins, performs, stops, makes, splits, acts}
 use Rattle.machine.proofs.GhostMachine.Beginning.{beginning}
 use Rattle.machine.proofs.GhostMachine.BeginningShape.{shape-beginning}
-use Rattle.machine.proofs.Counting.Weights.{joinWeight, joinsWeight, bodyWeight, left, sumBelow, total, spent, each, news, links, jobAt}
+use Rattle.machine.proofs.Counting.Weights.{kidWeight, joinWeight, joinsWeight, forkRest, bodyWeight, left, sumBelow, total, spent, each, news}
+use Rattle.machine.proofs.Counting.Weights.{links, jobAt}
 use Rattle.machine.proofs.Counting.Conservation.{nothing-left, done-count, Runs, no-move, and-then, runs-pay}
 use Rattle.machine.proofs.JobOrder.Order.{Job}
 
@@ -53,29 +56,41 @@ commandWeight ω j (newTd p a) = ω a-new
 commandWeight ω j (newEdge a b) = ω an-edge
 commandWeight ω j (transfer a) = ω a-transfer
 commandWeight ω j (release a) = ω a-release
+commandWeight ω j table.yield = ω a-yield + ω a-start
 
 -- an item's commands, and a start and a stop for each vertex that it makes
-unfoldable kindWeight : (Event → ℕ) → ℕ → Kind → ℕ
-kindWeight ω j k =
-    weight (commandWeight ω j) (firstEdition k .commands) + weight table.makes (firstEdition k .commands) * (ω a-start + ω a-stop)
+unfoldable kindWeight : Edition → (Event → ℕ) → ℕ → Kind → ℕ
+kindWeight ed ω j k =
+    weight (commandWeight ω j) (rowOf ed k .commands) + weight table.makes (rowOf ed k .commands) * (ω a-start + ω a-stop)
+
+-- a fork whose branches and rest have so much to do besides one stop each
+fork-weight :
+    (ed : Edition) (ω : Event → ℕ) (j b c r : ℕ)
+    → kidWeight ω (ω a-stop + b) + (kidWeight ω (ω a-stop + c) + (joinsWeight ed ω forks + forkRest ed ω (ω a-stop + r)))
+    ≡ ω a-stop + (kindWeight ed ω j forks + (b + (c + r)))
+unfolding joinsWeight joinWeight forkRest kindWeight commandWeight weight table.makes rowOf forkRow
+fork-weight First ω j b c r = omega arith
+fork-weight Second ω j b c r = omega arith
 
 -- where all jobs weigh the same, code weighs what its items do, and one stop
 items-weight :
-    (ω : Event → ℕ) (j : ℕ) → ((o : ℕ) → ω (a-job o) ≡ j) → (opened : List Code) (o : ℕ) (b : Body)
-    → bodyWeight ω (locate opened o b) ≡ ω a-stop + trees.total (kindWeight ω j) b
-unfolding locate bodyWeight joinsWeight joinWeight trees.total kindWeight commandWeight weight table.makes firstEdition
-items-weight ω j same fs o end = omega arith
-items-weight ω j same fs o (job n r) = omega (arith, same o, items-weight ω j same fs (suc (o + numberSize n)) r)
-items-weight ω j same fs o (async b r) =
-    omega (arith, items-weight ω j same fs (suc o) b, items-weight ω j same fs (suc (o + size b)) r)
-items-weight ω j same fs o (finish b r) =
-    omega (arith, items-weight ω j same fs (suc o) b, items-weight ω j same fs (suc (o + size b)) r)
-items-weight ω j same fs o (fork b c r) =
-    let past = items-weight ω j same fs (suc (o + size b + size c)) r in
-    omega (arith, items-weight ω j same fs (suc o) b, items-weight ω j same fs (suc (o + size b)) c, past)
-items-weight ω j same fs o (future b r) =
-    omega (arith, items-weight ω j same fs (suc o) b, items-weight ω j same (locate fs (suc o) b ∷ fs) (suc (o + size b)) r)
-items-weight ω j same fs o (force n r) = omega (arith, items-weight ω j same fs (suc (o + numberSize n)) r)
+    (ed : Edition) (ω : Event → ℕ) (j : ℕ) → ((o : ℕ) → ω (a-job o) ≡ j) → (opened : List Code) (o : ℕ) (b : Body)
+    → bodyWeight ed ω (locate opened o b) ≡ ω a-stop + trees.total (kindWeight ed ω j) b
+unfolding locate bodyWeight joinsWeight joinWeight trees.total kindWeight commandWeight weight table.makes rowOf
+items-weight ed ω j same fs o end = omega arith
+items-weight ed ω j same fs o (job n r) = omega (arith, same o, items-weight ed ω j same fs (suc (o + numberSize n)) r)
+items-weight ed ω j same fs o (async b r) =
+    omega (arith, items-weight ed ω j same fs (suc o) b, items-weight ed ω j same fs (suc (o + size b)) r)
+items-weight ed ω j same fs o (finish b r) =
+    omega (arith, items-weight ed ω j same fs (suc o) b, items-weight ed ω j same fs (suc (o + size b)) r)
+items-weight ed ω j same fs o (fork b c r) =
+    let left = items-weight ed ω j same fs (suc o) b in
+    let right = items-weight ed ω j same fs (suc (o + size b)) c in
+    let past = items-weight ed ω j same fs (suc (o + size b + size c)) r in
+    rw (left, right, past) (fork-weight ed ω j _ _ _)
+items-weight ed ω j same fs o (future b r) =
+    omega (arith, items-weight ed ω j same fs (suc o) b, items-weight ed ω j same (locate fs (suc o) b ∷ fs) (suc (o + size b)) r)
+items-weight ed ω j same fs o (force n r) = omega (arith, items-weight ed ω j same fs (suc (o + numberSize n)) r)
 
 -- sums over the items of the same weights
 total-same : (f g : Kind → ℕ) → ((k : Kind) → f k ≡ g k) → (b : Body) → trees.total f b ≡ trees.total g b
@@ -102,64 +117,75 @@ total-plus f g (force n r) = omega (arith, total-plus f g r)
 
 -- each kind, by the weights of the table
 each-kind :
-    (k : Kind) → kindWeight each 1 k ≡ weight table.does (firstEdition k .commands) + 2 * weight table.makes (firstEdition k .commands)
-unfolding kindWeight commandWeight weight table.makes table.does firstEdition
-each-kind jobs = omega arith
-each-kind asyncs = omega arith
-each-kind finishes = omega arith
-each-kind forks = omega arith
-each-kind futures = omega arith
-each-kind forces = omega arith
+    (ed : Edition) (k : Kind)
+    → kindWeight ed each 1 k ≡ weight table.does (rowOf ed k .commands) + 2 * weight table.makes (rowOf ed k .commands)
+unfolding kindWeight commandWeight weight table.makes table.does rowOf forkRow
+each-kind ed jobs = omega arith
+each-kind ed asyncs = omega arith
+each-kind ed finishes = omega arith
+each-kind First forks = omega arith
+each-kind Second forks = omega arith
+each-kind ed futures = omega arith
+each-kind ed forces = omega arith
 
 -- and so all items
 each-items :
-    (b : Body) → trees.total (kindWeight each 1) b ≡ itemsWeight firstEdition table.does b + 2 * itemsWeight firstEdition table.makes b
+    (ed : Edition) (b : Body)
+    → trees.total (kindWeight ed each 1) b ≡ itemsWeight ed table.does b + 2 * itemsWeight ed table.makes b
 unfolding itemsWeight
-each-items b = total-same _ _ each-kind b ∙ total-plus _ _ b
+each-items ed b = total-same _ _ (each-kind ed) b ∙ total-plus _ _ b
 
-news-kind : (k : Kind) → kindWeight news 0 k ≡ weight table.makes (firstEdition k .commands)
-unfolding kindWeight commandWeight weight news table.makes firstEdition
-news-kind jobs = omega arith
-news-kind asyncs = omega arith
-news-kind finishes = omega arith
-news-kind forks = omega arith
-news-kind futures = omega arith
-news-kind forces = omega arith
+news-kind : (ed : Edition) (k : Kind) → kindWeight ed news 0 k ≡ weight table.makes (rowOf ed k .commands)
+unfolding kindWeight commandWeight weight news table.makes rowOf forkRow
+news-kind ed jobs = omega arith
+news-kind ed asyncs = omega arith
+news-kind ed finishes = omega arith
+news-kind First forks = omega arith
+news-kind Second forks = omega arith
+news-kind ed futures = omega arith
+news-kind ed forces = omega arith
 
-links-kind : (k : Kind) → kindWeight links 0 k ≡ weight table.links (firstEdition k .commands)
-unfolding kindWeight commandWeight weight links table.makes table.links firstEdition
-links-kind jobs = omega arith
-links-kind asyncs = omega arith
-links-kind finishes = omega arith
-links-kind forks = omega arith
-links-kind futures = omega arith
-links-kind forces = omega arith
+links-kind : (ed : Edition) (k : Kind) → kindWeight ed links 0 k ≡ weight table.links (rowOf ed k .commands)
+unfolding kindWeight commandWeight weight links table.makes table.links rowOf forkRow
+links-kind ed jobs = omega arith
+links-kind ed asyncs = omega arith
+links-kind ed finishes = omega arith
+links-kind First forks = omega arith
+links-kind Second forks = omega arith
+links-kind ed futures = omega arith
+links-kind ed forces = omega arith
 
 -- The beginning: two vertices are ready, one at the program's start and one at its last byte.
 
 -- both start, and the second only stops
-opening : (ω : Event → ℕ) (p : Code) (L : ℕ) → total ω (beginning p L) ≡ 2 * ω a-start + ω a-stop + bodyWeight ω p
+opening :
+    (ω : Event → ℕ) (p : Code) (Γ : Setting) → total ω (beginning p Γ) ≡ 2 * ω a-start + ω a-stop + bodyWeight (Γ .edition) ω p
 unfolding beginning total sumBelow left bodyWeight
-opening ω p L = omega arith
+opening ω p Γ = omega arith
 
 -- what is counted at the beginning is what the program needs
-pub steps-total : (L : ℕ) (t : Body) → total each (beginning (located t) L) ≡ stepsTaken firstEdition t
+pub steps-total : (Γ : Setting) (t : Body) → total each (beginning (located t) Γ) ≡ stepsTaken (Γ .edition) t
 unfolding located stepsTaken verticesMade
-steps-total L t = omega (arith, opening each (located t) L, items-weight each 1 (λ o. refl) [] 0 t, each-items t)
+steps-total Γ t =
+    omega (arith, opening each (located t) Γ, items-weight (Γ .edition) each 1 (λ o. refl) [] 0 t, each-items (Γ .edition) t)
 
-pub vertices-total : (L : ℕ) (t : Body) → 2 + total news (beginning (located t) L) ≡ verticesMade firstEdition t
+pub vertices-total : (Γ : Setting) (t : Body) → 2 + total news (beginning (located t) Γ) ≡ verticesMade (Γ .edition) t
 unfolding located verticesMade itemsWeight news
-vertices-total L t = omega (arith, opening news (located t) L, items-weight news 0 (λ o. refl) [] 0 t, total-same _ _ news-kind t)
+vertices-total Γ t =
+    let items = items-weight (Γ .edition) news 0 (λ o. refl) [] 0 t in
+    omega (arith, opening news (located t) Γ, items, total-same _ _ (news-kind (Γ .edition)) t)
 
-pub edges-total : (L : ℕ) (t : Body) → 1 + total links (beginning (located t) L) ≡ edgeRowsNeeded firstEdition t
+pub edges-total : (Γ : Setting) (t : Body) → 1 + total links (beginning (located t) Γ) ≡ edgeRowsNeeded (Γ .edition) t
 unfolding located edgeRowsNeeded itemsWeight links
-edges-total L t = omega (arith, opening links (located t) L, items-weight links 0 (λ o. refl) [] 0 t, total-same _ _ links-kind t)
+edges-total Γ t =
+    let items = items-weight (Γ .edition) links 0 (λ o. refl) [] 0 t in
+    omega (arith, opening links (located t) Γ, items, total-same _ _ (links-kind (Γ .edition)) t)
 
 -- Jobs.
 
 -- the jobs at q, counted
-abbrev pub jobsAt : ℕ → Code → ℕ
-jobsAt q c = bodyWeight (jobAt q) c
+abbrev pub jobsAt : Edition → ℕ → Code → ℕ
+jobsAt ed q c = bodyWeight ed (jobAt q) c
 
 -- a job is counted at its own offset only
 this-job : (o q : ℕ) → o ≡ q → jobAt q (a-job o) ≡ 1
@@ -171,34 +197,36 @@ unfolding jobAt
 other-job o q ne = rw (ne-eqb o q ne) refl
 
 -- and nothing else is counted: code has the jobs of its parts
-pub jobs-end : (q o : ℕ) → jobsAt q (end-at o) ≡ 0
+pub jobs-end : (ed : Edition) (q o : ℕ) → jobsAt ed q (end-at o) ≡ 0
 unfolding bodyWeight jobAt
-jobs-end q o = refl
+jobs-end ed q o = refl
 
-pub jobs-job : (q o n : ℕ) (r : Code) → jobsAt q (job-at o n r) ≡ jobAt q (a-job o) + jobsAt q r
+pub jobs-job : (ed : Edition) (q o n : ℕ) (r : Code) → jobsAt ed q (job-at o n r) ≡ jobAt q (a-job o) + jobsAt ed q r
 unfolding bodyWeight
-jobs-job q o n r = refl
+jobs-job ed q o n r = refl
 
-pub jobs-async : (q o : ℕ) (b r : Code) → jobsAt q (async-at o b r) ≡ jobsAt q b + jobsAt q r
-unfolding bodyWeight joinsWeight joinWeight weight firstEdition jobAt
-jobs-async q o b r = omega arith
+pub jobs-async : (ed : Edition) (q o : ℕ) (b r : Code) → jobsAt ed q (async-at o b r) ≡ jobsAt ed q b + jobsAt ed q r
+unfolding bodyWeight joinsWeight joinWeight weight rowOf jobAt
+jobs-async ed q o b r = omega arith
 
-pub jobs-finish : (q o : ℕ) (b r : Code) → jobsAt q (finish-at o b r) ≡ jobsAt q b + jobsAt q r
-unfolding bodyWeight joinsWeight joinWeight weight firstEdition jobAt
-jobs-finish q o b r = omega arith
+pub jobs-finish : (ed : Edition) (q o : ℕ) (b r : Code) → jobsAt ed q (finish-at o b r) ≡ jobsAt ed q b + jobsAt ed q r
+unfolding bodyWeight joinsWeight joinWeight weight rowOf jobAt
+jobs-finish ed q o b r = omega arith
 
-pub jobs-fork : (q o : ℕ) (b c r : Code) → jobsAt q (fork-at o b c r) ≡ jobsAt q b + (jobsAt q c + jobsAt q r)
-unfolding bodyWeight joinsWeight joinWeight weight firstEdition jobAt
-jobs-fork q o b c r = omega arith
+pub jobs-fork :
+    (ed : Edition) (q o : ℕ) (b c r : Code) → jobsAt ed q (fork-at o b c r) ≡ jobsAt ed q b + (jobsAt ed q c + jobsAt ed q r)
+unfolding bodyWeight joinsWeight joinWeight forkRest weight rowOf forkRow jobAt
+jobs-fork First q o b c r = omega arith
+jobs-fork Second q o b c r = omega arith
 
-pub jobs-future : (q o : ℕ) (b r : Code) → jobsAt q (future-at o b r) ≡ jobsAt q b + jobsAt q r
-unfolding bodyWeight joinsWeight joinWeight weight firstEdition jobAt
-jobs-future q o b r = omega arith
+pub jobs-future : (ed : Edition) (q o : ℕ) (b r : Code) → jobsAt ed q (future-at o b r) ≡ jobsAt ed q b + jobsAt ed q r
+unfolding bodyWeight joinsWeight joinWeight weight rowOf jobAt
+jobs-future ed q o b r = omega arith
 
 -- a force's own body is not counted: its jobs are those of its future
-pub jobs-force : (q o n : ℕ) (b r : Code) → jobsAt q (force-at o n b r) ≡ jobsAt q r
-unfolding bodyWeight joinsWeight joinWeight weight firstEdition jobAt
-jobs-force q o n b r = omega arith
+pub jobs-force : (ed : Edition) (q o n : ℕ) (b r : Code) → jobsAt ed q (force-at o n b r) ≡ jobsAt ed q r
+unfolding bodyWeight joinsWeight joinWeight weight rowOf jobAt
+jobs-force ed q o n b r = omega arith
 
 -- Of jobs between lo and hi, w are at q: none, and J says that one is written there, or one.
 data Told (q w : ℕ) (J : Type 0) (lo hi : ℕ) : Type 0 where
@@ -226,40 +254,40 @@ told-job q o =
     (equal? o q)
 
 -- the jobs of laid code
-told : (q : ℕ) (c : Code) → Laid c → Told q (jobsAt q c) (Job c q) (startOf c) (last c)
+told : (ed : Edition) (q : ℕ) (c : Code) → Laid c → Told q (jobsAt ed q c) (Job c q) (startOf c) (last c)
 unfolding Job Laid startOf last
-told q (end-at o) l = none-there (jobs-end q o) (λ h. h)
-told q (job-at o m r) l =
-    beside (told-job q o) (told q r (l .1)) (jobs-job q o m r) (l .0 .starts) (omega arith) (omega arith) (l .0 .rest)
-told q (async-at o b r) l =
-    beside (told q b (l .1)) (told q r (l .2)) (jobs-async q o b r) (omega (arith, l .0 .ends)) (omega (arith, l .0 .starts)) (l .0 .body)
+told ed q (end-at o) l = none-there (jobs-end ed q o) (λ h. h)
+told ed q (job-at o m r) l =
+    beside (told-job q o) (told ed q r (l .1)) (jobs-job ed q o m r) (l .0 .starts) (omega arith) (omega arith) (l .0 .rest)
+told ed q (async-at o b r) l =
+    beside (told ed q b (l .1)) (told ed q r (l .2)) (jobs-async ed q o b r) (omega (arith, l .0 .ends)) (omega (arith, l .0 .starts)) (l .0 .body)
     (l .0 .rest)
-told q (finish-at o b r) l =
-    beside (told q b (l .1)) (told q r (l .2)) (jobs-finish q o b r) (omega (arith, l .0 .ends)) (omega (arith, l .0 .starts)) (l .0 .body)
+told ed q (finish-at o b r) l =
+    beside (told ed q b (l .1)) (told ed q r (l .2)) (jobs-finish ed q o b r) (omega (arith, l .0 .ends)) (omega (arith, l .0 .starts)) (l .0 .body)
     (l .0 .rest)
-told q (fork-at o b c r) l =
-    beside (told q b (l .1))
-    (beside {from = startOf c} (told q c (l .2)) (told q r (l .3)) refl (omega (arith, l .0 .ends)) (omega arith) (l .0 .right) (l .0 .rest))
-    (jobs-fork q o b c r) (omega (arith, l .0 .between)) (omega (arith, l .0 .starts)) (l .0 .left)
+told ed q (fork-at o b c r) l =
+    beside (told ed q b (l .1))
+    (beside {from = startOf c} (told ed q c (l .2)) (told ed q r (l .3)) refl (omega (arith, l .0 .ends)) (omega arith) (l .0 .right) (l .0 .rest))
+    (jobs-fork ed q o b c r) (omega (arith, l .0 .between)) (omega (arith, l .0 .starts)) (l .0 .left)
     (omega (arith, l .0 .right, l .0 .ends, l .0 .rest))
-told q (future-at o b r) l =
-    beside (told q b (l .1)) (told q r (l .2)) (jobs-future q o b r) (omega (arith, l .0 .ends)) (omega (arith, l .0 .starts)) (l .0 .body)
+told ed q (future-at o b r) l =
+    beside (told ed q b (l .1)) (told ed q r (l .2)) (jobs-future ed q o b r) (omega (arith, l .0 .ends)) (omega (arith, l .0 .starts)) (l .0 .body)
     (l .0 .rest)
-told q (force-at o n b r) l = told-from (told q r (l .1)) (jobs-force q o n b r) (omega (arith, l .0 .starts))
+told ed q (force-at o n b r) l = told-from (told ed q r (l .1)) (jobs-force ed q o n b r) (omega (arith, l .0 .starts))
 
 -- so no two are at the same offset
-jobs-le : (q : ℕ) (c : Code) → Laid c → jobsAt q c ≤ 1
-jobs-le q c l = go (told q c l)
+jobs-le : (ed : Edition) (q : ℕ) (c : Code) → Laid c → jobsAt ed q c ≤ 1
+jobs-le ed q c l = go (told ed q c l)
   where
-    go : Told q (jobsAt q c) (Job c q) (startOf c) (last c) → jobsAt q c ≤ 1
+    go : Told q (jobsAt ed q c) (Job c q) (startOf c) (last c) → jobsAt ed q c ≤ 1
     go (none-there e f) = omega arith
     go (one-there e s i) = omega arith
 
 -- and one is counted if it is written
-jobs-one : (q : ℕ) (c : Code) → Laid c → Job c q → jobsAt q c ≡ 1
-jobs-one q c l j = go (told q c l)
+jobs-one : (ed : Edition) (q : ℕ) (c : Code) → Laid c → Job c q → jobsAt ed q c ≡ 1
+jobs-one ed q c l j = go (told ed q c l)
   where
-    go : Told q (jobsAt q c) (Job c q) (startOf c) (last c) → jobsAt q c ≡ 1
+    go : Told q (jobsAt ed q c) (Job c q) (startOf c) (last c) → jobsAt ed q c ≡ 1
     go (none-there e f) = absurd (f j)
     go (one-there e s i) = e
 
@@ -280,19 +308,19 @@ zero-sum f (suc n) h = omega (arith, h n (omega arith), zero-sum f n (λ u l. h 
 
 pub all-over : (S : State) → total each S ≡ 0 → (v : ℕ) → v < S .count → S .control v ≡ over
 unfolding total
-all-over S h v l = nothing-left (S .control v) (sum-zero (λ v. left each (S .control v)) (S .count) h v l)
+all-over S h v l = nothing-left (S .setting) (S .control v) (sum-zero (λ v. left (S .setting) each (S .control v)) (S .count) h v l)
 
 pub over-all : (ω : Event → ℕ) (S : State) → ((v : ℕ) → v < S .count → S .control v ≡ over) → total ω S ≡ 0
 unfolding total left
-over-all ω S h = zero-sum (λ v. left ω (S .control v)) (S .count) (λ v l. ap (left ω) (h v l))
+over-all ω S h = zero-sum (λ v. left (S .setting) ω (S .control v)) (S .count) (λ v l. ap (left (S .setting) ω) (h v l))
 
 -- Runs from the beginning.
 
 -- what has been done and what is left is what a program's state weighs at the beginning
 runs-on :
-    (ω : Event → ℕ) (p : Code) (L : ℕ) {es : List Event} {S : State} → Runs (beginning p L) es S
-    → total ω (beginning p L) ≡ spent ω es + total ω S
-runs-on ω p L r = runs-pay ω (shape-beginning p L .beyond) r
+    (ω : Event → ℕ) (p : Code) (Γ : Setting) {es : List Event} {S : State} → Runs (beginning p Γ) es S
+    → total ω (beginning p Γ) ≡ spent ω es + total ω S
+runs-on ω p Γ r = runs-pay ω (shape-beginning p Γ .beyond) r
 
 -- Steps.
 
@@ -302,14 +330,14 @@ spent-each [] = refl
 spent-each (e ∷ es) = omega (arith, spent-each es)
 
 pub steps-run :
-    (t : Body) (L : ℕ) {es : List Event} {S : State} → Runs (beginning (located t) L) es S
-    → length es + total each S ≡ stepsTaken firstEdition t
-steps-run t L {es} r = omega (arith, runs-on each (located t) L r, spent-each es, steps-total L t)
+    (t : Body) (Γ : Setting) {es : List Event} {S : State} → Runs (beginning (located t) Γ) es S
+    → length es + total each S ≡ stepsTaken (Γ .edition) t
+steps-run t Γ {es} r = omega (arith, runs-on each (located t) Γ r, spent-each es, steps-total Γ t)
 
 pub steps-bound :
-    (t : Body) (L : ℕ) {es : List Event} {S : State} → Runs (beginning (located t) L) es S
-    → length es ≤ stepsTaken firstEdition t
-steps-bound t L r = omega (arith, steps-run t L r)
+    (t : Body) (Γ : Setting) {es : List Event} {S : State} → Runs (beginning (located t) Γ) es S
+    → length es ≤ stepsTaken (Γ .edition) t
+steps-bound t Γ r = omega (arith, steps-run t Γ r)
 
 -- Vertices: each new one is counted.
 
@@ -318,6 +346,7 @@ unfolding news eventOf
 news-none (link a b) = refl
 news-none (hand h) = refl
 news-none (free m) = refl
+news-none yield = refl
 
 pub move-count : {v : ℕ} {S S' : State} {e : Event} → Move S v e S' → S' .count ≡ news e + S .count
 unfolding news
@@ -334,37 +363,37 @@ runs-count no-move = omega arith
 runs-count (and-then r m) = omega (arith, runs-count r, move-count m)
 
 pub vertices-bound :
-    (t : Body) (L : ℕ) {es : List Event} {S : State} → Runs (beginning (located t) L) es S → S .count ≤ verticesMade firstEdition t
+    (t : Body) (Γ : Setting) {es : List Event} {S : State} → Runs (beginning (located t) Γ) es S → S .count ≤ verticesMade (Γ .edition) t
 unfolding beginning
-vertices-bound t L r = omega (arith, runs-on news (located t) L r, runs-count r, vertices-total L t)
+vertices-bound t Γ r = omega (arith, runs-on news (located t) Γ r, runs-count r, vertices-total Γ t)
 
 -- Edge rows: the one that is held at the beginning, and each new one.
 
 pub edges-bound :
-    (t : Body) (L : ℕ) {es : List Event} {S : State} → Runs (beginning (located t) L) es S
-    → 1 + spent links es ≤ edgeRowsNeeded firstEdition t
-edges-bound t L r = omega (arith, runs-on links (located t) L r, edges-total L t)
+    (t : Body) (Γ : Setting) {es : List Event} {S : State} → Runs (beginning (located t) Γ) es S
+    → 1 + spent links es ≤ edgeRowsNeeded (Γ .edition) t
+edges-bound t Γ r = omega (arith, runs-on links (located t) Γ r, edges-total Γ t)
 
 -- Jobs.
 
 -- at the beginning, those that are written
-jobs-total : (q : ℕ) (p : Code) (L : ℕ) → total (jobAt q) (beginning p L) ≡ jobsAt q p
+jobs-total : (q : ℕ) (p : Code) (Γ : Setting) → total (jobAt q) (beginning p Γ) ≡ jobsAt (Γ .edition) q p
 unfolding jobAt
-jobs-total q p L = omega (arith, opening (jobAt q) p L)
+jobs-total q p Γ = omega (arith, opening (jobAt q) p Γ)
 
 -- a job is done once at most
 pub job-once :
-    (q : ℕ) (p : Code) (L : ℕ) {es : List Event} {S : State} → Laid p → Runs (beginning p L) es S → spent (jobAt q) es ≤ 1
-job-once q p L l r = omega (arith, runs-on (jobAt q) p L r, jobs-total q p L, jobs-le q p l)
+    (q : ℕ) (p : Code) (Γ : Setting) {es : List Event} {S : State} → Laid p → Runs (beginning p Γ) es S → spent (jobAt q) es ≤ 1
+job-once q p Γ l r = omega (arith, runs-on (jobAt q) p Γ r, jobs-total q p Γ, jobs-le (Γ .edition) q p l)
 
 -- exactly once, if it is written, when nothing of it is left
 pub job-past :
-    (q : ℕ) (p : Code) (L : ℕ) {es : List Event} {S : State} → Laid p → Job p q → Runs (beginning p L) es S
+    (q : ℕ) (p : Code) (Γ : Setting) {es : List Event} {S : State} → Laid p → Job p q → Runs (beginning p Γ) es S
     → total (jobAt q) S ≡ 0 → spent (jobAt q) es ≡ 1
-job-past q p L l j r z = omega (arith, runs-on (jobAt q) p L r, jobs-total q p L, jobs-one q p l j, z)
+job-past q p Γ l j r z = omega (arith, runs-on (jobAt q) p Γ r, jobs-total q p Γ, jobs-one (Γ .edition) q p l j, z)
 
 -- so it is when all is done
 pub job-done :
-    (q : ℕ) (p : Code) (L : ℕ) {es : List Event} {S : State} → Laid p → Job p q → Runs (beginning p L) es S → total each S ≡ 0
+    (q : ℕ) (p : Code) (Γ : Setting) {es : List Event} {S : State} → Laid p → Job p q → Runs (beginning p Γ) es S → total each S ≡ 0
     → spent (jobAt q) es ≡ 1
-job-done q p L {S = S} l j r z = job-past q p L l j r (over-all (jobAt q) S (all-over S z))
+job-done q p Γ {S = S} l j r z = job-past q p Γ l j r (over-all (jobAt q) S (all-over S z))

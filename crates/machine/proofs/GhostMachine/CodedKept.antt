@@ -6,15 +6,16 @@ use mathlib.Core.Logic.{_⊎_, inl, inr, ⊎-elim}
 use mathlib.Core.List.{List, [], _∷_, _++_}
 use mathlib.Core.Option.{some, Option·some-injective, Option·none-ne-some}
 use native.Mathlib.Omega.{arith}
+use Rattle.program.specs.declared.Edition.{Edition}
 use Rattle.program.specs.Located.{Code, end-at, startOf, last, codeAt}
 use Rattle.program.proofs.LocatedLaws.{Laid, Inner, job-rest, async-body, async-rest, finish-body, finish-rest, fork-left, fork-right}
 use Rattle.program.proofs.LocatedLaws.{fork-rest, future-body, future-rest, force-rest, code-inner, code-end}
-use Rattle.machine.proofs.GhostMachine.Ghost.{Do, Control, draft, fresh, busy, over, State, Kid, put, goes, onward, Event, Move, begins}
+use Rattle.machine.proofs.GhostMachine.Ghost.{Do, Control, draft, fresh, busy, over, Setting, State, Kid, put, forkGoes, goes, onward, resumed, Event, Move, begins}
 use Rattle.machine.proofs.GhostMachine.Ghost.{performs, stops, makes, splits, acts, done, stirred}
 use Rattle.machine.proofs.GhostMachine.Invariant.{codeOf, Coded}
-use Rattle.machine.proofs.GhostMachine.GhostLaws.{Makes, finish-1, fork-1, fork-2, future-1, Splits, async-1, finish-2, fork-3, future-2}
+use Rattle.machine.proofs.GhostMachine.GhostLaws.{Makes, finish-1, fork-1, fork-2, future-1, Splits, async-1, finish-2, fork-3, fork-yields, future-2}
 use Rattle.machine.proofs.GhostMachine.GhostLaws.{force-1, makes-at, splits-at, put-all}
-use Rattle.machine.proofs.GhostMachine.RoadLaws.{code-onward, done-keeps}
+use Rattle.machine.proofs.GhostMachine.RoadLaws.{code-onward, code-resumed, done-keeps}
 use Rattle.machine.proofs.GhostMachine.SplitLaws.{stirred-keeps}
 
 -- the code of this control, if it has code, stands in p
@@ -33,33 +34,36 @@ stands-onward : (p c : Code) (ds : List Do) → codeAt p (startOf c) ≡ some c 
 stands-onward p c ds = stands-code p (onward c ds) (code-onward c ds)
 
 -- what an item makes is right inside it, or has the program's last byte
-pub makes-inner : {L : ℕ} {c : Code} {ms : List ℕ} {k : Kid} → Makes L c ms k → Inner c (k .code) ⊎ (k .code ≡ end-at L)
+pub makes-inner :
+    {Γ : Setting} {c : Code} {ms : List ℕ} {k : Kid} → Makes Γ c ms k → Inner c (k .code) ⊎ (k .code ≡ end-at (Γ .lastByte))
 makes-inner finish-1 = inl finish-rest
 makes-inner fork-1 = inl fork-left
-makes-inner fork-2 = inl fork-right
+makes-inner (fork-2 e) = inl fork-right
 makes-inner future-1 = inr refl
 
 -- its last vertex is right inside it
-pub splits-inner : {c : Code} {ms : List ℕ} {k : Kid} → Splits c ms k → Inner c (k .code)
+pub splits-inner : {ed : Edition} {c : Code} {ms : List ℕ} {k : Kid} → Splits ed c ms k → Inner c (k .code)
 splits-inner async-1 = async-body
 splits-inner finish-2 = finish-body
-splits-inner fork-3 = fork-rest
+splits-inner (fork-3 e) = fork-rest
+splits-inner (fork-yields e) = fork-right
 splits-inner future-2 = future-body
 splits-inner force-1 = force-rest
 
 -- what an item makes does not rank behind its end
-pub makes-le : {L : ℕ} {c : Code} {ms : List ℕ} {k : Kid} → Laid c → Makes L c ms k → k .low ≤ k .high
+pub makes-le : {Γ : Setting} {c : Code} {ms : List ℕ} {k : Kid} → Laid c → Makes Γ c ms k → k .low ≤ k .high
 unfolding Laid
 makes-le l finish-1 = l .0 .rest
 makes-le l fork-1 = l .0 .left
-makes-le l fork-2 = l .0 .right
+makes-le l (fork-2 e) = l .0 .right
 makes-le l future-1 = omega arith
 
-pub splits-le : {c : Code} {ms : List ℕ} {k : Kid} → Laid c → Splits c ms k → k .low ≤ k .high
+pub splits-le : {ed : Edition} {c : Code} {ms : List ℕ} {k : Kid} → Laid c → Splits ed c ms k → k .low ≤ k .high
 unfolding Laid
 splits-le l async-1 = l .0 .body
 splits-le l finish-2 = l .0 .body
-splits-le l fork-3 = l .0 .rest
+splits-le l (fork-3 e) = l .0 .rest
+splits-le l (fork-yields e) = l .0 .right
 splits-le l future-2 = l .0 .body
 splits-le l force-1 = l .0 .rest
 
@@ -70,7 +74,8 @@ end-stands p l e = rw (← e) (code-end p l)
 
 -- so what an item makes stands in the program
 makes-stands :
-    (p : Code) {c : Code} {L : ℕ} {ms : List ℕ} {k : Kid} → Laid p → last p ≡ L → Makes L c ms k → codeAt p (startOf c) ≡ some c
+    (p : Code) {c : Code} {Γ : Setting} {ms : List ℕ} {k : Kid} → Laid p → last p ≡ Γ .lastByte → Makes Γ c ms k
+    → codeAt p (startOf c) ≡ some c
     → codeAt p (startOf (k .code)) ≡ some (k .code)
 makes-stands p {k = k} l e m h =
     ⊎-elim
@@ -80,14 +85,15 @@ makes-stands p {k = k} l e m h =
 
 -- and so does where its vertex goes
 goes-stands :
-    (p : Code) {c : Code} {L : ℕ} {ms : List ℕ} {k : Kid} → Laid p → last p ≡ L → Splits c ms k → codeAt p (startOf c) ≡ some c
-    → codeAt p (startOf (goes L c)) ≡ some (goes L c)
-unfolding goes
-goes-stands p l e async-1 h = code-inner p _ l h async-rest
-goes-stands p l e finish-2 h = end-stands p l e
-goes-stands p l e fork-3 h = end-stands p l e
-goes-stands p l e future-2 h = code-inner p _ l h future-rest
-goes-stands p l e force-1 h = end-stands p l e
+    (p : Code) (Γ : Setting) {c : Code} {ms : List ℕ} {k : Kid} → Laid p → last p ≡ Γ .lastByte → Splits (Γ .edition) c ms k
+    → codeAt p (startOf c) ≡ some c → codeAt p (startOf (goes Γ c)) ≡ some (goes Γ c)
+unfolding goes forkGoes
+goes-stands p Γ l e async-1 h = code-inner p _ l h async-rest
+goes-stands p Γ l e finish-2 h = end-stands p l e
+goes-stands p Γ l e (fork-3 f) h = rw f (end-stands p l e)
+goes-stands p Γ l e (fork-yields f) h = rw f (code-inner p _ l h fork-rest)
+goes-stands p Γ l e future-2 h = code-inner p _ l h future-rest
+goes-stands p Γ l e force-1 h = end-stands p l e
 
 -- one more vertex, whose maker has come to x
 stands-made :
@@ -104,7 +110,7 @@ stands-woken p f ms h u = stands-same p (f u) (stirred f ms u) (stirred-keeps co
 
 -- every move leaves the codes
 pub coded-kept :
-    {v : ℕ} {S S' : State} {e : Event} (p : Code) → Laid p → last p ≡ S .lastByte → Coded p S → Move S v e S' → Coded p S'
+    {v : ℕ} {S S' : State} {e : Event} (p : Code) → Laid p → last p ≡ S .setting .lastByte → Coded p S → Move S v e S' → Coded p S'
 unfolding codeOf
 coded-kept {v = v} {S = S} p l e h (begins {c = c} q f) =
     put-all (λ x. Stands p x) (S .control) v _ h (stands-code p (busy c []) refl (h v c (ap codeOf q)))
@@ -115,15 +121,15 @@ coded-kept {v = v} {S = S} p l e h (stops q) =
 coded-kept {v = v} {S = S} p l e h (makes {c = c} {ms = ms} {k = k} q w) =
     let at = h v c (ap codeOf q) in
     stands-made p (S .control) (S .count) v _ _ h
-    (stands-code p (draft (k .code)) refl (makes-stands p l e (makes-at (S .lastByte) c ms w) at))
+    (stands-code p (draft (k .code)) refl (makes-stands p l e (makes-at (S .setting) c ms w) at))
     (stands-code p (busy c (ms ++ (S .count ∷ []))) refl at)
 coded-kept {v = v} {S = S} p l e h (splits {c = c} {ms = ms} {k = k} q w) =
     let at = h v c (ap codeOf q) in
-    let item = splits-at (S .lastByte) c ms w in
+    let item = splits-at (S .setting) c ms w in
     stands-made p _ (S .count) v _ _ (stands-woken p (S .control) ms h)
     (stands-code p (fresh (k .code)) refl (code-inner p _ l at (splits-inner item)))
-    (stands-onward p _ _ (goes-stands p l e item at))
+    (stands-onward p _ _ (goes-stands p (S .setting) l e item at))
 coded-kept {v = v} {S = S} p l e h (acts {c = c} {d = d} {ds = ds} q) =
     put-all (λ x. Stands p x) (done S v d .control) v _
     (λ u. stands-same p (S .control u) (done S v d .control u) (done-keeps codeOf (λ c. refl) S v d u) (h u))
-    (stands-onward p c ds (h v c (ap codeOf q)))
+    (stands-code p (resumed c d ds) (code-resumed c d ds) (h v c (ap codeOf q)))

@@ -9,11 +9,11 @@ use borrow.Author.Tests.{eq-eqb, ne-eqb}
 use Rattle.graph.specs.Tests.{both, either}
 use Rattle.graph.proofs.TestLaws.{equal?, not-so, true-false}
 use Rattle.program.specs.Located.{Code}
-use Rattle.machine.proofs.GhostMachine.Ghost.{Do, link, hand, free, Control, draft, fresh, ready, busy, joining, over, State, put, onward}
+use Rattle.machine.proofs.GhostMachine.Ghost.{Do, link, hand, free, yield, Control, draft, fresh, ready, busy, joining, over, Setting, State, put, onward, resumed}
 use Rattle.machine.proofs.GhostMachine.Ghost.{woken, freed, among, dropped, handed, live, done, Event, Move, begins, performs, stops, makes}
 use Rattle.machine.proofs.GhostMachine.Ghost.{splits, acts, stirred}
 use Rattle.machine.proofs.GhostMachine.Invariant.{here, Shape, tasks}
-use Rattle.machine.proofs.GhostMachine.GhostLaws.{put-same, put-other, put-cases, clash, woken-cases, freed-cases, onward-cases}
+use Rattle.machine.proofs.GhostMachine.GhostLaws.{put-same, put-other, put-cases, clash, woken-cases, freed-cases, onward-cases, resumed-cases}
 use Rattle.machine.proofs.GhostMachine.RoadLaws.{linkedIf}
 use Rattle.machine.proofs.GhostMachine.Beginning.{beginning, beginning-edge}
 
@@ -29,6 +29,9 @@ freed-over = freed-cases (λ x y. y ≡ over → x ≡ over) (λ x h. h) (λ c h
 
 onward-over : (c : Code) (ds : List Do) → onward c ds ≡ over → ⊥
 onward-over c = onward-cases (λ x. x ≡ over → ⊥) c (λ h. clash cc) (λ d ds h. clash cc)
+
+resumed-over : (c : Code) (d : Do) (ds : List Do) → resumed c d ds ≡ over → ⊥
+resumed-over c = resumed-cases (λ x. x ≡ over → ⊥) c (λ h. clash cc) (λ d ds h. clash cc) (λ h. clash cc)
 
 -- what is over, where v is given something else, is another vertex and was over
 still-over : (f : ℕ → Control) (v : ℕ) (x : Control) (a : ℕ) → (x ≡ over → ⊥) → put f v x a ≡ over → (a ≡ v → ⊥) × (f a ≡ over)
@@ -75,6 +78,7 @@ done-ended {S} {v} c (free m) ds shape ended at a b ne h =
     (λ e p. ap (S .control) e ∙ freed-over (S .control m) p)
     (λ n p. p)
     h)
+done-ended c yield ds shape ended at a b ne h = ended a b h
 
 pub ended-kept : {v : ℕ} {S S' : State} {e : Event} → Shape S → Ended S → Move S v e S' → Ended S'
 ended-kept {v} {S} shape ended (begins {c} at none) a b h = ended a b (still-over (S .control) v (busy c []) a (λ p. clash cc) h .1)
@@ -94,12 +98,12 @@ ended-kept {v} {S} shape ended (splits {c} {ms} {k} at last) a b h =
     was true p = woken-over (S .control a) p
     was false p = p
 ended-kept {v} {S} shape ended (acts {c} {d} {ds} at) a b h =
-    let p = still-over (done S v d .control) v (onward c ds) a (onward-over c ds) h in
+    let p = still-over (done S v d .control) v (resumed c d ds) a (resumed-over c d ds) h in
     done-ended c d ds shape ended at a b (p .0) (p .1)
 
 -- After loading the edge is vertex 0's, which is not over.
-pub ended-beginning : (p : Code) (L : ℕ) → Ended (beginning p L)
+pub ended-beginning : (p : Code) (Γ : Setting) → Ended (beginning p Γ)
 unfolding beginning
-ended-beginning p L a b h =
-    not-so (beginning p L .edge a b)
-    (λ e. let z : ready p ≡ over = ap (beginning p L .control) (sym (beginning-edge p L a b e .0)) ∙ h in clash cc)
+ended-beginning p Γ a b h =
+    not-so (beginning p Γ .edge a b)
+    (λ e. let z : ready p ≡ over = ap (beginning p Γ .control) (sym (beginning-edge p Γ a b e .0)) ∙ h in clash cc)

@@ -2,8 +2,9 @@
 -- with the vertices filled in. Statuses, places, phases, made words and latest open futures of the tables follow from this; who made a vertex
 -- and its rank do not stand in the tables at all.
 --
--- An item first makes its vertices, then it joins them: edges, a transfer, releases. Once the last one is made, all that the item will do
--- is known: this is where the item splits its code among the vertices. What comes behind only catches up with it.
+-- An item first makes its vertices, then it joins them: edges, a transfer, releases, a yield. Once the last one is made, all that the item will
+-- do is known: this is where the item splits its code among the vertices. What comes behind only catches up with it. The edition decides
+-- which vertices an item makes, what it does with them and where its own vertex goes, and nothing else.
 use Prim.Native.Nat.{ℕ, zero, suc}
 use mathlib.Core.Path.{_≡_}
 use mathlib.Core.Bool.{Bool, true, false, not, cond}
@@ -13,8 +14,11 @@ use lib.Dec.{eqb}
 use lib.ListN.{length, drop, getD}
 use Rattle.graph.specs.Tests.{both, either}
 use Rattle.program.specs.Trees.{Kind, jobs, asyncs, finishes, forks, futures, forces}
-use Rattle.program.specs.Encodings.{Name, own-scope, made-1, made-2, made-3, forced, Command, perform, newTd, newEdge, transfer, release}
-use Rattle.program.specs.Encodings.{firstEdition}
+use Rattle.program.specs.declared.Edition.{Edition}
+use Rattle.program.specs.declared.Edition.the-variants.{First, Second}
+use Rattle.program.specs.Encodings.{Name, self, own-scope, made-1, made-2, made-3, forced, Command, perform, newTd, newEdge, transfer, release}
+use Rattle.program.specs.Encodings as table
+use Rattle.program.specs.Encodings.{rowOf}
 use Rattle.program.specs.Located.{Code, end-at, job-at, async-at, finish-at, fork-at, future-at, force-at, startOf, last}
 
 -- A command that joins vertices.
@@ -22,6 +26,7 @@ pub data Do : Type 0 where
   link : ℕ → ℕ → Do
   hand : ℕ → Do
   free : ℕ → Do
+  yield : Do
 
 -- What a vertex is at.
 pub data Control : Type 0 where
@@ -36,6 +41,11 @@ pub data Control : Type 0 where
   joining : Code → Do → List Do → Control
   over : Control
 
+-- What stays as it is while a program runs: its edition, and the offset of its last byte.
+pub record Setting : Type 0 where
+  pub edition : Edition
+  pub lastByte : ℕ
+
 pub record State : Type 0 where
   pub count : ℕ
   pub control : ℕ → Control
@@ -43,14 +53,14 @@ pub record State : Type 0 where
   pub edge : ℕ → ℕ → Bool
   -- who made a vertex
   pub maker : ℕ → ℕ
-  -- where a vertex's code starts and ends when it is made; edges lead from lower to higher ones
+  -- where a vertex's code starts and ends when it is made, and behind the split of an item of its own where the rest starts; edges lead from lower
+  -- to higher ones
   pub rank : ℕ → ℕ
   pub fin : ℕ → ℕ
   -- the futures that are open where a vertex has come to, and behind the split of an item where it goes to, the nearest first: the vertex that
   -- each made first, and its body
   pub opens : ℕ → List (ℕ × Code)
-  -- the offset of the program's last byte
-  pub lastByte : ℕ
+  pub setting : Setting
 
 -- a function changed in one place
 abbrev pub put : {A : Type 0} → (ℕ → A) → ℕ → A → ℕ → A
@@ -71,25 +81,44 @@ kid c a = record { code = c; name = a; low = startOf c; high = last c }
 abbrev pub awaiting : ℕ → Code → Kid
 awaiting L r = record { code = end-at L; name = own-scope; low = startOf r; high = startOf r }
 
--- the vertices that an item makes, in order; L is the offset of the program's last byte
-unfoldable pub kids : ℕ → Code → List Kid
-kids L (end-at o) = []
-kids L (job-at o n r) = []
-kids L (async-at o b r) = kid b own-scope ∷ []
-kids L (finish-at o b r) = kid r own-scope ∷ kid b made-1 ∷ []
-kids L (fork-at o b c r) = kid b own-scope ∷ kid c own-scope ∷ kid r own-scope ∷ []
-kids L (future-at o b r) = awaiting L r ∷ kid b made-1 ∷ []
-kids L (force-at o n b r) = kid r own-scope ∷ []
+-- behind a fork's branches: in the first edition another vertex has the rest r, in the second the forking one keeps it
+unfoldable pub forkKids : Edition → Code → List Kid
+forkKids First r = kid r own-scope ∷ []
+forkKids Second r = []
+
+unfoldable pub forkGoes : Edition → ℕ → Code → Code
+forkGoes First L r = end-at L
+forkGoes Second L r = r
+
+-- the vertices that an item makes, in order
+unfoldable pub kids : Setting → Code → List Kid
+kids Γ (end-at o) = []
+kids Γ (job-at o n r) = []
+kids Γ (async-at o b r) = kid b own-scope ∷ []
+kids Γ (finish-at o b r) = kid r own-scope ∷ kid b made-1 ∷ []
+kids Γ (fork-at o b c r) = kid b own-scope ∷ kid c own-scope ∷ forkKids (Γ .edition) r
+kids Γ (future-at o b r) = awaiting (Γ .lastByte) r ∷ kid b made-1 ∷ []
+kids Γ (force-at o n b r) = kid r own-scope ∷ []
 
 -- where an item's vertex goes with the item's last command
-unfoldable pub goes : ℕ → Code → Code
-goes L (end-at o) = end-at o
-goes L (job-at o n r) = r
-goes L (async-at o b r) = r
-goes L (finish-at o b r) = end-at L
-goes L (fork-at o b c r) = end-at L
-goes L (future-at o b r) = r
-goes L (force-at o n b r) = end-at L
+unfoldable pub goes : Setting → Code → Code
+goes Γ (end-at o) = end-at o
+goes Γ (job-at o n r) = r
+goes Γ (async-at o b r) = r
+goes Γ (finish-at o b r) = end-at (Γ .lastByte)
+goes Γ (fork-at o b c r) = forkGoes (Γ .edition) (Γ .lastByte) r
+goes Γ (future-at o b r) = r
+goes Γ (force-at o n b r) = end-at (Γ .lastByte)
+
+-- what a body has behind its first item
+unfoldable pub restOf : Code → Code
+restOf (end-at o) = end-at o
+restOf (job-at o n r) = r
+restOf (async-at o b r) = r
+restOf (finish-at o b r) = r
+restOf (fork-at o b c r) = r
+restOf (future-at o b r) = r
+restOf (force-at o n b r) = r
 
 unfoldable pub kindOf : Code → Option Kind
 kindOf (end-at o) = none
@@ -100,9 +129,9 @@ kindOf (fork-at o b c r) = some forks
 kindOf (future-at o b r) = some futures
 kindOf (force-at o n b r) = some forces
 
-unfoldable pub commandsOf : Option Kind → List Command
-commandsOf none = []
-commandsOf (some k) = firstEdition k .commands
+unfoldable pub commandsOf : Edition → Option Kind → List Command
+commandsOf ed none = []
+commandsOf ed (some k) = rowOf ed k .commands
 
 -- the vertex of open future number n, and that of the future that an item forces
 unfoldable pub vertexAt : List (ℕ × Code) → ℕ → ℕ
@@ -129,31 +158,40 @@ opensBehind fs ms (fork-at o b c r) = fs
 opensBehind fs ms (future-at o b r) = (getD ms 0 0, b) ∷ fs
 opensBehind fs ms (force-at o n b r) = fs
 
--- what a name stands for in an item that has made these vertices, where f is forced
-unfoldable pub resolved : ℕ → ℕ → List ℕ → Name → ℕ
-resolved σ f ms own-scope = σ
-resolved σ f ms made-1 = getD ms 0 0
-resolved σ f ms made-2 = getD ms 1 0
-resolved σ f ms made-3 = getD ms 2 0
-resolved σ f ms forced = f
+-- what a name stands for in an item of v, which has the scope σ and has made these vertices, where f is forced
+unfoldable pub resolved : ℕ → ℕ → ℕ → List ℕ → Name → ℕ
+resolved v σ f ms self = v
+resolved v σ f ms own-scope = σ
+resolved v σ f ms made-1 = getD ms 0 0
+resolved v σ f ms made-2 = getD ms 1 0
+resolved v σ f ms made-3 = getD ms 2 0
+resolved v σ f ms forced = f
 
 -- the joining commands of a list of commands
-unfoldable pub joins : ℕ → ℕ → List ℕ → List Command → List Do
-joins σ f ms [] = []
-joins σ f ms (perform ∷ cs) = joins σ f ms cs
-joins σ f ms (newTd p a ∷ cs) = joins σ f ms cs
-joins σ f ms (newEdge a b ∷ cs) = link (resolved σ f ms a) (resolved σ f ms b) ∷ joins σ f ms cs
-joins σ f ms (transfer a ∷ cs) = hand (resolved σ f ms a) ∷ joins σ f ms cs
-joins σ f ms (release a ∷ cs) = free (resolved σ f ms a) ∷ joins σ f ms cs
+unfoldable pub joins : ℕ → ℕ → ℕ → List ℕ → List Command → List Do
+joins v σ f ms [] = []
+joins v σ f ms (perform ∷ cs) = joins v σ f ms cs
+joins v σ f ms (newTd p a ∷ cs) = joins v σ f ms cs
+joins v σ f ms (newEdge a b ∷ cs) = link (resolved v σ f ms a) (resolved v σ f ms b) ∷ joins v σ f ms cs
+joins v σ f ms (transfer a ∷ cs) = hand (resolved v σ f ms a) ∷ joins v σ f ms cs
+joins v σ f ms (release a ∷ cs) = free (resolved v σ f ms a) ∷ joins v σ f ms cs
+joins v σ f ms (table.yield ∷ cs) = yield ∷ joins v σ f ms cs
 
 -- all that an item does behind its split
-unfoldable pub todo : ℕ → ℕ → List ℕ → Code → List Do
-todo σ f ms c = joins σ f ms (commandsOf (kindOf c))
+unfoldable pub todo : Edition → ℕ → ℕ → ℕ → List ℕ → Code → List Do
+todo ed v σ f ms c = joins v σ f ms (commandsOf ed (kindOf c))
 
 -- executing with these commands left, and with this code behind them
 unfoldable pub onward : Code → List Do → Control
 onward c [] = busy c []
 onward c (d ∷ ds) = joining c d ds
+
+-- the same behind the command d: a vertex that yields is released
+unfoldable pub resumed : Code → Do → List Do → Control
+resumed c (link a b) ds = onward c ds
+resumed c (hand h) ds = onward c ds
+resumed c (free m) ds = onward c ds
+resumed c yield ds = ready c
 
 unfoldable pub woken : Control → Control
 woken (draft c) = fresh c
@@ -186,7 +224,7 @@ withControl S f =
       rank = S .rank;
       fin = S .fin;
       opens = S .opens;
-      lastByte = S .lastByte;
+      setting = S .setting;
     }
 
 abbrev pub withEdges : State → (ℕ → ℕ → Bool) → State
@@ -200,7 +238,7 @@ withEdges S e =
       rank = S .rank;
       fin = S .fin;
       opens = S .opens;
-      lastByte = S .lastByte;
+      setting = S .setting;
     }
 
 abbrev pub withOpens : State → (ℕ → List (ℕ × Code)) → State
@@ -214,7 +252,21 @@ withOpens S f =
       rank = S .rank;
       fin = S .fin;
       opens = f;
-      lastByte = S .lastByte;
+      setting = S .setting;
+    }
+
+abbrev pub withRanks : State → (ℕ → ℕ) → State
+withRanks S f =
+    record {
+      count = S .count;
+      control = S .control;
+      scope = S .scope;
+      edge = S .edge;
+      maker = S .maker;
+      rank = f;
+      fin = S .fin;
+      opens = S .opens;
+      setting = S .setting;
     }
 
 -- one more vertex, made by t, with this control, scope, rank and fin; the futures that are open at t are open there
@@ -229,7 +281,7 @@ grown S t x σ r f =
       rank = put (S .rank) (S .count) r;
       fin = put (S .fin) (S .count) f;
       opens = put (S .opens) (S .count) (S .opens t);
-      lastByte = S .lastByte;
+      setting = S .setting;
     }
 
 -- the edges with one more, with those out of v given to h, and without those out of v
@@ -256,6 +308,7 @@ unfoldable pub done : State → ℕ → Do → State
 done S v (link a b) = withEdges S (λ x y. cond (live (S .control a)) (linked (S .edge) a b x y) (S .edge x y))
 done S v (hand h) = withEdges S (handed (S .edge) v h)
 done S v (free m) = withControl S (put (S .control) m (freed (S .control m)))
+done S v yield = S
 
 -- What a step is counted as; a job by its offset.
 pub data Event : Type 0 where
@@ -266,15 +319,17 @@ pub data Event : Type 0 where
   a-transfer : Event
   a-job : ℕ → Event
   a-stop : Event
+  a-yield : Event
 
 unfoldable pub eventOf : Do → Event
 eventOf (link a b) = an-edge
 eventOf (hand h) = a-transfer
 eventOf (free m) = a-release
+eventOf yield = a-yield
 
 -- the scope of a vertex that is made; it is never the one that is forced
 abbrev pub scopeFor : State → ℕ → List ℕ → Kid → ℕ
-scopeFor S v ms k = resolved (S .scope v) 0 ms (k .name)
+scopeFor S v ms k = resolved v (S .scope v) 0 ms (k .name)
 
 -- the vertices of an item under way and one more, which is a draft, made by v, which has come to x
 abbrev pub oneMore : State → ℕ → List ℕ → Control → Kid → State
@@ -286,20 +341,23 @@ oneMore S v ms x k =
 abbrev pub stirred : (ℕ → Control) → List ℕ → ℕ → Control
 stirred f ms u = cond (among u ms) (woken (f u)) (f u)
 
--- the same at the split: the new one is fresh, those that were made before are drafts no more, and these futures are open where v goes to
-abbrev pub split : State → ℕ → List ℕ → Control → List (ℕ × Code) → Kid → State
-split S v ms x fs k =
-    withOpens
+-- the same at the split: the new one is fresh, those that were made before are drafts no more, these futures are open where v goes to, and v
+-- ranks from ρ on
+abbrev pub split : State → ℕ → List ℕ → Control → List (ℕ × Code) → ℕ → Kid → State
+split S v ms x fs ρ k =
+    withRanks
+    (withOpens
     (withControl (grown S v (fresh (k .code)) (scopeFor S v ms k) (k .low) (k .high))
     (put (put (stirred (S .control) ms) (S .count) (fresh (k .code))) v x))
-    (put (put (S .opens) (S .count) (S .opens v)) v fs)
+    (put (put (S .opens) (S .count) (S .opens v)) v fs))
+    (put (put (S .rank) (S .count) (k .low)) v ρ)
 
 -- what the item of code c that v has does behind its split, where it has made these vertices, and what v is at then
 abbrev pub todoOf : State → ℕ → List ℕ → Code → List Do
-todoOf S v ms c = todo (S .scope v) (forcedBy (S .opens v) c) ms c
+todoOf S v ms c = todo (S .setting .edition) v (S .scope v) (forcedBy (S .opens v) c) ms c
 
 abbrev pub behindSplit : State → ℕ → List ℕ → Code → Control
-behindSplit S v ms c = onward (goes (S .lastByte) c) (todoOf S v ms c)
+behindSplit S v ms c = onward (goes (S .setting) c) (todoOf S v ms c)
 
 -- The steps of a vertex v.
 pub data Move (S : State) (v : ℕ) : Event → State → Type 0 where
@@ -314,12 +372,12 @@ pub data Move (S : State) (v : ℕ) : Event → State → Type 0 where
       → Move S v a-stop (withEdges (withControl S (put (S .control) v over)) (dropped (S .edge) v))
   makes :
       {c : Code} {ms : List ℕ} {k next : Kid} {more : List Kid} → S .control v ≡ busy c ms
-      → drop (length ms) (kids (S .lastByte) c) ≡ k ∷ (next ∷ more)
+      → drop (length ms) (kids (S .setting) c) ≡ k ∷ (next ∷ more)
       → Move S v a-new (oneMore S v ms (busy c (ms ++ (S .count ∷ []))) k)
   splits :
-      {c : Code} {ms : List ℕ} {k : Kid} → S .control v ≡ busy c ms → drop (length ms) (kids (S .lastByte) c) ≡ k ∷ []
+      {c : Code} {ms : List ℕ} {k : Kid} → S .control v ≡ busy c ms → drop (length ms) (kids (S .setting) c) ≡ k ∷ []
       → Move S v a-new
-      (split S v ms (behindSplit S v (ms ++ (S .count ∷ [])) c) (opensBehind (S .opens v) (ms ++ (S .count ∷ [])) c) k)
+      (split S v ms (behindSplit S v (ms ++ (S .count ∷ [])) c) (opensBehind (S .opens v) (ms ++ (S .count ∷ [])) c) (startOf (restOf c)) k)
   acts :
       {c : Code} {d : Do} {ds : List Do} → S .control v ≡ joining c d ds
-      → Move S v (eventOf d) (withControl (done S v d) (put (done S v d .control) v (onward c ds)))
+      → Move S v (eventOf d) (withControl (done S v d) (put (done S v d .control) v (resumed c d ds)))

@@ -14,6 +14,7 @@
 --     woken-cases    P x (woken x), from P x x and P (draft c) (fresh c); woken-keeps: g (woken x) ≡ g x, where g sees these two alike
 --     freed-cases    P x (freed x), from P x x and P (fresh c) (ready c); freed-keeps: g (freed x) ≡ g x, where g sees these two alike
 --     onward-cases   P (onward c ds), from P (busy c []) and P (joining c d ds)
+--     resumed-cases  P (resumed c d ds), from these and P (ready c)
 -- Lists
 --     in-cases       In x (y ∷ ys): x is y, or In x ys
 --     in-none        nothing is in the empty list; in-empty: nor in one that is equal to it
@@ -26,11 +27,14 @@
 -- What is left to do
 --     each-link, each-hand, each-free    what holds of each link, transfer, release in a list, holds of one that is in it. For a list that
 --                            is written out, EachLink, EachHand and EachFree are tuples that skip the other commands
---     no-link, no-hand       there is none in a list of releases only
---     tasks-onward           tasks (onward c ds) ≡ ds
+--     no-link, no-hand       there is none behind a release
+--     tasks-onward           tasks (onward c ds) ≡ ds; tasks-resumed: tasks (resumed c d ds) ≡ ds, where d ∷ ds is in order
+--     waits-onward           waits (onward c ds) ≡ yields ds; waits-resumed: waits (resumed c d ds) ≡ yields (d ∷ ds)
 -- Where an item under way stands
 --     makes-at       the vertex to be made is not the item's last one: Makes
 --     splits-at      it is the last one: Splits
+--     either-edition       what follows from either edition
+--     todo-async and so on     what the item of each kind does behind its split
 -- Vertices of a state with a shape
 --     below          a vertex that is not over is below count
 --     new-below      so is a new one
@@ -53,13 +57,15 @@ use lib.Dec.{eqb}
 use lib.ListN.{length, drop}
 use borrow.Author.Tests.{eq-eqb, ne-eqb, eqb-true}
 use Rattle.graph.proofs.TestLaws.{equal?, either-left, either-right, either-cases, true-false, not-so}
-use Rattle.program.specs.Encodings.{own-scope, made-1}
+use Rattle.program.specs.declared.Edition.{Edition}
+use Rattle.program.specs.declared.Edition.the-variants.{First, Second}
+use Rattle.program.specs.Encodings.{own-scope, made-1, rowOf, forkRow}
 use Rattle.program.specs.Located.{Code, end-at, job-at, async-at, finish-at, fork-at, future-at, force-at}
 use Rattle.program.proofs.OpenLaws.{nthOpen, Opens}
-use Rattle.machine.proofs.GhostMachine.Ghost.{Do, link, hand, free, Control, draft, fresh, ready, busy, joining, over, State, put, kids}
-use Rattle.machine.proofs.GhostMachine.Ghost.{onward, woken, freed, among, Kid, kid, awaiting, vertexAt, forcedBy}
-use Rattle.machine.proofs.GhostMachine.Invariant.{In, here, later, Once, tasks, tasksOf, isNew, Draft, Drafts, FreesOnly, Shape}
-use Rattle.machine.proofs.GhostMachine.Invariant.{codeOf, bodies, Opened}
+use Rattle.machine.proofs.GhostMachine.Ghost.{Do, link, hand, free, yield, Control, draft, fresh, ready, busy, joining, over, Setting, State, put, forkKids}
+use Rattle.machine.proofs.GhostMachine.Ghost.{kids, kindOf, commandsOf, resolved, joins, todo, onward, resumed, woken, freed, among, Kid, kid, awaiting, vertexAt, forcedBy}
+use Rattle.machine.proofs.GhostMachine.Invariant.{In, here, later, Once, tasks, tasksOf, yields, waits, isNew, Draft, Drafts, FreesOnly}
+use Rattle.machine.proofs.GhostMachine.Invariant.{Ordered, Shape, codeOf, bodies, Opened}
 
 -- a function is changed at v
 pub put-same : {A : Type 0} (f : ℕ → A) (v : ℕ) (x : A) → put f v x v ≡ x
@@ -168,6 +174,16 @@ unfolding onward
 onward-cases P c at left [] = at
 onward-cases P c at left (d ∷ ds) = left d ds
 
+-- who has done a command goes on, or is released
+pub resumed-cases :
+    (P : Control → Type 0) (c : Code) → P (busy c []) → ((d : Do) (ds : List Do) → P (joining c d ds)) → P (ready c) → (d : Do) (ds : List Do)
+    → P (resumed c d ds)
+unfolding resumed
+resumed-cases P c at left again (link a b) ds = onward-cases P c at left ds
+resumed-cases P c at left again (hand h) ds = onward-cases P c at left ds
+resumed-cases P c at left again (free m) ds = onward-cases P c at left ds
+resumed-cases P c at left again yield ds = again
+
 -- an element is the first, or is behind it
 pub in-cases : {A P : Type 0} {x y : A} {ys : List A} → In x (y ∷ ys) → (x ≡ y → P) → (In x ys → P) → P
 in-cases here f g = f refl
@@ -234,18 +250,21 @@ EachLink P [] = Unit {0}
 EachLink P (link a b ∷ ds) = P a b × EachLink P ds
 EachLink P (hand h ∷ ds) = EachLink P ds
 EachLink P (free m ∷ ds) = EachLink P ds
+EachLink P (yield ∷ ds) = EachLink P ds
 
 unfoldable pub EachHand : (ℕ → Type 0) → List Do → Type 0
 EachHand P [] = Unit {0}
 EachHand P (link a b ∷ ds) = EachHand P ds
 EachHand P (hand h ∷ ds) = P h × EachHand P ds
 EachHand P (free m ∷ ds) = EachHand P ds
+EachHand P (yield ∷ ds) = EachHand P ds
 
 unfoldable pub EachFree : (ℕ → Type 0) → List Do → Type 0
 EachFree P [] = Unit {0}
 EachFree P (link a b ∷ ds) = EachFree P ds
 EachFree P (hand h ∷ ds) = EachFree P ds
 EachFree P (free m ∷ ds) = P m × EachFree P ds
+EachFree P (yield ∷ ds) = EachFree P ds
 
 -- holds of one that is in it
 pub each-link : {a b : ℕ} (P : ℕ → ℕ → Type 0) (ds : List Do) → EachLink P ds → In (link a b) ds → P a b
@@ -257,6 +276,7 @@ each-link {a} {b} P (link x y ∷ ds) h i =
     (λ k. each-link P ds (h .1) k)
 each-link P (hand x ∷ ds) h i = in-cases i (λ e. clash cc) (λ k. each-link P ds h k)
 each-link P (free x ∷ ds) h i = in-cases i (λ e. clash cc) (λ k. each-link P ds h k)
+each-link P (yield ∷ ds) h i = in-cases i (λ e. clash cc) (λ k. each-link P ds h k)
 
 pub each-hand : {a : ℕ} (P : ℕ → Type 0) (ds : List Do) → EachHand P ds → In (hand a) ds → P a
 unfolding EachHand
@@ -265,6 +285,7 @@ each-hand P (link x y ∷ ds) h i = in-cases i (λ e. clash cc) (λ k. each-hand
 each-hand {a} P (hand x ∷ ds) h i =
     in-cases i (λ e. let at : a ≡ x = cc in subst P (sym at) (h .0)) (λ k. each-hand P ds (h .1) k)
 each-hand P (free x ∷ ds) h i = in-cases i (λ e. clash cc) (λ k. each-hand P ds h k)
+each-hand P (yield ∷ ds) h i = in-cases i (λ e. clash cc) (λ k. each-hand P ds h k)
 
 pub each-free : {a : ℕ} (P : ℕ → Type 0) (ds : List Do) → EachFree P ds → In (free a) ds → P a
 unfolding EachFree
@@ -273,14 +294,16 @@ each-free P (link x y ∷ ds) h i = in-cases i (λ e. clash cc) (λ k. each-free
 each-free P (hand x ∷ ds) h i = in-cases i (λ e. clash cc) (λ k. each-free P ds h k)
 each-free {a} P (free x ∷ ds) h i =
     in-cases i (λ e. let at : a ≡ x = cc in subst P (sym at) (h .0)) (λ k. each-free P ds (h .1) k)
+each-free P (yield ∷ ds) h i = in-cases i (λ e. clash cc) (λ k. each-free P ds h k)
 
--- releases only: no link and no transfer
+-- behind a release: no link and no transfer
 pub no-link : {a b : ℕ} (ds : List Do) → FreesOnly ds → In (link a b) ds → ⊥
 unfolding FreesOnly
 no-link [] o i = in-none i
 no-link (link x y ∷ ds) o i = o
 no-link (hand x ∷ ds) o i = o
 no-link (free m ∷ ds) o i = in-cases i (λ e. clash cc) (λ k. no-link ds o k)
+no-link (yield ∷ ds) o i = in-cases i (λ e. clash cc) (λ k. in-empty o k)
 
 pub no-hand : {h : ℕ} (ds : List Do) → FreesOnly ds → In (hand h) ds → ⊥
 unfolding FreesOnly
@@ -288,6 +311,7 @@ no-hand [] o i = in-none i
 no-hand (link x y ∷ ds) o i = o
 no-hand (hand x ∷ ds) o i = o
 no-hand (free m ∷ ds) o i = in-cases i (λ e. clash cc) (λ k. no-hand ds o k)
+no-hand (yield ∷ ds) o i = in-cases i (λ e. clash cc) (λ k. in-empty o k)
 
 -- what a vertex has left to do after a command
 pub tasks-onward : (c : Code) (ds : List Do) → tasks (onward c ds) ≡ ds
@@ -295,20 +319,46 @@ unfolding tasks onward
 tasks-onward c [] = refl
 tasks-onward c (d ∷ ds) = refl
 
--- an item that has made ms makes this vertex next, and others behind it; L is the program's last byte
-pub data Makes (L : ℕ) : Code → List ℕ → Kid → Type 0 where
-  finish-1 : {o : ℕ} {b r : Code} → Makes L (finish-at o b r) [] (kid r own-scope)
-  fork-1 : {o : ℕ} {b c r : Code} → Makes L (fork-at o b c r) [] (kid b own-scope)
-  fork-2 : {o m : ℕ} {b c r : Code} → Makes L (fork-at o b c r) (m ∷ []) (kid c own-scope)
-  future-1 : {o : ℕ} {b r : Code} → Makes L (future-at o b r) [] (awaiting L r)
+pub tasks-resumed : (c : Code) (d : Do) (ds : List Do) → Ordered (d ∷ ds) → tasks (resumed c d ds) ≡ ds
+unfolding tasks resumed Ordered
+tasks-resumed c (link a b) ds o = tasks-onward c ds
+tasks-resumed c (hand h) ds o = tasks-onward c ds
+tasks-resumed c (free m) ds o = tasks-onward c ds
+tasks-resumed c yield ds o = sym o
+
+-- it waits where a yield is left, or was done
+pub waits-onward : (c : Code) (ds : List Do) → waits (onward c ds) ≡ yields ds
+unfolding waits onward yields
+waits-onward c [] = refl
+waits-onward c (d ∷ ds) = refl
+
+pub waits-resumed : (c : Code) (d : Do) (ds : List Do) → waits (resumed c d ds) ≡ yields (d ∷ ds)
+unfolding waits resumed yields
+waits-resumed c (link a b) ds = waits-onward c ds
+waits-resumed c (hand h) ds = waits-onward c ds
+waits-resumed c (free m) ds = waits-onward c ds
+waits-resumed c yield ds = refl
+
+-- an item that has made ms makes this vertex next, and others behind it
+pub data Makes (Γ : Setting) : Code → List ℕ → Kid → Type 0 where
+  finish-1 : {o : ℕ} {b r : Code} → Makes Γ (finish-at o b r) [] (kid r own-scope)
+  fork-1 : {o : ℕ} {b c r : Code} → Makes Γ (fork-at o b c r) [] (kid b own-scope)
+  fork-2 : {o m : ℕ} {b c r : Code} → Γ .edition ≡ First → Makes Γ (fork-at o b c r) (m ∷ []) (kid c own-scope)
+  future-1 : {o : ℕ} {b r : Code} → Makes Γ (future-at o b r) [] (awaiting (Γ .lastByte) r)
 
 -- the same of its last vertex
-pub data Splits : Code → List ℕ → Kid → Type 0 where
-  async-1 : {o : ℕ} {b r : Code} → Splits (async-at o b r) [] (kid b own-scope)
-  finish-2 : {o m : ℕ} {b r : Code} → Splits (finish-at o b r) (m ∷ []) (kid b made-1)
-  fork-3 : {o m m' : ℕ} {b c r : Code} → Splits (fork-at o b c r) (m ∷ m' ∷ []) (kid r own-scope)
-  future-2 : {o m : ℕ} {b r : Code} → Splits (future-at o b r) (m ∷ []) (kid b made-1)
-  force-1 : {o n : ℕ} {b r : Code} → Splits (force-at o n b r) [] (kid r own-scope)
+pub data Splits (ed : Edition) : Code → List ℕ → Kid → Type 0 where
+  async-1 : {o : ℕ} {b r : Code} → Splits ed (async-at o b r) [] (kid b own-scope)
+  finish-2 : {o m : ℕ} {b r : Code} → Splits ed (finish-at o b r) (m ∷ []) (kid b made-1)
+  fork-3 : {o m m' : ℕ} {b c r : Code} → ed ≡ First → Splits ed (fork-at o b c r) (m ∷ m' ∷ []) (kid r own-scope)
+  fork-yields : {o m : ℕ} {b c r : Code} → ed ≡ Second → Splits ed (fork-at o b c r) (m ∷ []) (kid c own-scope)
+  future-2 : {o m : ℕ} {b r : Code} → Splits ed (future-at o b r) (m ∷ []) (kid b made-1)
+  force-1 : {o n : ℕ} {b r : Code} → Splits ed (force-at o n b r) [] (kid r own-scope)
+
+-- an edition is the first or the second
+pub either-edition : {P : Type 0} (ed : Edition) → (ed ≡ First → P) → (ed ≡ Second → P) → P
+either-edition First f g = f refl
+either-edition Second f g = g refl
 
 -- nothing is left of a list behind its end
 drop-none : {A : Type 0} (n : ℕ) → drop {A = A} n [] ≡ []
@@ -319,44 +369,103 @@ drop-none (suc n) = refl
 pub parts-are : {A : Type 0} {x y : A} {xs ys : List A} → x ∷ xs ≡ y ∷ ys → (x ≡ y) × (xs ≡ ys)
 parts-are e = (cc, cc)
 
-pub makes-at :
-    (L : ℕ) (c : Code) (ms : List ℕ) {k next : Kid} {more : List Kid} → drop (length ms) (kids L c) ≡ k ∷ (next ∷ more) → Makes L c ms k
-unfolding kids
-makes-at L (end-at o) ms h = clash (cc (drop-none {A = Kid} (length ms)))
-makes-at L (job-at o n r) ms h = clash (cc (drop-none {A = Kid} (length ms)))
-makes-at L (async-at o b r) [] h = clash cc
-makes-at L (async-at o b r) (m ∷ ms) h = clash (cc (drop-none {A = Kid} (length ms)))
-makes-at L (finish-at o b r) [] h = subst (λ (k : Kid). Makes L (finish-at o b r) [] k) (parts-are h .0) finish-1
-makes-at L (finish-at o b r) (m ∷ []) h = clash cc
-makes-at L (finish-at o b r) (m ∷ m' ∷ ms) h = clash (cc (drop-none {A = Kid} (length ms)))
-makes-at L (fork-at o b c r) [] h = subst (λ (k : Kid). Makes L (fork-at o b c r) [] k) (parts-are h .0) fork-1
-makes-at L (fork-at o b c r) (m ∷ []) h = subst (λ (k : Kid). Makes L (fork-at o b c r) (m ∷ []) k) (parts-are h .0) fork-2
-makes-at L (fork-at o b c r) (m ∷ m' ∷ []) h = clash cc
-makes-at L (fork-at o b c r) (m ∷ m' ∷ m'' ∷ ms) h = clash (cc (drop-none {A = Kid} (length ms)))
-makes-at L (future-at o b r) [] h = subst (λ (k : Kid). Makes L (future-at o b r) [] k) (parts-are h .0) future-1
-makes-at L (future-at o b r) (m ∷ []) h = clash cc
-makes-at L (future-at o b r) (m ∷ m' ∷ ms) h = clash (cc (drop-none {A = Kid} (length ms)))
-makes-at L (force-at o n b r) [] h = clash cc
-makes-at L (force-at o n b r) (m ∷ ms) h = clash (cc (drop-none {A = Kid} (length ms)))
+-- a fork makes at most three
+fork-end : {P : Type 0} (Γ : Setting) (r : Code) (n : ℕ) {k : Kid} {ks : List Kid} → drop (suc n) (forkKids (Γ .edition) r) ≡ k ∷ ks → P
+unfolding forkKids
+fork-end Γ r n {k} {ks} h = go (Γ .edition) h
+  where
+    go : {P : Type 0} (ed : Edition) → drop (suc n) (forkKids ed r) ≡ k ∷ ks → P
+    go First h = clash (cc (drop-none {A = Kid} n))
+    go Second h = clash cc
 
-pub splits-at : (L : ℕ) (c : Code) (ms : List ℕ) {k : Kid} → drop (length ms) (kids L c) ≡ k ∷ [] → Splits c ms k
-unfolding kids
-splits-at L (end-at o) ms h = clash (cc (drop-none {A = Kid} (length ms)))
-splits-at L (job-at o n r) ms h = clash (cc (drop-none {A = Kid} (length ms)))
-splits-at L (async-at o b r) [] h = subst (λ (k : Kid). Splits (async-at o b r) [] k) (parts-are h .0) async-1
-splits-at L (async-at o b r) (m ∷ ms) h = clash (cc (drop-none {A = Kid} (length ms)))
-splits-at L (finish-at o b r) [] h = clash cc
-splits-at L (finish-at o b r) (m ∷ []) h = subst (λ (k : Kid). Splits (finish-at o b r) (m ∷ []) k) (parts-are h .0) finish-2
-splits-at L (finish-at o b r) (m ∷ m' ∷ ms) h = clash (cc (drop-none {A = Kid} (length ms)))
-splits-at L (fork-at o b c r) [] h = clash cc
-splits-at L (fork-at o b c r) (m ∷ []) h = clash cc
-splits-at L (fork-at o b c r) (m ∷ m' ∷ []) h = subst (λ (k : Kid). Splits (fork-at o b c r) (m ∷ m' ∷ []) k) (parts-are h .0) fork-3
-splits-at L (fork-at o b c r) (m ∷ m' ∷ m'' ∷ ms) h = clash (cc (drop-none {A = Kid} (length ms)))
-splits-at L (future-at o b r) [] h = clash cc
-splits-at L (future-at o b r) (m ∷ []) h = subst (λ (k : Kid). Splits (future-at o b r) (m ∷ []) k) (parts-are h .0) future-2
-splits-at L (future-at o b r) (m ∷ m' ∷ ms) h = clash (cc (drop-none {A = Kid} (length ms)))
-splits-at L (force-at o n b r) [] h = subst (λ (k : Kid). Splits (force-at o n b r) [] k) (parts-are h .0) force-1
-splits-at L (force-at o n b r) (m ∷ ms) h = clash (cc (drop-none {A = Kid} (length ms)))
+pub makes-at :
+    (Γ : Setting) (c : Code) (ms : List ℕ) {k next : Kid} {more : List Kid} → drop (length ms) (kids Γ c) ≡ k ∷ (next ∷ more)
+    → Makes Γ c ms k
+unfolding kids forkKids
+makes-at Γ (end-at o) ms h = clash (cc (drop-none {A = Kid} (length ms)))
+makes-at Γ (job-at o n r) ms h = clash (cc (drop-none {A = Kid} (length ms)))
+makes-at Γ (async-at o b r) [] h = clash cc
+makes-at Γ (async-at o b r) (m ∷ ms) h = clash (cc (drop-none {A = Kid} (length ms)))
+makes-at Γ (finish-at o b r) [] h = subst (λ (k : Kid). Makes Γ (finish-at o b r) [] k) (parts-are h .0) finish-1
+makes-at Γ (finish-at o b r) (m ∷ []) h = clash cc
+makes-at Γ (finish-at o b r) (m ∷ m' ∷ ms) h = clash (cc (drop-none {A = Kid} (length ms)))
+makes-at Γ (fork-at o b c r) [] h = subst (λ (k : Kid). Makes Γ (fork-at o b c r) [] k) (parts-are h .0) fork-1
+makes-at Γ (fork-at o b c r) (m ∷ []) {k} {next} {more} h =
+    either-edition (Γ .edition)
+    (λ e. subst (λ (k : Kid). Makes Γ (fork-at o b c r) (m ∷ []) k) (parts-are h .0) (fork-2 e))
+    (λ e. let z : [] ≡ next ∷ more = subst (λ (ed : Edition). forkKids ed r ≡ next ∷ more) e (parts-are h .1) in clash cc)
+makes-at Γ (fork-at o b c r) (m ∷ m' ∷ []) {k} {next} {more} h =
+    either-edition (Γ .edition)
+    (λ e. let z : kid r own-scope ∷ [] ≡ k ∷ (next ∷ more) = subst (λ (ed : Edition). forkKids ed r ≡ k ∷ (next ∷ more)) e h in clash cc)
+    (λ e. let z : [] ≡ k ∷ (next ∷ more) = subst (λ (ed : Edition). forkKids ed r ≡ k ∷ (next ∷ more)) e h in clash cc)
+makes-at Γ (fork-at o b c r) (m ∷ m' ∷ m'' ∷ ms) h = fork-end Γ r (length ms) h
+makes-at Γ (future-at o b r) [] h = subst (λ (k : Kid). Makes Γ (future-at o b r) [] k) (parts-are h .0) future-1
+makes-at Γ (future-at o b r) (m ∷ []) h = clash cc
+makes-at Γ (future-at o b r) (m ∷ m' ∷ ms) h = clash (cc (drop-none {A = Kid} (length ms)))
+makes-at Γ (force-at o n b r) [] h = clash cc
+makes-at Γ (force-at o n b r) (m ∷ ms) h = clash (cc (drop-none {A = Kid} (length ms)))
+
+pub splits-at : (Γ : Setting) (c : Code) (ms : List ℕ) {k : Kid} → drop (length ms) (kids Γ c) ≡ k ∷ [] → Splits (Γ .edition) c ms k
+unfolding kids forkKids
+splits-at Γ (end-at o) ms h = clash (cc (drop-none {A = Kid} (length ms)))
+splits-at Γ (job-at o n r) ms h = clash (cc (drop-none {A = Kid} (length ms)))
+splits-at Γ (async-at o b r) [] h = subst (λ (k : Kid). Splits (Γ .edition) (async-at o b r) [] k) (parts-are h .0) async-1
+splits-at Γ (async-at o b r) (m ∷ ms) h = clash (cc (drop-none {A = Kid} (length ms)))
+splits-at Γ (finish-at o b r) [] h = clash cc
+splits-at Γ (finish-at o b r) (m ∷ []) h = subst (λ (k : Kid). Splits (Γ .edition) (finish-at o b r) (m ∷ []) k) (parts-are h .0) finish-2
+splits-at Γ (finish-at o b r) (m ∷ m' ∷ ms) h = clash (cc (drop-none {A = Kid} (length ms)))
+splits-at Γ (fork-at o b c r) [] h = clash cc
+splits-at Γ (fork-at o b c r) (m ∷ []) {k} h =
+    either-edition (Γ .edition)
+    (λ e. let z : kid r own-scope ∷ [] ≡ [] = subst (λ (ed : Edition). forkKids ed r ≡ []) e (parts-are h .1) in clash cc)
+    (λ e. subst (λ (k : Kid). Splits (Γ .edition) (fork-at o b c r) (m ∷ []) k) (parts-are h .0) (fork-yields e))
+splits-at Γ (fork-at o b c r) (m ∷ m' ∷ []) {k} h =
+    either-edition (Γ .edition)
+    (λ e.
+    let z : kid r own-scope ∷ [] ≡ k ∷ [] = subst (λ (ed : Edition). forkKids ed r ≡ k ∷ []) e h in
+    subst (λ (k : Kid). Splits (Γ .edition) (fork-at o b c r) (m ∷ m' ∷ []) k) (parts-are z .0) (fork-3 e))
+    (λ e. let z : [] ≡ k ∷ [] = subst (λ (ed : Edition). forkKids ed r ≡ k ∷ []) e h in clash cc)
+splits-at Γ (fork-at o b c r) (m ∷ m' ∷ m'' ∷ ms) h = fork-end Γ r (length ms) h
+splits-at Γ (future-at o b r) [] h = clash cc
+splits-at Γ (future-at o b r) (m ∷ []) h = subst (λ (k : Kid). Splits (Γ .edition) (future-at o b r) (m ∷ []) k) (parts-are h .0) future-2
+splits-at Γ (future-at o b r) (m ∷ m' ∷ ms) h = clash (cc (drop-none {A = Kid} (length ms)))
+splits-at Γ (force-at o n b r) [] h = subst (λ (k : Kid). Splits (Γ .edition) (force-at o n b r) [] k) (parts-are h .0) force-1
+splits-at Γ (force-at o n b r) (m ∷ ms) h = clash (cc (drop-none {A = Kid} (length ms)))
+
+-- What the item of each kind does behind its split; the edition's own is the fork's.
+pub todo-async : (ed : Edition) (o : ℕ) (b r : Code) (v σ f n : ℕ) → todo ed v σ f (n ∷ []) (async-at o b r) ≡ link n σ ∷ free n ∷ []
+unfolding todo joins commandsOf kindOf resolved rowOf
+todo-async ed o b r v σ f n = refl
+
+pub todo-finish :
+    (ed : Edition) (o : ℕ) (b r : Code) (v σ f m n : ℕ)
+    → todo ed v σ f (m ∷ n ∷ []) (finish-at o b r) ≡ link n m ∷ hand m ∷ free m ∷ free n ∷ []
+unfolding todo joins commandsOf kindOf resolved rowOf
+todo-finish ed o b r v σ f m n = refl
+
+pub todo-fork :
+    {ed : Edition} → ed ≡ First → (o : ℕ) (b c r : Code) (v σ f m m' n : ℕ)
+    → todo ed v σ f (m ∷ m' ∷ n ∷ []) (fork-at o b c r) ≡ link m n ∷ link m' n ∷ hand n ∷ free n ∷ free m ∷ free m' ∷ []
+unfolding todo joins commandsOf kindOf resolved rowOf forkRow
+todo-fork e o b c r v σ f m m' n = ap (λ ed. todo ed v σ f (m ∷ m' ∷ n ∷ []) (fork-at o b c r)) e
+
+pub todo-fork-yields :
+    {ed : Edition} → ed ≡ Second → (o : ℕ) (b c r : Code) (v σ f m n : ℕ)
+    → todo ed v σ f (m ∷ n ∷ []) (fork-at o b c r) ≡ link m v ∷ link n v ∷ free m ∷ free n ∷ yield ∷ []
+unfolding todo joins commandsOf kindOf resolved rowOf forkRow
+todo-fork-yields e o b c r v σ f m n = ap (λ ed. todo ed v σ f (m ∷ n ∷ []) (fork-at o b c r)) e
+
+pub todo-future :
+    (ed : Edition) (o : ℕ) (b r : Code) (v σ f m n : ℕ)
+    → todo ed v σ f (m ∷ n ∷ []) (future-at o b r) ≡ link n m ∷ free m ∷ free n ∷ []
+unfolding todo joins commandsOf kindOf resolved rowOf
+todo-future ed o b r v σ f m n = refl
+
+-- a force: f is the vertex that its future made first
+pub todo-force :
+    (ed : Edition) (o i : ℕ) (b r : Code) (v σ f n : ℕ) → todo ed v σ f (n ∷ []) (force-at o i b r) ≡ link f n ∷ hand n ∷ free n ∷ []
+unfolding todo joins commandsOf kindOf resolved rowOf
+todo-force ed o i b r v σ f n = refl
 
 -- a vertex that is not over has been made
 pub below : {S : State} → Shape S → (u : ℕ) → (S .control u ≡ over → ⊥) → u < S .count

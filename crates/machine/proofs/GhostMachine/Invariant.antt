@@ -13,7 +13,7 @@ use mathlib.Core.List.{List, [], _∷_, map}
 use mathlib.Core.Option.{Option, none, some}
 use Rattle.program.specs.Located.{Code, end-at, job-at, async-at, finish-at, fork-at, future-at, force-at, startOf, last, codeAt}
 use Rattle.program.proofs.OpenLaws.{Opens}
-use Rattle.machine.proofs.GhostMachine.Ghost.{Do, link, hand, free, Control, draft, fresh, ready, busy, joining, over, State, Kid, kids}
+use Rattle.machine.proofs.GhostMachine.Ghost.{Do, link, hand, free, yield, Control, draft, fresh, ready, busy, joining, over, State, Kid, kids}
 use Rattle.machine.proofs.GhostMachine.Ghost.{scopeFor, live}
 
 -- x is in a list
@@ -59,13 +59,21 @@ isItem (fork-at o b c r) = true
 isItem (future-at o b r) = true
 isItem (force-at o n b r) = true
 
--- new or released
+-- a yield is among them
+unfoldable pub yields : List Do → Bool
+yields [] = false
+yields (link a b ∷ ds) = yields ds
+yields (hand h ∷ ds) = yields ds
+yields (free m ∷ ds) = yields ds
+yields (yield ∷ ds) = true
+
+-- new or released, or to be released again before it does anything else
 unfoldable pub waits : Control → Bool
 waits (draft c) = true
 waits (fresh c) = true
 waits (ready c) = true
 waits (busy c ms) = false
-waits (joining c d ds) = false
+waits (joining c d ds) = yields (d ∷ ds)
 waits over = false
 
 unfoldable pub isNew : Control → Bool
@@ -122,18 +130,20 @@ Drafts S v all [] ks = Unit {0}
 Drafts S v all (m ∷ ms) [] = ⊥
 Drafts S v all (m ∷ ms) (k ∷ ks) = Draft S v all m k × Drafts S v all ms ks
 
--- behind a release come releases only
+-- behind a release come releases only, and a yield at the end
 unfoldable pub FreesOnly : List Do → Type 0
 FreesOnly [] = Unit {0}
 FreesOnly (link a b ∷ ds) = ⊥
 FreesOnly (hand h ∷ ds) = ⊥
 FreesOnly (free m ∷ ds) = FreesOnly ds
+FreesOnly (yield ∷ ds) = ds ≡ []
 
 unfoldable pub Ordered : List Do → Type 0
 Ordered [] = Unit {0}
 Ordered (link a b ∷ ds) = Ordered ds
 Ordered (hand h ∷ ds) = Ordered ds
 Ordered (free m ∷ ds) = FreesOnly ds
+Ordered (yield ∷ ds) = ds ≡ []
 
 -- an open future's first vertex, as the source of an edge to b, which is still to be released
 pub record Forces (S : State) (a b : ℕ) (ds : List Do) : Type 0 where
@@ -151,7 +161,7 @@ pub record Fits (S : State) (t : ℕ) (ds : List Do) : Type 0 where
   -- a vertex is released behind its scope
   pub free-scope : (m : ℕ) → In (free m) ds → (isNew (S .control (S .scope m)) ≡ false) ⊎ Precedes (free (S .scope m)) (free m) ds
   pub link-from : (a b : ℕ) → In (link a b) ds → In (free a) ds ⊎ Forces S a b ds
-  pub link-to : (a b : ℕ) → In (link a b) ds → In (free b) ds ⊎ (b ≡ S .scope t)
+  pub link-to : (a b : ℕ) → In (link a b) ds → In (free b) ds ⊎ ((b ≡ S .scope t) ⊎ ((b ≡ t) × (yields ds ≡ true)))
   pub link-new : (a b : ℕ) → In (link a b) ds → S .edge a b ≡ false
   pub hand-to : (h : ℕ) → In (hand h) ds → In (free h) ds
   pub hand-new : (h x : ℕ) → In (hand h) ds → S .edge h x ≡ false
@@ -165,7 +175,7 @@ pub record Shape (S : State) : Type 0 where
   pub beyond : (u : ℕ) → S .count ≤ u → S .control u ≡ over
   pub within : (a b : ℕ) → S .edge a b ≡ true → (a < S .count) × (b < S .count)
   pub scope-within : (v : ℕ) → v < S .count → S .scope v < S .count
-  pub under-way : (v : ℕ) (c : Code) (ms : List ℕ) → S .control v ≡ busy c ms → Drafts S v ms ms (kids (S .lastByte) c) × Once ms
+  pub under-way : (v : ℕ) (c : Code) (ms : List ℕ) → S .control v ≡ busy c ms → Drafts S v ms ms (kids (S .setting) c) × Once ms
   pub drafts : (m : ℕ) (k : Code) → S .control m ≡ draft k → (c : Code) × (ms : List ℕ) × (S .control (S .maker m) ≡ busy c ms) × In m ms
   pub draft-bare : (m x : ℕ) (k : Code) → S .control m ≡ draft k → (S .edge x m ≡ false) × (S .edge m x ≡ false)
   pub freshes : (m : ℕ) (k : Code) → S .control m ≡ fresh k → In (free m) (tasksOf S (S .maker m))
@@ -183,6 +193,7 @@ pub record Ranks (S : State) : Type 0 where
   pub hand-rank : (t h : ℕ) → In (hand h) (tasksOf S t) → S .fin h ≤ S .fin t
   pub scope-rank : (v : ℕ) (c : Code) → HasItem S v c → S .fin v < S .rank (S .scope v)
   pub code-fin : (v : ℕ) (c : Code) → HasItem S v c → last c ≡ S .fin v
+  pub rank-start : (v : ℕ) (c : Code) → HasItem S v c → S .rank v ≤ startOf c
 
 pub record Roads (S : State) : Type 0 where
   pub into : (a b : ℕ) → Settled S a b → waits (S .control b) ≡ true

@@ -10,22 +10,23 @@ use mathlib.Core.Option.{Option, some, Option·some-injective, Option·none-ne-s
 use native.Mathlib.Nat.{lt-of-not-le}
 use native.Mathlib.Omega.{arith}
 use Rattle.graph.proofs.TestLaws.{equal?}
-use Rattle.program.specs.Encodings.{own-scope, made-1, firstEdition}
-use Rattle.program.specs.Located.{Code, end-at, job-at, future-at, startOf, last}
+use Rattle.program.specs.declared.Edition.{Edition}
+use Rattle.program.specs.Encodings.{own-scope, made-1}
+use Rattle.program.specs.Located.{Code, end-at, job-at, fork-at, future-at, startOf, last}
 use Rattle.program.proofs.LocatedLaws.{Laid, code-laid}
 use Rattle.program.proofs.OpenLaws.{Opens}
-use Rattle.machine.proofs.GhostMachine.Ghost.{Do, link, hand, free, Control, draft, fresh, ready, busy, joining, over, State, Kid, kid, put}
-use Rattle.machine.proofs.GhostMachine.Ghost.{goes, awaiting, kids, onward, woken, freed, among, opensBehind, withControl, withEdges}
-use Rattle.machine.proofs.GhostMachine.Ghost.{withOpens, grown, dropped, done, stirred, split, oneMore, scopeFor, todo, todoOf, joins}
-use Rattle.machine.proofs.GhostMachine.Ghost.{commandsOf, kindOf, resolved, behindSplit, Event, Move, begins, performs, stops, makes, splits}
+use Rattle.machine.proofs.GhostMachine.Ghost.{Do, link, hand, free, yield, Control, draft, fresh, ready, busy, joining, over, Setting, State, Kid, kid, put}
+use Rattle.machine.proofs.GhostMachine.Ghost.{forkGoes, goes, restOf, awaiting, kids, onward, resumed, woken, freed, among, opensBehind, withControl, withEdges}
+use Rattle.machine.proofs.GhostMachine.Ghost.{withOpens, withRanks, grown, dropped, done, stirred, split, oneMore, scopeFor, todoOf}
+use Rattle.machine.proofs.GhostMachine.Ghost.{resolved, behindSplit, Event, Move, begins, performs, stops, makes, splits}
 use Rattle.machine.proofs.GhostMachine.Ghost.{acts}
 use Rattle.machine.proofs.GhostMachine.Invariant.{In, here, later, tasks, tasksOf, codeOf, isItem, isNew, sits, Draft, Drafts, Shape}
-use Rattle.machine.proofs.GhostMachine.Invariant.{HasItem, bodies, Opened, Coded}
+use Rattle.machine.proofs.GhostMachine.Invariant.{HasItem, Ordered, bodies, Opened, Coded}
 use Rattle.machine.proofs.GhostMachine.GhostLaws.{put-same, put-other, put-below, put-cases, clash, apart, draft-new, busy-old, freed-cases}
-use Rattle.machine.proofs.GhostMachine.GhostLaws.{woken-cases, in-cases, in-none, parts-are, tasks-onward, EachHand, each-hand, new-below}
-use Rattle.machine.proofs.GhostMachine.GhostLaws.{Makes, finish-1, fork-1, fork-2, future-1, Splits, async-1, finish-2, fork-3, future-2}
-use Rattle.machine.proofs.GhostMachine.GhostLaws.{force-1, makes-at, splits-at, coded-below}
-use Rattle.machine.proofs.GhostMachine.RoadLaws.{code-onward, done-keeps, busy-below, busy-code, busy-sits}
+use Rattle.machine.proofs.GhostMachine.GhostLaws.{woken-cases, in-cases, in-none, parts-are, tasks-onward, tasks-resumed, resumed-cases, EachHand, each-hand, new-below}
+use Rattle.machine.proofs.GhostMachine.GhostLaws.{Makes, finish-1, fork-1, fork-2, future-1, Splits, async-1, finish-2, fork-3, fork-yields, future-2}
+use Rattle.machine.proofs.GhostMachine.GhostLaws.{force-1, makes-at, splits-at, coded-below, todo-future}
+use Rattle.machine.proofs.GhostMachine.RoadLaws.{code-onward, code-resumed, done-keeps, busy-below, busy-code, busy-sits}
 use Rattle.machine.proofs.GhostMachine.SplitLaws.{stirred-keeps}
 use Rattle.machine.proofs.GhostMachine.ShapeStep.{onward-old}
 use Rattle.machine.proofs.GhostMachine.ShapeMakes.{makes-item, splits-item, woken-in, hands-stand, with-own, with-kid, with-other}
@@ -235,6 +236,7 @@ done-old : (S : State) (v : ℕ) (d : Do) (u : ℕ) → isNew (S .control u) ≡
 unfolding done isNew
 done-old S v (link a b) u o = o
 done-old S v (hand h) u o = o
+done-old S v yield u o = o
 done-old S v (free m) u o =
     put-cases (λ x. isNew x ≡ false) (S .control) m (freed (S .control m)) u
     (λ e.
@@ -245,32 +247,34 @@ done-old S v (free m) u o =
 -- what is left to do of an item is done: controls and edges
 opened-done :
     {S : State} (v : ℕ) {c : Code} (d : Do) {ds : List Do} (e : ℕ → ℕ → Bool) → Shape S → Opened S → S .control v ≡ joining c d ds
-    → Opened (withEdges (withControl S (put (done S v d .control) v (onward c ds))) e)
-unfolding sits tasks codeOf
+    → Opened (withEdges (withControl S (put (done S v d .control) v (resumed c d ds))) e)
+unfolding sits tasks codeOf isNew
 opened-done {S} v {c} d {ds} e sh op h =
-    opened-turn v (done S v d .control) (onward c ds) e sh op
+    opened-turn v (done S v d .control) (resumed c d ds) e sh op
     (done-old S v d)
     (done-keeps sits (λ c. refl) S v d)
     (done-keeps tasks (λ c. refl) S v d)
     (done-keeps codeOf (λ c. refl) S v d)
-    (onward-old c ds)
+    (resumed-cases (λ x. isNew x ≡ false) c refl (λ d ds. refl) refl d ds)
     (λ z. clash (cc z))
-    (λ m i. subst (λ x. In (hand m) (tasks x)) (sym h) (later (subst (λ es. In (hand m) es) (tasks-onward c ds) i)))
-    (led-same (code-onward c ds ∙ sym (ap codeOf h)))
+    (λ m i. subst (λ x. In (hand m) (tasks x)) (sym h) (later (subst (λ es. In (hand m) es) (tasks-resumed c d ds (subst (λ x. Ordered (tasks x)) h (sh .todo-fits v .ordered))) i)))
+    (led-same (code-resumed c d ds ∙ sym (ap codeOf h)))
 
 -- and the rest is as it was
 opened-acts :
     {S : State} (v : ℕ) {c : Code} (d : Do) {ds : List Do} → Shape S → Opened S → S .control v ≡ joining c d ds
-    → Opened (withControl (done S v d) (put (done S v d .control) v (onward c ds)))
+    → Opened (withControl (done S v d) (put (done S v d .control) v (resumed c d ds)))
 unfolding done
 opened-acts {S} v (link a b) sh op h = opened-done v (link a b) (done S v (link a b) .edge) sh op h
 opened-acts {S} v (hand m) sh op h = opened-done v (hand m) (done S v (hand m) .edge) sh op h
 opened-acts {S} v (free m) sh op h = opened-done v (free m) (S .edge) sh op h
+opened-acts {S} v yield sh op h = opened-done v yield (S .edge) sh op h
 
 -- One vertex more, at n, made by v, whose item c is under way: v comes to x, the new one to y, the others to what g says, where these are
 -- seen as before; opened tells what is open.
 module _
-    {S : State} (v : ℕ) (g : ℕ → Control) (y x : Control) (σ low high : ℕ) (opened : ℕ → List (ℕ × Code)) {c : Code} {ms : List ℕ}
+    {S : State} (v : ℕ) (g : ℕ → Control) (y x : Control) (σ low high : ℕ) (opened : ℕ → List (ℕ × Code)) (ranks : ℕ → ℕ) {c : Code}
+    {ms : List ℕ}
     (sh : Shape S) (op : Opened S) (under-way : S .control v ≡ busy c ms) (item : isItem c ≡ true)
     (olds : (u : ℕ) → isNew (S .control u) ≡ false → isNew (g u) ≡ false)
     (sit : (u : ℕ) → sits (S .control u) ≡ true → sits (g u) ≡ true) (left : (u : ℕ) → tasks (g u) ≡ tasksOf S u)
@@ -280,7 +284,7 @@ module _
     (hands : (h : ℕ) → In (hand h) (tasks x) → h < S .count → sits (S .control h) ≡ true → ⊥)
   where
     abbrev More : State
-    More = withOpens (withControl (grown S v y σ low high) (put (put g (S .count) y) v x)) opened
+    More = withRanks (withOpens (withControl (grown S v y σ low high) (put (put g (S .count) y) v x)) opened) ranks
 
     there : v < S .count
     there = busy-below sh v under-way
@@ -332,30 +336,31 @@ module _
             like u (λ l. omega arith) (same u n n') (led-same (ap codeOf (with-other S v g y x u n n') ∙ codes u))
 
 -- code that is right inside an item: what the item makes
-makes-onto : {L : ℕ} {c : Code} {ms : List ℕ} {k : Kid} → Laid c → Makes L c ms k → Onto c (k .code)
+makes-onto : {Γ : Setting} {c : Code} {ms : List ℕ} {k : Kid} → Laid c → Makes Γ c ms k → Onto c (k .code)
 unfolding Laid Opens startOf isItem
 makes-onto l finish-1 = onto refl (omega (arith, l .0 .starts, l .0 .body, l .0 .ends)) (λ env h. h .1)
 makes-onto l fork-1 = onto refl (omega (arith, l .0 .starts)) (λ env h. h .0)
-makes-onto l fork-2 = onto refl (omega (arith, l .0 .starts, l .0 .left, l .0 .between)) (λ env h. h .1 .0)
-makes-onto {L} {c} l future-1 = onto-end c L
+makes-onto l (fork-2 _) = onto refl (omega (arith, l .0 .starts, l .0 .left, l .0 .between)) (λ env h. h .1 .0)
+makes-onto {Γ} {c} l future-1 = onto-end c (Γ .lastByte)
 
-splits-onto : {c : Code} {ms : List ℕ} {k : Kid} → Laid c → Splits c ms k → Onto c (k .code)
+splits-onto : {ed : Edition} {c : Code} {ms : List ℕ} {k : Kid} → Laid c → Splits ed c ms k → Onto c (k .code)
 unfolding Laid Opens startOf isItem
 splits-onto l async-1 = onto refl (omega (arith, l .0 .starts)) (λ env h. h .0)
 splits-onto l finish-2 = onto refl (omega (arith, l .0 .starts)) (λ env h. h .0)
-splits-onto l fork-3 =
+splits-onto l (fork-3 _) =
     onto refl (omega (arith, l .0 .starts, l .0 .left, l .0 .between, l .0 .right, l .0 .ends)) (λ env h. h .1 .1)
+splits-onto l (fork-yields _) = onto refl (omega (arith, l .0 .starts, l .0 .left, l .0 .between)) (λ env h. h .1 .0)
 splits-onto l future-2 = onto refl (omega (arith, l .0 .starts)) (λ env h. h .0)
 splits-onto l force-1 = onto refl (omega (arith, l .0 .starts)) (λ env h. h .1)
 
 -- a vertex is made that is not its item's last one
 opened-makes :
     {S : State} {v : ℕ} {c : Code} {ms : List ℕ} {k : Kid} → Laid c → Shape S → Opened S → S .control v ≡ busy c ms
-    → Makes (S .lastByte) c ms k → Opened (oneMore S v ms (busy c (ms ++ (S .count ∷ []))) k)
+    → Makes (S .setting) c ms k → Opened (oneMore S v ms (busy c (ms ++ (S .count ∷ []))) k)
 unfolding isNew tasks codeOf
 opened-makes {S} {v} {c} {ms} {k} l sh op h mk =
     opened-more v (S .control) (draft (k .code)) x (scopeFor S v ms k) (k .low) (k .high) (put (S .opens) (S .count) (S .opens v))
-    sh op h (makes-item mk) (λ u o. o) (λ u z. z) (λ u. refl) (λ u. refl) refl refl
+    (put (S .rank) (S .count) (k .low)) sh op h (makes-item mk) (λ u o. o) (λ u z. z) (λ u. refl) (λ u. refl) refl refl
     (led-to {k = k .code} (busy-code h) refl (makes-onto l mk))
     (λ u n n'. put-other (S .opens) (S .count) (S .opens v) u n')
     (put-same (S .opens) (S .count) (S .opens v))
@@ -389,22 +394,23 @@ stirred-sits = stirred-cases (λ x y. sits x ≡ true → sits y ≡ true) (λ x
 
 -- an item's last vertex is made, where what is open at v then is given
 opened-split :
-    {S : State} {v : ℕ} {c : Code} {ms : List ℕ} {k : Kid} (fs : List (ℕ × Code)) → Laid c → Shape S → Opened S
-    → S .control v ≡ busy c ms → Splits c ms k → Opener S (split S v ms (behindSplit S v (ms ++ (S .count ∷ [])) c) fs k) v
-    → Opened (split S v ms (behindSplit S v (ms ++ (S .count ∷ [])) c) fs k)
+    {S : State} {v : ℕ} {c : Code} {ms : List ℕ} {k : Kid} (fs : List (ℕ × Code)) (ρ : ℕ) → Laid c → Shape S → Opened S
+    → S .control v ≡ busy c ms → Splits (S .setting .edition) c ms k
+    → Opener S (split S v ms (behindSplit S v (ms ++ (S .count ∷ [])) c) fs ρ k) v
+    → Opened (split S v ms (behindSplit S v (ms ++ (S .count ∷ [])) c) fs ρ k)
 unfolding tasks codeOf
-opened-split {S} {v} {c} {ms} {k} fs l sh op h sp own =
-    opened-more v (stirred (S .control) ms) (fresh (k .code)) (onward (goes (S .lastByte) c) ds) (scopeFor S v ms k) (k .low) (k .high)
-    (put before v fs) sh op h (splits-item sp)
+opened-split {S} {v} {c} {ms} {k} fs ρ l sh op h sp own =
+    opened-more v (stirred (S .control) ms) (fresh (k .code)) (onward (goes (S .setting) c) ds) (scopeFor S v ms k) (k .low) (k .high)
+    (put before v fs) (put (put (S .rank) (S .count) (k .low)) v ρ) sh op h (splits-item sp)
     (stirred-old (S .control) ms)
     (stirred-sits (S .control) ms)
     (stirred-keeps tasks (λ c. refl) (S .control) ms)
     (stirred-keeps codeOf (λ c. refl) (S .control) ms)
-    (onward-old (goes (S .lastByte) c) ds) refl
+    (onward-old (goes (S .setting) c) ds) refl
     (led-to {k = k .code} (busy-code h) refl (splits-onto l sp))
     (λ u n n'. put-other before v fs u n ∙ put-other (S .opens) (S .count) (S .opens v) u n')
     (put-other before v fs (S .count) (λ e. absurd (omega (arith, busy-below sh v h))) ∙ put-same (S .opens) (S .count) (S .opens v))
-    (λ u i. hands-stand sh h sp u (subst (λ es. In (hand u) es) (tasks-onward (goes (S .lastByte) c) ds) i))
+    (λ u i. hands-stand sh h sp u (subst (λ es. In (hand u) es) (tasks-onward (goes (S .setting) c) ds) i))
     own
   where
     ds : List Do
@@ -415,23 +421,24 @@ opened-split {S} {v} {c} {ms} {k} fs l sh op h sp own =
 
 -- what is open at v behind an item that is no future
 split-like :
-    {S : State} {v : ℕ} {c : Code} {ms : List ℕ} (k : Kid) (fs : List (ℕ × Code)) (ds : List Do) → Shape S → S .control v ≡ busy c ms
-    → fs ≡ S .opens v → Onto c (goes (S .lastByte) c) → Opener S (split S v ms (onward (goes (S .lastByte) c) ds) fs k) v
-split-like {S} {v} {c} {ms} k fs ds sh h e o =
+    {S : State} {v : ℕ} {c : Code} {ms : List ℕ} (k : Kid) (fs : List (ℕ × Code)) (ρ : ℕ) (ds : List Do) → Shape S
+    → S .control v ≡ busy c ms → fs ≡ S .opens v → Onto c (goes (S .setting) c)
+    → Opener S (split S v ms (onward (goes (S .setting) c) ds) fs ρ k) v
+split-like {S} {v} {c} {ms} k fs ρ ds sh h e o =
     like v (λ l. busy-below sh v h) (put-same (put (S .opens) (S .count) (S .opens v)) v fs ∙ e)
-    (led-to {k = goes (S .lastByte) c} (busy-code h)
-    (ap codeOf (with-own S v (stirred (S .control) ms) (fresh (k .code)) (onward (goes (S .lastByte) c) ds))
-    ∙ code-onward (goes (S .lastByte) c) ds)
+    (led-to {k = goes (S .setting) c} (busy-code h)
+    (ap codeOf (with-own S v (stirred (S .control) ms) (fresh (k .code)) (onward (goes (S .setting) c) ds))
+    ∙ code-onward (goes (S .setting) c) ds)
     o)
 
 -- and behind a future, whose first vertex is m
 split-opening :
-    {S : State} {v o m : ℕ} {b r : Code} → Laid (future-at o b r) → Shape S → Opened S → S .control v ≡ busy (future-at o b r) (m ∷ [])
+    {S : State} {v o m : ℕ} {b r : Code} (ρ : ℕ) → Laid (future-at o b r) → Shape S → Opened S → S .control v ≡ busy (future-at o b r) (m ∷ [])
     → Opening S
-    (split S v (m ∷ []) (behindSplit S v (m ∷ S .count ∷ []) (future-at o b r)) ((m, b) ∷ S .opens v) (kid b made-1)) v m b
+    (split S v (m ∷ []) (behindSplit S v (m ∷ S .count ∷ []) (future-at o b r)) ((m, b) ∷ S .opens v) ρ (kid b made-1)) v m b
     (future-at o b r) r
-unfolding Laid Drafts kids goes isItem startOf sits Opens todo joins commandsOf kindOf firstEdition resolved EachHand tasks
-split-opening {S} {v} {o} {m} {b} {r} l sh op h =
+unfolding Laid Drafts kids goes isItem startOf sits Opens resolved EachHand tasks
+split-opening {S} {v} {o} {m} {b} {r} ρ l sh op h =
     record {
       before = there;
       opens-are = put-same (put (S .opens) (S .count) (S .opens v)) v fs;
@@ -442,7 +449,9 @@ split-opening {S} {v} {o} {m} {b} {r} l sh op h =
       unhanded =
           λ t.
           put-cases (λ y. In (hand m) (tasks y) → ⊥) (put g (S .count) (fresh b)) v x t
-          (λ e i. each-hand (λ w. ⊥) _ tt (subst (λ es. In (hand m) es) (tasks-onward r _) i))
+          (λ e i.
+          each-hand (λ w. ⊥) (link (S .count) m ∷ free m ∷ free (S .count) ∷ []) tt
+          (subst (λ es. In (hand m) es) (tasks-onward r _ ∙ todo-future _ o b r v (S .scope v) _ m (S .count)) i))
           (λ n.
           put-cases (λ y. In (hand m) (tasks y) → ⊥) g (S .count) (fresh b) t
           (λ e i. in-none i)
@@ -465,7 +474,7 @@ split-opening {S} {v} {o} {m} {b} {r} l sh op h =
     x = behindSplit S v (m ∷ S .count ∷ []) (future-at o b r)
 
     S' : State
-    S' = split S v (m ∷ []) x fs (kid b made-1)
+    S' = split S v (m ∷ []) x fs ρ (kid b made-1)
 
     g : ℕ → Control
     g = stirred (S .control) (m ∷ [])
@@ -473,7 +482,7 @@ split-opening {S} {v} {o} {m} {b} {r} l sh op h =
     there : v < S .count
     there = busy-below sh v h
 
-    d : Draft S v (m ∷ []) m (awaiting (S .lastByte) r)
+    d : Draft S v (m ∷ []) m (awaiting (S .setting .lastByte) r)
     d = sh .under-way v _ _ h .0 .0
 
     lm : m < S .count
@@ -490,21 +499,29 @@ split-opening {S} {v} {o} {m} {b} {r} l sh op h =
 
 -- an item's last vertex is made
 opened-splits :
-    {S : State} {v : ℕ} {c : Code} {ms : List ℕ} {k : Kid} → Laid c → Shape S → Opened S → S .control v ≡ busy c ms → Splits c ms k
+    {S : State} {v : ℕ} {c : Code} {ms : List ℕ} {k : Kid} (ρ : ℕ) → Laid c → Shape S → Opened S → S .control v ≡ busy c ms
+    → Splits (S .setting .edition) c ms k
     → Opened
-    (split S v ms (behindSplit S v (ms ++ (S .count ∷ [])) c) (opensBehind (S .opens v) (ms ++ (S .count ∷ [])) c) k)
-unfolding Laid Opens startOf isItem goes opensBehind
-opened-splits l sh op h (async-1 {b = b}) =
-    opened-split _ l sh op h async-1
-    (split-like (kid b own-scope) _ _ sh h refl (onto refl (omega (arith, l .0 .starts, l .0 .body, l .0 .ends)) (λ env q. q .1)))
-opened-splits l sh op h (finish-2 {b = b}) =
-    opened-split _ l sh op h finish-2 (split-like (kid b made-1) _ _ sh h refl (onto-end _ _))
-opened-splits l sh op h (fork-3 {r = r}) =
-    opened-split _ l sh op h fork-3 (split-like (kid r own-scope) _ _ sh h refl (onto-end _ _))
-opened-splits l sh op h (future-2 {m = m} {b = b} {r = r}) =
-    opened-split _ l sh op h future-2 (opening m b _ r (split-opening l sh op h))
-opened-splits l sh op h (force-1 {r = r}) =
-    opened-split _ l sh op h force-1 (split-like (kid r own-scope) _ _ sh h refl (onto-end _ _))
+    (split S v ms (behindSplit S v (ms ++ (S .count ∷ [])) c) (opensBehind (S .opens v) (ms ++ (S .count ∷ [])) c) ρ k)
+unfolding Laid Opens startOf isItem goes forkGoes opensBehind
+opened-splits ρ l sh op h (async-1 {b = b}) =
+    opened-split _ ρ l sh op h async-1
+    (split-like (kid b own-scope) _ ρ _ sh h refl (onto refl (omega (arith, l .0 .starts, l .0 .body, l .0 .ends)) (λ env q. q .1)))
+opened-splits ρ l sh op h (finish-2 {b = b}) =
+    opened-split _ ρ l sh op h finish-2 (split-like (kid b made-1) _ ρ _ sh h refl (onto-end _ _))
+opened-splits {S} ρ l sh op h (fork-3 {o = o} {b = b} {c = c} {r = r} e) =
+    opened-split _ ρ l sh op h (fork-3 e)
+    (split-like (kid r own-scope) _ ρ _ sh h refl
+    (subst (λ ed. Onto (fork-at o b c r) (forkGoes ed (S .setting .lastByte) r)) (sym e) (onto-end _ _)))
+opened-splits {S} ρ l sh op h (fork-yields {o = o} {b = b} {c = c} {r = r} e) =
+    opened-split _ ρ l sh op h (fork-yields e)
+    (split-like (kid c own-scope) _ ρ _ sh h refl
+    (subst (λ ed. Onto (fork-at o b c r) (forkGoes ed (S .setting .lastByte) r)) (sym e)
+    (onto refl (omega (arith, l .0 .starts, l .0 .left, l .0 .between, l .0 .right, l .0 .ends)) (λ env q. q .1 .1))))
+opened-splits ρ l sh op h (future-2 {m = m} {b = b} {r = r}) =
+    opened-split _ ρ l sh op h future-2 (opening m b _ r (split-opening ρ l sh op h))
+opened-splits ρ l sh op h (force-1 {r = r}) =
+    opened-split _ ρ l sh op h force-1 (split-like (kid r own-scope) _ ρ _ sh h refl (onto-end _ _))
 
 -- Every move leaves at each vertex the futures that are open at its place.
 pub opened-kept :
@@ -513,23 +530,23 @@ opened-kept p l sh co op (begins h none) = opened-begins sh op h
 opened-kept {v} p l sh co op (performs h) = opened-performs (code-laid p _ l (co v _ (busy-code h))) sh op h
 opened-kept {v} {S} p l sh co op (stops h) = opened-stops v (dropped (S .edge) v) sh op
 opened-kept {v} {S} p l sh co op (makes {c = c} {ms = ms} h d) =
-    opened-makes (code-laid p _ l (co v _ (busy-code h))) sh op h (makes-at (S .lastByte) c ms d)
+    opened-makes (code-laid p _ l (co v _ (busy-code h))) sh op h (makes-at (S .setting) c ms d)
 opened-kept {v} {S} p l sh co op (splits {c = c} {ms = ms} h d) =
-    opened-splits (code-laid p _ l (co v _ (busy-code h))) sh op h (splits-at (S .lastByte) c ms d)
+    opened-splits (startOf (restOf c)) (code-laid p _ l (co v _ (busy-code h))) sh op h (splits-at (S .setting) c ms d)
 opened-kept {v} p l sh co op (acts {d = d} h) = opened-acts v d sh op h
 
 -- None is open at the beginning.
-pub opened-beginning : (p : Code) (L : ℕ) → Opens [] p → Opened (beginning p L)
+pub opened-beginning : (p : Code) (Γ : Setting) → Opens [] p → Opened (beginning p Γ)
 unfolding beginning isNew bodies Opens
-opened-beginning p L h =
+opened-beginning p Γ h =
     record {
-      root = beginning-control p L (λ x. isNew x ≡ false) 0 (λ e. refl) (λ e. refl) (λ n n'. refl);
+      root = beginning-control p Γ (λ x. isNew x ≡ false) 0 (λ e. refl) (λ e. refl) (λ n n'. refl);
       there = λ v t b lt i. in-none i;
       unhanded = λ v t u b lt i. in-none i;
       next-out = λ v t b fs lt e. clash cc;
       scoped =
           λ v c q.
-          beginning-code p L v q
+          beginning-code p Γ v q
           (λ e e'. subst (λ (c : Code). Opens [] c) e' h)
           (λ e e'. subst (λ (c : Code). Opens [] c) e' tt);
       before = λ v t b c i. in-none i;

@@ -9,10 +9,10 @@ use mathlib.Core.Option.{some}
 use borrow.Author.Tests.{eq-eqb, ne-eqb, eqb-true, eqb-false, not-true}
 use Rattle.graph.proofs.TestLaws.{not-of-false, both-true, both-left, both-right, either-left, either-right, either-cases}
 use Rattle.program.specs.Located.{Code, force-at}
-use Rattle.machine.proofs.GhostMachine.Ghost.{Do, link, hand, free, Control, draft, fresh, ready, busy, joining, over, State, onward, freed}
+use Rattle.machine.proofs.GhostMachine.Ghost.{Do, link, hand, free, yield, Control, draft, fresh, ready, busy, joining, over, State, onward, resumed, freed}
 use Rattle.machine.proofs.GhostMachine.Ghost.{done, linked, handed, dropped, live, forcedBy}
 use Rattle.machine.proofs.GhostMachine.Invariant.{tasks, codeOf, isItem, waits, isDraft, sits, Shape, Opened}
-use Rattle.machine.proofs.GhostMachine.GhostLaws.{clash, below, put-keeps, freed-keeps, onward-cases, forced-open}
+use Rattle.machine.proofs.GhostMachine.GhostLaws.{clash, below, put-keeps, freed-keeps, onward-cases, resumed-cases, forced-open}
 
 -- what is seen of controls
 pub fresh-idle : {x : Control} {c : Code} → x ≡ fresh c → tasks x ≡ []
@@ -164,10 +164,6 @@ pub code-onward : (c : Code) (ds : List Do) → codeOf (onward c ds) ≡ some c
 unfolding codeOf
 code-onward c = onward-cases (λ x. codeOf x ≡ some c) c refl (λ d ds. refl)
 
-pub waits-onward : (c : Code) (ds : List Do) → waits (onward c ds) ≡ false
-unfolding waits
-waits-onward c = onward-cases (λ x. waits x ≡ false) c refl (λ d ds. refl)
-
 pub draft-onward : (c : Code) (ds : List Do) → isDraft (onward c ds) ≡ false
 unfolding isDraft
 draft-onward c = onward-cases (λ x. isDraft x ≡ false) c refl (λ d ds. refl)
@@ -176,6 +172,19 @@ pub live-onward : (c : Code) (ds : List Do) → live (onward c ds) ≡ true
 unfolding live
 live-onward c = onward-cases (λ x. live x ≡ true) c refl (λ d ds. refl)
 
+-- and of one that has done a command
+pub code-resumed : (c : Code) (d : Do) (ds : List Do) → codeOf (resumed c d ds) ≡ some c
+unfolding codeOf
+code-resumed c = resumed-cases (λ x. codeOf x ≡ some c) c refl (λ d ds. refl) refl
+
+pub draft-resumed : (c : Code) (d : Do) (ds : List Do) → isDraft (resumed c d ds) ≡ false
+unfolding isDraft
+draft-resumed c = resumed-cases (λ x. isDraft x ≡ false) c refl (λ d ds. refl) refl
+
+pub live-resumed : (c : Code) (d : Do) (ds : List Do) → live (resumed c d ds) ≡ true
+unfolding live
+live-resumed c = resumed-cases (λ x. live x ≡ true) c refl (λ d ds. refl) refl
+
 -- a joining command leaves what is seen of controls, where a fresh and a released vertex are seen alike
 pub done-keeps :
     {B : Type 0} (g : Control → B) → ((c : Code) → g (ready c) ≡ g (fresh c)) → (S : State) (v : ℕ) (d : Do) (u : ℕ)
@@ -183,6 +192,7 @@ pub done-keeps :
 unfolding done
 done-keeps g e S v (link a b) u = refl
 done-keeps g e S v (hand k) u = refl
+done-keeps g e S v yield u = refl
 done-keeps g e S v (free m) u = put-keeps g (S .control) m (freed (S .control m)) (freed-keeps g e (S .control m)) u
 
 -- the vertex that a force names has been made

@@ -1,6 +1,6 @@
 -- Settled edges lead to waiting vertices, and from each vertex that has an item to its scope; every move leaves it so.
 --
--- A link, a hand-over, a release and a make that does not split leave the settled edges, the codes and the scopes as they are. A start
+-- A link, a hand-over, a release, a yield and a make that does not split leave the settled edges, the codes and the scopes as they are. A start
 -- needs that nothing settled leads to a released vertex that no held edge leads to (`blocked`). Nothing settled leads to a vertex that
 -- executes, so the ways of others do not pass it when it stops or splits its item. At a split the vertices that are made get the way of
 -- the vertex that made them: the one that its edges are handed to has it with another source, and those that lead to this one lead on. Of a
@@ -13,13 +13,13 @@ use mathlib.Core.List.{List, [], _∷_, _++_}
 use native.Mathlib.Omega.{arith}
 use Rattle.graph.proofs.TestLaws.{equal?, true-false}
 use Rattle.program.specs.Located.{Code, end-at, job-at}
-use Rattle.machine.proofs.GhostMachine.Ghost.{Do, link, hand, free, Control, draft, fresh, ready, busy, joining, over, State, put, onward}
+use Rattle.machine.proofs.GhostMachine.Ghost.{Do, link, hand, free, yield, Control, draft, fresh, ready, busy, joining, over, State, put, resumed}
 use Rattle.machine.proofs.GhostMachine.Ghost.{done, withControl, withEdges, grown, dropped, live, Event, Move, begins, performs, stops, makes}
 use Rattle.machine.proofs.GhostMachine.Ghost.{splits, acts}
 use Rattle.machine.proofs.GhostMachine.Invariant.{In, tasks, tasksOf, codeOf, isItem, waits, isDraft, Settled, Way, Shape, Roads, Opened}
-use Rattle.machine.proofs.GhostMachine.GhostLaws.{clash, put-same, put-other, put-cases, splits-at, in-empty, put-keeps, puts-keep}
-use Rattle.machine.proofs.GhostMachine.RoadLaws.{code-onward, waits-onward, draft-onward}
-use Rattle.machine.proofs.GhostMachine.SettledLaws.{Did, task-stood, settled-same, link-back, link-on, hand-back, hand-on, free-back, free-on}
+use Rattle.machine.proofs.GhostMachine.GhostLaws.{clash, put-same, put-other, put-cases, splits-at, in-empty, put-keeps, puts-keep, waits-resumed}
+use Rattle.machine.proofs.GhostMachine.RoadLaws.{code-resumed, draft-resumed}
+use Rattle.machine.proofs.GhostMachine.SettledLaws.{Did, task-stood, settled-same, link-back, link-on, hand-back, hand-on, plain-back, plain-on}
 use Rattle.machine.proofs.GhostMachine.SettledLaws.{acts-did, acts-keeps, stop-back, stop-on, source-below}
 use Rattle.machine.proofs.GhostMachine.Ways.{way-map, way-past, blocked, Bound, at-item, at-link, bound-way, bound-back, bound-same}
 use Rattle.machine.proofs.GhostMachine.Ways.{nothing-to}
@@ -49,26 +49,26 @@ kept {S} {S'} rs back on to less bounds =
     carried rs back to less
     (λ u b. let (b', e) = bounds u b in subst (λ (z : ℕ). Way (Settled S') u z) (sym e) (way-map on (bound-way rs b')))
 
--- a link, a hand-over, a release: v is bound as before
+-- a link, a hand-over, a release, a yield: v is bound as before
 acts-kept :
     {S S' : State} {v : ℕ} {c : Code} {d : Do} {ds : List Do} → Roads S → S .control v ≡ joining c d ds
-    → Did S S' v d ds → ((u : ℕ) → S' .control u ≡ put (done S v d .control) v (onward c ds) u) → ((u : ℕ) → S' .scope u ≡ S .scope u)
+    → Did S S' v d ds → ((u : ℕ) → S' .control u ≡ put (done S v d .control) v (resumed c d ds) u) → ((u : ℕ) → S' .scope u ≡ S .scope u)
     → ((x y : ℕ) → Settled S' x y → Settled S x y) → ((x y : ℕ) → Settled S x y → Settled S' x y) → Roads S'
 unfolding codeOf waits isDraft
 acts-kept {S} {S'} {v} {c} {d} {ds} rs q D f p back on =
-    kept rs back on (λ x y s. seen waits (λ c. refl) (waits-onward c ds) y ∙ rs .into x y s) (λ t d. task-stood D t)
+    kept rs back on (λ x y s. seen waits (λ c. refl) (waits-resumed c d ds) y ∙ rs .into x y s) (λ t d. task-stood D t)
     (λ u b. (bound-back (λ k h i. at-item k (sym (code u) ∙ h .0, h .1) (sym (drafts u) ∙ i)) (p u) (λ a b. task-stood D u) b, p u))
   where
     seen :
-        {B : Type 0} (g : Control → B) → ((c : Code) → g (ready c) ≡ g (fresh c)) → g (onward c ds) ≡ g (joining c d ds) → (u : ℕ)
+        {B : Type 0} (g : Control → B) → ((c : Code) → g (ready c) ≡ g (fresh c)) → g (resumed c d ds) ≡ g (joining c d ds) → (u : ℕ)
         → g (S' .control u) ≡ g (S .control u)
     seen g h e u = ap g (f u) ∙ acts-keeps S v g h e q u
 
     code : (u : ℕ) → codeOf (S' .control u) ≡ codeOf (S .control u)
-    code = seen codeOf (λ c. refl) (code-onward c ds)
+    code = seen codeOf (λ c. refl) (code-resumed c d ds)
 
     drafts : (u : ℕ) → isDraft (S' .control u) ≡ isDraft (S .control u)
-    drafts = seen isDraft (λ c. refl) (draft-onward c ds)
+    drafts = seen isDraft (λ c. refl) (draft-resumed c d ds)
 
 -- a start: nothing settled led to v
 begins-kept :
@@ -215,13 +215,18 @@ roads-kept sh op rs (begins q f) = begins-kept sh rs q f
 roads-kept sh op rs (performs q) = performs-kept rs q
 roads-kept sh op rs (stops q) = stops-kept rs q
 roads-kept {S = S} sh op rs (makes {ms = ms} {k = k} q w) = makes-kept (k .code) (ms ++ (S .count ∷ [])) _ _ _ sh rs q
-roads-kept {S = S} sh op rs (splits {c = c} {ms = ms} q w) = splits-kept sh op rs q (splits-at (S .lastByte) c ms w)
+roads-kept {S = S} sh op rs (splits {c = c} {ms = ms} q w) = splits-kept sh op rs q (splits-at (S .setting) c ms w)
 roads-kept sh op rs (acts {d = link a b} q) =
-    let D = acts-did q in
+    let D = acts-did sh q in
     acts-kept rs q D (λ u. refl) (λ u. refl) (λ x y. link-back sh D (λ x y. refl)) (λ x y. link-on sh D (λ x y. refl))
 roads-kept sh op rs (acts {d = hand h} q) =
-    let D = acts-did q in
+    let D = acts-did sh q in
     acts-kept rs q D (λ u. refl) (λ u. refl) (λ x y. hand-back sh D (λ x y. refl)) (λ x y. hand-on sh D (λ x y. refl))
 roads-kept sh op rs (acts {d = free m} q) =
-    let D = acts-did q in
-    acts-kept rs q D (λ u. refl) (λ u. refl) (λ x y. free-back D (λ x y. refl)) (λ x y. free-on D (λ x y. refl))
+    let D = acts-did sh q in
+    acts-kept rs q D (λ u. refl) (λ u. refl) (λ x y. plain-back (λ h p. clash cc) D (λ x y. refl))
+    (λ x y. plain-on (λ h p. clash cc) (λ a b p. clash cc) D (λ x y. refl))
+roads-kept sh op rs (acts {d = yield} q) =
+    let D = acts-did sh q in
+    acts-kept rs q D (λ u. refl) (λ u. refl) (λ x y. plain-back (λ h p. clash cc) D (λ x y. refl))
+    (λ x y. plain-on (λ h p. clash cc) (λ a b p. clash cc) D (λ x y. refl))

@@ -1,6 +1,7 @@
 -- The split of an item. Nothing settled leads to the vertex that splits it, so the ways of others stay. The vertices that are made lead
 -- to their scope: by the way of the vertex that made them, whose edges they get; by an edge to the one that gets them; or by an edge to
--- the scope itself. The first vertex of a future has no item, and need not lead anywhere.
+-- the scope itself. The first vertex of a future has no item, and need not lead anywhere. Behind a fork of the second edition the vertex that
+-- splits it waits for those that it made.
 use Prim.Native.Nat.{ℕ, _<_}
 use mathlib.Core.Path.{_≡_, refl, sym, _∙_, ap, subst}
 use mathlib.Core.Bool.{true, false}
@@ -10,20 +11,22 @@ use mathlib.Core.Option.{some, Option·some-injective}
 use native.Mathlib.Omega.{arith}
 use borrow.Author.Tests.{ne-eqb}
 use Rattle.graph.proofs.TestLaws.{equal?, true-false, either-false}
+use Rattle.program.specs.declared.Edition.the-variants.{First}
 use Rattle.program.specs.Encodings.{own-scope, made-1}
 use Rattle.program.specs.Located.{Code, end-at, async-at, finish-at, fork-at, future-at, force-at}
-use Rattle.machine.proofs.GhostMachine.Ghost.{Do, link, hand, free, draft, fresh, busy, over, State, Kid, kid, awaiting, kids, goes, resolved}
+use Rattle.machine.proofs.GhostMachine.Ghost.{Do, link, hand, free, yield, draft, fresh, busy, over, State, Kid, kid, awaiting, kids, forkGoes, goes, resolved}
 use Rattle.machine.proofs.GhostMachine.Ghost.{among, live}
-use Rattle.machine.proofs.GhostMachine.Invariant.{In, here, later, tasks, tasksOf, codeOf, isItem, waits, isNew, Settled, held, Way, one, more}
+use Rattle.machine.proofs.GhostMachine.Invariant.{In, here, later, tasks, tasksOf, codeOf, isItem, yields, waits, isNew, Settled, held, Way, one, more}
 use Rattle.machine.proofs.GhostMachine.Invariant.{Draft, Drafts, Shape, Roads, Opened}
-use Rattle.machine.proofs.GhostMachine.GhostLaws.{clash, apart, draft-new, busy-old, over-old, Splits, async-1, finish-2, fork-3, future-2}
+use Rattle.machine.proofs.GhostMachine.GhostLaws.{clash, apart, draft-new, busy-old, over-old, Splits, async-1, finish-2, fork-3, fork-yields, future-2}
 use Rattle.machine.proofs.GhostMachine.GhostLaws.{force-1, in-empty}
 use Rattle.machine.proofs.GhostMachine.RoadLaws.{busy-code, busy-waits, busy-source, draft-waits, over-waits, busy-draft, busy-below}
 use Rattle.machine.proofs.GhostMachine.RoadLaws.{waits-live, forced-below}
 use Rattle.machine.proofs.GhostMachine.SettledLaws.{plan-cases, split-cases, split-old, split-given, split-own, split-new, own-held}
-use Rattle.machine.proofs.GhostMachine.SplitLaws.{itemSplit, Split, split-of, todo-async, todo-finish, todo-fork, todo-future, todo-force}
+use Rattle.machine.proofs.GhostMachine.SplitLaws.{itemSplit, Split, split-of}
+use Rattle.machine.proofs.GhostMachine.GhostLaws.{todo-async, todo-finish, todo-fork, todo-fork-yields, todo-future, todo-force}
 use Rattle.machine.proofs.GhostMachine.SplitLaws.{async-links, async-hands, finish-links, fork-links, future-links, future-hands, force-links}
-use Rattle.machine.proofs.GhostMachine.SplitLaws.{force-frees}
+use Rattle.machine.proofs.GhostMachine.SplitLaws.{force-frees, fork-yields-links, fork-yields-hands}
 use Rattle.machine.proofs.GhostMachine.Ways.{way-map, way-past, way-last, Bound, at-item, at-link, bound-way, bound-same, nothing-to}
 use Rattle.machine.proofs.GhostMachine.Ways.{nothing-to-draft}
 
@@ -111,7 +114,7 @@ module _ {S S' : State} {v : ℕ} {c : Code} {ms : List ℕ} {T : List Do} {σ :
 
   -- v goes to an end byte, and plans no edge to its scope
   v-unbound :
-      {o : ℕ} → Shape S → Split S S' v c ms T σ → goes (S .lastByte) c ≡ end-at o → ((a : ℕ) → In (link a (S .scope v)) T → ⊥) → Bound S' v → ⊥
+      {o : ℕ} → Shape S → Split S S' v c ms T σ → goes (S .setting) c ≡ end-at o → ((a : ℕ) → In (link a (S .scope v)) T → ⊥) → Bound S' v → ⊥
   v-unbound {o} sh D e n =
       end-unbound (D .self-code ∙ ap (λ (k : Code). some k) e)
       (λ a i.
@@ -228,12 +231,12 @@ finish-roads {v = v} {m = m} {r = r} {S = S} {S' = S'} sh rs D =
 
 -- a fork: the new vertex, for the rest, gets v's way, and those for the branches lead to it
 fork-roads :
-    {o v m m' : ℕ} {b c r : Code} {S S' : State} → Shape S → Roads S
+    {o v m m' : ℕ} {b c r : Code} {S S' : State} → S .setting .edition ≡ First → Shape S → Roads S
     → Split S S' v (fork-at o b c r) (m ∷ m' ∷ [])
     (link m (S .count) ∷ link m' (S .count) ∷ hand (S .count) ∷ free (S .count) ∷ free m ∷ free m' ∷ []) (S .scope v)
     → Roads S'
-unfolding isItem goes Drafts kids resolved
-fork-roads {v = v} {m = m} {m' = m'} {b = b} {c = c} {S = S} {S' = S'} sh rs D =
+unfolding isItem goes forkGoes Drafts kids resolved
+fork-roads {v = v} {m = m} {m' = m'} {b = b} {c = c} {r = r} {S = S} {S' = S'} ed sh rs D =
     split-roads sh rs D
     (λ a b y i f t.
     ⊎-elim
@@ -246,7 +249,10 @@ fork-roads {v = v} {m = m} {m' = m'} {b = b} {c = c} {S = S} {S' = S'} sh rs D =
     (λ a b t y i j. released-fresh sh t (λ k f. let z = sym new ∙ ap (S .control) (sym (fork-links i .1)) ∙ f in clash cc))
     (λ u bound.
     ⊎-elim
-    (λ e. absurd (v-unbound sh D refl (λ a i. scope-old (fork-links i .1)) (subst (λ (z : ℕ). Bound S' z) e bound)))
+    (λ e.
+    absurd
+    (v-unbound sh D (ap (λ ed. forkGoes ed (S .setting .lastByte) r) ed) (λ a i. scope-old (fork-links i .1))
+    (subst (λ (z : ℕ). Bound S' z) e bound)))
     (λ nv.
     ⊎-elim
     (λ e. way-of e (to-scope (D .new-scope) new-way))
@@ -286,6 +292,55 @@ fork-roads {v = v} {m = m} {m' = m'} {b = b} {c = c} {S = S} {S' = S'} sh rs D =
     new-way : Way (Settled S') (S .count) (S .scope v)
     new-way = handed-way sh rs D refl (later (later here)) (v-way rs D refl)
 
+-- a fork of the second edition: v keeps its way, and the vertices for the branches lead to it
+fork-yields-roads :
+    {o v m : ℕ} {b c r : Code} {S S' : State} → Shape S → Roads S
+    → Split S S' v (fork-at o b c r) (m ∷ []) (link m v ∷ link (S .count) v ∷ free m ∷ free (S .count) ∷ yield ∷ []) (S .scope v)
+    → Roads S'
+unfolding isItem Drafts kids resolved yields
+fork-yields-roads {v = v} {m = m} {b = b} {S = S} {S' = S'} sh rs D =
+    split-roads sh rs D
+    (λ a b y i f t.
+    ⊎-elim
+    (λ e. nothing-to-draft sh (left .is-draft) y (subst (λ (z : ℕ). Settled S y z) e t))
+    (λ e. nothing-to rs (over-waits new) y (subst (λ (z : ℕ). Settled S y z) e t))
+    (fork-yields-links i .0))
+    (λ a b y i f j.
+    ⊎-elim (λ e. not-v (sym e ∙ fork-yields-links j .1)) (λ e. v-old sh D (sym (fork-yields-links j .1) ∙ e)) (fork-yields-links i .0))
+    (λ a b i. ap (λ (z : ℕ). waits (S' .control z)) (fork-yields-links i .1) ∙ D .self-waits)
+    (λ a b t y i j.
+    released-fresh sh t (λ k f. let z = sym (D .self) ∙ ap (S .control) (sym (fork-yields-links i .1)) ∙ f in clash cc))
+    (λ u bound.
+    ⊎-elim
+    (λ e. way-of e (to-scope (D .same-scope v (v-old sh D)) way))
+    (λ nv.
+    ⊎-elim
+    (λ e. way-of e (to-scope (D .new-scope) (more (split-new (D .plans) (later here) (new-live D)) way)))
+    (λ nc.
+    ⊎-elim
+    (λ e.
+    way-of e
+    (to-scope (D .same-scope m old ∙ left .scope-is) (more (split-new (D .plans) here (made-live D (left .is-draft))) way)))
+    (λ ne. other-way rs D nv nc (among-one u m ne) bound)
+    (equal? u m))
+    (equal? u (S .count)))
+    (equal? u v))
+  where
+    new : S .control (S .count) ≡ over
+    new = sh .beyond (S .count) (omega arith)
+
+    left : Draft S v (m ∷ []) m (kid b own-scope)
+    left = sh .under-way v _ _ (D .self) .0 .0
+
+    old : m ≡ S .count → ⊥
+    old = apart isNew (S .control) (draft-new (left .is-draft)) (over-old new)
+
+    not-v : m ≡ v → ⊥
+    not-v = apart isNew (S .control) (draft-new (left .is-draft)) (busy-old (D .self))
+
+    way : Way (Settled S') v (S .scope v)
+    way = own-way sh D refl (λ h. fork-yields-hands) (v-way rs D refl)
+
 -- a future: v keeps its way, and the new vertex, for the body, leads to its scope, which has no item
 future-roads :
     {o v m : ℕ} {b r : Code} {S S' : State} → Shape S → Roads S
@@ -314,10 +369,10 @@ future-roads {v = v} {m = m} {r = r} {S = S} {S' = S'} sh rs D =
     new : S .control (S .count) ≡ over
     new = sh .beyond (S .count) (omega arith)
 
-    made : Draft S v (m ∷ []) m (awaiting (S .lastByte) r)
+    made : Draft S v (m ∷ []) m (awaiting (S .setting .lastByte) r)
     made = sh .under-way v _ _ (D .self) .0 .0
 
-    drafted : S .control m ≡ draft (end-at (S .lastByte))
+    drafted : S .control m ≡ draft (end-at (S .setting .lastByte))
     drafted = made .is-draft
 
     old : m ≡ S .count → ⊥
@@ -364,17 +419,19 @@ force-roads {v = v} {t = t} {S = S} {S' = S'} sh rs lt D =
 
 -- the split of an item leaves the roads
 pub splits-kept :
-    {S : State} {v : ℕ} {c : Code} {ms : List ℕ} {k : Kid} → Shape S → Opened S → Roads S → S .control v ≡ busy c ms → Splits c ms k
-    → Roads (itemSplit S v c ms k)
+    {S : State} {v : ℕ} {c : Code} {ms : List ℕ} {k : Kid} → Shape S → Opened S → Roads S → S .control v ≡ busy c ms
+    → Splits (S .setting .edition) c ms k → Roads (itemSplit S v c ms k)
 unfolding resolved
 splits-kept {S} {v} sh op rs q (async-1 {o = o} {b = b} {r = r}) =
-    async-roads sh rs (split-of (kid b own-scope) _ sh q (todo-async o b r (S .scope v) _ (S .count)))
+    async-roads sh rs (split-of (kid b own-scope) _ sh q (todo-async _ o b r v (S .scope v) _ (S .count)))
 splits-kept {S} {v} sh op rs q (finish-2 {o = o} {m = m} {b = b} {r = r}) =
-    finish-roads sh rs (split-of (kid b made-1) _ sh q (todo-finish o b r (S .scope v) _ m (S .count)))
-splits-kept {S} {v} sh op rs q (fork-3 {o = o} {m = m} {m' = m'} {b = b} {c = c} {r = r}) =
-    fork-roads sh rs (split-of (kid r own-scope) _ sh q (todo-fork o b c r (S .scope v) _ m m' (S .count)))
+    finish-roads sh rs (split-of (kid b made-1) _ sh q (todo-finish _ o b r v (S .scope v) _ m (S .count)))
+splits-kept {S} {v} sh op rs q (fork-3 {o = o} {m = m} {m' = m'} {b = b} {c = c} {r = r} e) =
+    fork-roads e sh rs (split-of (kid r own-scope) _ sh q (todo-fork e o b c r v (S .scope v) _ m m' (S .count)))
+splits-kept {S} {v} sh op rs q (fork-yields {o = o} {m = m} {b = b} {c = c} {r = r} e) =
+    fork-yields-roads sh rs (split-of (kid c own-scope) _ sh q (todo-fork-yields e o b c r v (S .scope v) _ m (S .count)))
 splits-kept {S} {v} sh op rs q (future-2 {o = o} {m = m} {b = b} {r = r}) =
-    future-roads sh rs (split-of (kid b made-1) _ sh q (todo-future o b r (S .scope v) _ m (S .count)))
+    future-roads sh rs (split-of (kid b made-1) _ sh q (todo-future _ o b r v (S .scope v) _ m (S .count)))
 splits-kept {S} {v} sh op rs q (force-1 {o = o} {n = n} {b = b} {r = r}) =
     force-roads sh rs (forced-below sh op q)
-    (split-of (kid r own-scope) _ sh q (todo-force o n b r (S .scope v) _ (S .count)))
+    (split-of (kid r own-scope) _ sh q (todo-force _ o n b r v (S .scope v) _ (S .count)))

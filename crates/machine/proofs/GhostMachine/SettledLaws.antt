@@ -1,4 +1,4 @@
--- Settled edges as the moves change them. A link, a hand-over and a release leave them as they are: what was planned is held now, and an
+-- Settled edges as the moves change them. A link, a hand-over, a release and a yield leave them as they are: what was planned is held now, and an
 -- edge from a finished vertex was not settled and is not held. A stop takes those out of the vertex that stops. A split adds what its item
 -- plans, and gives the edges out of its vertex to another one if the item hands them over. No other move changes them.
 use Prim.Native.Nat.{ℕ, _<_}
@@ -8,12 +8,12 @@ use mathlib.Core.Logic.{⊎-elim}
 use mathlib.Core.List.{List, [], _∷_}
 use Rattle.graph.proofs.TestLaws.{equal?, true-false}
 use Rattle.program.specs.Located.{Code}
-use Rattle.machine.proofs.GhostMachine.Ghost.{Do, link, hand, free, Control, fresh, ready, joining, State, put, onward, done, withControl}
+use Rattle.machine.proofs.GhostMachine.Ghost.{Do, link, hand, Control, fresh, ready, joining, State, put, resumed, done, withControl}
 use Rattle.machine.proofs.GhostMachine.Ghost.{handed, dropped, live}
-use Rattle.machine.proofs.GhostMachine.Invariant.{In, here, later, tasks, tasksOf, Settled, held, given, planned, Shape}
-use Rattle.machine.proofs.GhostMachine.GhostLaws.{put-same, put-other, clash, in-cases, tasks-onward, put-keeps, in-empty}
+use Rattle.machine.proofs.GhostMachine.Invariant.{In, here, later, tasks, tasksOf, Ordered, Settled, held, given, planned, Shape}
+use Rattle.machine.proofs.GhostMachine.GhostLaws.{put-same, put-other, clash, in-cases, tasks-resumed, put-keeps, in-empty}
 use Rattle.machine.proofs.GhostMachine.GhostLaws.{fresh-new, new-below}
-use Rattle.machine.proofs.GhostMachine.RoadLaws.{done-keeps, fresh-idle, sits-idle, isSource, fresh-source, sits-source, live-onward, linkedIf}
+use Rattle.machine.proofs.GhostMachine.RoadLaws.{done-keeps, fresh-idle, sits-idle, isSource, fresh-source, sits-source, live-resumed, linkedIf}
 use Rattle.machine.proofs.GhostMachine.RoadLaws.{linkedIf-cases, linkedIf-old, linkedIf-new, handed-cases, handed-old, handed-new}
 use Rattle.machine.proofs.GhostMachine.RoadLaws.{dropped-edge, dropped-old}
 
@@ -35,22 +35,23 @@ pub record Did (S S' : State) (v : ℕ) (d : Do) (ds : List Do) : Type 0 where
 -- v has done d: it is seen as before, but for what it has left to do
 pub acts-keeps :
     {B : Type 0} (S : State) (v : ℕ) {c : Code} {d : Do} {ds : List Do} (g : Control → B) → ((c : Code) → g (ready c) ≡ g (fresh c))
-    → g (onward c ds) ≡ g (joining c d ds) → S .control v ≡ joining c d ds → (u : ℕ)
-    → g (put (done S v d .control) v (onward c ds) u) ≡ g (S .control u)
+    → g (resumed c d ds) ≡ g (joining c d ds) → S .control v ≡ joining c d ds → (u : ℕ)
+    → g (put (done S v d .control) v (resumed c d ds) u) ≡ g (S .control u)
 acts-keeps S v {c} {d} {ds} g f e q u =
-    put-keeps g (done S v d .control) v (onward c ds) (e ∙ sym (done-keeps g f S v d v ∙ ap g q)) u ∙ done-keeps g f S v d u
+    put-keeps g (done S v d .control) v (resumed c d ds) (e ∙ sym (done-keeps g f S v d v ∙ ap g q)) u ∙ done-keeps g f S v d u
 
 -- and d is done
 pub acts-did :
-    {S : State} {v : ℕ} {c : Code} {d : Do} {ds : List Do} → S .control v ≡ joining c d ds
-    → Did S (withControl (done S v d) (put (done S v d .control) v (onward c ds))) v d ds
+    {S : State} {v : ℕ} {c : Code} {d : Do} {ds : List Do} → Shape S → S .control v ≡ joining c d ds
+    → Did S (withControl (done S v d) (put (done S v d .control) v (resumed c d ds))) v d ds
 unfolding tasks live
-acts-did {S} {v} {c} {d} {ds} q =
+acts-did {S} {v} {c} {d} {ds} sh q =
+    let ordered = subst (λ x. Ordered (tasks x)) q (sh .todo-fits v .ordered) in
     record {
       before = ap tasks q;
-      after = ap tasks (put-same (done S v d .control) v (onward c ds)) ∙ tasks-onward c ds;
-      others = λ t n. ap tasks (put-other (done S v d .control) v (onward c ds) t n) ∙ done-keeps tasks (λ c. refl) S v d t;
-      lives = acts-keeps S v live (λ c. refl) (live-onward c ds) q;
+      after = ap tasks (put-same (done S v d .control) v (resumed c d ds)) ∙ tasks-resumed c d ds ordered;
+      others = λ t n. ap tasks (put-other (done S v d .control) v (resumed c d ds) t n) ∙ done-keeps tasks (λ c. refl) S v d t;
+      lives = acts-keeps S v live (λ c. refl) (live-resumed c d ds) q;
     }
 
 -- what is left was there before
@@ -168,20 +169,21 @@ hand-on {S} {v = v} {h = h} {x = k} {y = y} sh D E (given t i e) =
     (equal? t v)
 hand-on {x = x} sh D E (planned t i l) = left-on D t i (λ p q. clash cc) (λ j. planned t j (D .lives x ∙ l))
 
--- a vertex that is released
-pub free-back :
-    {S S' : State} {v m x y : ℕ} {ds : List Do} → Did S S' v (free m) ds → ((x y : ℕ) → S' .edge x y ≡ S .edge x y)
-    → Settled S' x y → Settled S x y
-free-back {x = x} {y = y} D E (held e n) = held (sym (E x y) ∙ e) (λ k i. left-on D x i (λ p q. clash cc) (n k))
-free-back {y = y} D E (given t i e) = given t (task-stood D t i) (sym (E t y) ∙ e)
-free-back {x = x} D E (planned t i l) = planned t (task-stood D t i) (sym (D .lives x) ∙ l)
+-- a command that changes no edge: a release or a yield
+pub plain-back :
+    {S S' : State} {v x y : ℕ} {d : Do} {ds : List Do} → ((h : ℕ) → hand h ≡ d → ⊥) → Did S S' v d ds
+    → ((x y : ℕ) → S' .edge x y ≡ S .edge x y) → Settled S' x y → Settled S x y
+plain-back {x = x} {y = y} no-hand D E (held e n) = held (sym (E x y) ∙ e) (λ k i. left-on D x i (λ p q. absurd (no-hand k p)) (n k))
+plain-back {y = y} no-hand D E (given t i e) = given t (task-stood D t i) (sym (E t y) ∙ e)
+plain-back {x = x} no-hand D E (planned t i l) = planned t (task-stood D t i) (sym (D .lives x) ∙ l)
 
-pub free-on :
-    {S S' : State} {v m x y : ℕ} {ds : List Do} → Did S S' v (free m) ds → ((x y : ℕ) → S' .edge x y ≡ S .edge x y)
-    → Settled S x y → Settled S' x y
-free-on {x = x} {y = y} D E (held e n) = held (E x y ∙ e) (λ k i. n k (task-stood D x i))
-free-on {y = y} D E (given t i e) = left-on D t i (λ p q. clash cc) (λ j. given t j (E t y ∙ e))
-free-on {x = x} D E (planned t i l) = left-on D t i (λ p q. clash cc) (λ j. planned t j (D .lives x ∙ l))
+pub plain-on :
+    {S S' : State} {v x y : ℕ} {d : Do} {ds : List Do} → ((h : ℕ) → hand h ≡ d → ⊥) → ((a b : ℕ) → link a b ≡ d → ⊥) → Did S S' v d ds
+    → ((x y : ℕ) → S' .edge x y ≡ S .edge x y) → Settled S x y → Settled S' x y
+plain-on {x = x} {y = y} no-hand no-link D E (held e n) = held (E x y ∙ e) (λ k i. n k (task-stood D x i))
+plain-on {x = x} {y = y} no-hand no-link D E (given t i e) = left-on D t i (λ p q. absurd (no-hand x p)) (λ j. given t j (E t y ∙ e))
+plain-on {x = x} {y = y} no-hand no-link D E (planned t i l) =
+    left-on D t i (λ p q. absurd (no-link x y p)) (λ j. planned t j (D .lives x ∙ l))
 
 -- a vertex that stops: no other finishes
 pub stop-back :

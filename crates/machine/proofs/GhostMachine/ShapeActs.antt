@@ -1,6 +1,6 @@
 -- Moves that make no vertex keep the shape: those that change v alone (a start, a job, a stop), and those that do what is left to do of an
 -- item. A link and a transfer first take the command from v's list, and then change the edges, where a link from a finished vertex adds
--- none; a release also changes the vertex that is released.
+-- none; a release also changes the vertex that is released; a vertex that yields has nothing left to do.
 use Prim.Native.Nat.{ℕ, _<_}
 use mathlib.Core.Path.{_≡_, refl, sym, _∙_, ap, subst}
 use mathlib.Core.Bool.{Bool, true, false}
@@ -10,14 +10,14 @@ use native.Mathlib.Omega.{arith}
 use borrow.Author.Tests.{eqb-true}
 use Rattle.graph.proofs.TestLaws.{equal?, true-false, either-cases, both-left, both-right}
 use Rattle.program.specs.Located.{Code, job-at}
-use Rattle.machine.proofs.GhostMachine.Ghost.{Do, link, hand, free, Control, draft, fresh, ready, busy, joining, over, State, put, onward}
+use Rattle.machine.proofs.GhostMachine.Ghost.{Do, link, hand, free, yield, Control, draft, fresh, ready, busy, joining, over, State, put, onward, resumed}
 use Rattle.machine.proofs.GhostMachine.Ghost.{freed, withControl, withEdges, handed, dropped, live, done}
-use Rattle.machine.proofs.GhostMachine.Invariant.{In, here, later, Precedes, first, behind, Once, tasks, tasksOf, isNew, isDraft, FreesOnly}
+use Rattle.machine.proofs.GhostMachine.Invariant.{In, here, later, Precedes, first, behind, Once, tasks, tasksOf, yields, isNew, isDraft, FreesOnly}
 use Rattle.machine.proofs.GhostMachine.Invariant.{sits, isItem, Ordered, Forces, Fits, Shape}
 use Rattle.machine.proofs.GhostMachine.GhostLaws.{put-same, put-other, put-cases, clash, apart, draft-new, fresh-new, ready-old, joining-old}
-use Rattle.machine.proofs.GhostMachine.GhostLaws.{in-cases, in-none, no-link, no-hand, tasks-onward, below, new-below, one-freer}
+use Rattle.machine.proofs.GhostMachine.GhostLaws.{in-cases, in-none, in-empty, no-link, no-hand, tasks-onward, below, new-below, one-freer}
 use Rattle.machine.proofs.GhostMachine.ShapeStep.{madeOf, made-busy, none-made, onward-old, onward-made, Turn, itself, stays, rises, Same}
-use Rattle.machine.proofs.GhostMachine.ShapeStep.{fits-kept, shape-step, one-linker, Fine, shape-edges}
+use Rattle.machine.proofs.GhostMachine.ShapeStep.{fits-none, fits-kept, shape-step, joined-old, one-linker, Fine, shape-edges}
 use Rattle.machine.proofs.GhostMachine.RoadLaws.{joining-sits, linkedIf, linkedIf-cases}
 
 -- a new vertex was the same before, where v does not come to be new
@@ -51,10 +51,10 @@ shape-turn {S} {v} y sh lt old old' sat none none' frees hands fits =
       edge-same = λ a b. refl;
       scope-same = λ u l. refl;
       maker-same = λ u l. refl;
-      rank-same = λ u l. refl;
+      rank-same = λ u l n. refl;
       fin-same = λ u l. refl;
       opens-same = λ u l n. refl;
-      last-same = refl;
+      setting-same = refl;
       own-sits = λ h. ap sits is-y ∙ sat h;
       own-hands = λ h i. inl (hands h (subst (λ x. In (hand h) (tasks x)) is-y i));
       own-item = λ c ms h. none-made S' v c (sym (made-busy (sym is-y ∙ h)) ∙ none');
@@ -128,11 +128,14 @@ unfolding Ordered
 ordered-rest (link a b) ds no-free o = o
 ordered-rest (hand h) ds no-free o = o
 ordered-rest (free m) ds no-free o = absurd (no-free m refl)
+ordered-rest yield ds no-free o = subst Ordered (sym o) tt
 
 -- and can be done as before
-fits-rest : {S : State} {t : ℕ} {d : Do} {ds : List Do} → ((m : ℕ) → free m ≡ d → ⊥) → Fits S t (d ∷ ds) → Fits S t ds
+fits-rest :
+    {S : State} {t : ℕ} {d : Do} {ds : List Do} → ((m : ℕ) → free m ≡ d → ⊥) → yields (d ∷ ds) ≡ yields ds → Fits S t (d ∷ ds)
+    → Fits S t ds
 unfolding Once
-fits-rest {S} {t} {d} {ds} no-free f =
+fits-rest {S} {t} {d} {ds} no-free no-yield f =
     record {
       ordered = ordered-rest d ds no-free (f .ordered);
       once = f .once .1;
@@ -144,7 +147,9 @@ fits-rest {S} {t} {d} {ds} no-free f =
           (λ b. before-cases b (λ e k. absurd (no-free _ e)) (λ k. inr k))
           (f .free-scope m (later i));
       link-from = λ a b i. ⊎-elim (λ k. inl (rest k)) (λ k. inr (rest-forces k)) (f .link-from a b (later i));
-      link-to = λ a b i. ⊎-elim (λ k. inl (rest k)) (λ e. inr e) (f .link-to a b (later i));
+      link-to =
+          λ a b i.
+          ⊎-elim (λ k. inl (rest k)) (λ r. inr (⊎-elim (λ e. inl e) (λ y. inr (y .0, sym no-yield ∙ y .1)) r)) (f .link-to a b (later i));
       link-new = λ a b i. f .link-new a b (later i);
       hand-to = λ h i. rest (f .hand-to h (later i));
       hand-new = λ h x i. f .hand-new h x (later i);
@@ -161,9 +166,9 @@ fits-rest {S} {t} {d} {ds} no-free f =
 
 -- a link or a transfer is taken from v's list
 shape-rest :
-    {S : State} {v : ℕ} {c : Code} {d : Do} {ds : List Do} → ((m : ℕ) → free m ≡ d → ⊥) → Shape S → S .control v ≡ joining c d ds
-    → Shape (withControl S (put (S .control) v (onward c ds)))
-shape-rest {S} {v} {c} {d} {ds} no-free sh h =
+    {S : State} {v : ℕ} {c : Code} {d : Do} {ds : List Do} → ((m : ℕ) → free m ≡ d → ⊥) → yields (d ∷ ds) ≡ yields ds → Shape S
+    → S .control v ≡ joining c d ds → Shape (withControl S (put (S .control) v (onward c ds)))
+shape-rest {S} {v} {c} {d} {ds} no-free no-yield sh h =
     shape-turn (onward c ds) sh (joining-below sh h) (joining-old h) (onward-old c ds) (λ z. true-false z (joining-sits h))
     (joining-made h) (onward-made c ds)
     (λ m i.
@@ -171,7 +176,7 @@ shape-rest {S} {v} {c} {d} {ds} no-free sh h =
     (λ e. absurd (no-free m e))
     (λ k. subst (λ es. In (free m) es) (sym (tasks-onward c ds)) k))
     (λ m i. subst (λ es. In (hand m) es) (sym (joining-tasks h)) (later (subst (λ es. In (hand m) es) (tasks-onward c ds) i)))
-    (subst (λ es. Fits S v es) (sym (tasks-onward c ds)) (fits-rest no-free (joining-fits sh h)))
+    (subst (λ es. Fits S v es) (sym (tasks-onward c ds)) (fits-rest no-free no-yield (joining-fits sh h)))
 
 -- what each vertex has left to do then
 tasks-rest :
@@ -250,13 +255,15 @@ freed-there {a = a} sh f i = let z = f .frees a i .0 .1 in (new-below sh a (fres
 link-target :
     {S : State} {v : ℕ} {c : Code} {a b : ℕ} {ds : List Do} → Shape S → S .control v ≡ joining c (link a b) ds
     → (b < S .count) × (isDraft (S .control b) ≡ false)
-link-target {S} {v} {b = b} sh h =
+link-target {S} {v} {a = a} {b = b} sh h =
     ⊎-elim
     (λ i. freed-there sh (joining-fits sh h) i)
-    (λ e.
-    let lt = joining-below sh h in (
-      subst (λ w. w < S .count) (sym e) (sh .scope-within v lt),
-      old-no-draft _ (ap (λ w. isNew (S .control w)) e ∙ sh .scope-old v lt (joining-old h)),
+    (λ to. (
+      ⊎-elim
+          (λ e. subst (λ w. w < S .count) (sym e) (sh .scope-within v (joining-below sh h)))
+          (λ e. subst (λ w. w < S .count) (sym (e .0)) (joining-below sh h))
+          to,
+      old-no-draft _ (joined-old sh v b (subst (λ es. In (link a b) es) (sym (joining-tasks h)) here) to),
     ))
     (joining-fits sh h .link-to _ b here)
 
@@ -277,9 +284,9 @@ link-source {S} {v} {a = a} {b} {ds} sh h =
 shape-link :
     {S : State} {v : ℕ} {c : Code} (a b : ℕ) {ds : List Do} (live : Bool) → Shape S → S .control v ≡ joining c (link a b) ds
     → Shape (withEdges (withControl S (put (S .control) v (onward c ds))) (linkedIf live (S .edge) a b))
-unfolding Once
+unfolding Once yields
 shape-link {S} {v} {c} a b {ds} live sh h =
-    shape-edges (linkedIf live (S .edge) a b) (shape-rest (λ m e. clash cc) sh h)
+    shape-edges (linkedIf live (S .edge) a b) (shape-rest (λ m e. clash cc) refl sh h)
     (λ x y p.
     linkedIf-cases live (S .edge) a b x y p
     (λ q. inl q)
@@ -303,9 +310,9 @@ shape-link {S} {v} {c} a b {ds} live sh h =
 shape-hand :
     {S : State} {v : ℕ} {c : Code} (h : ℕ) {ds : List Do} → Shape S → S .control v ≡ joining c (hand h) ds
     → Shape (withEdges (withControl S (put (S .control) v (onward c ds))) (handed (S .edge) v h))
-unfolding Once
+unfolding Once yields
 shape-hand {S} {v} {c} h {ds} sh k =
-    shape-edges (handed (S .edge) v h) (shape-rest (λ m e. clash cc) sh k)
+    shape-edges (handed (S .edge) v h) (shape-rest (λ m e. clash cc) refl sh k)
     (λ x y p.
     ⊎-elim
     (λ q. inl (both-left _ _ q))
@@ -346,13 +353,14 @@ release-scope {m = m} f =
     before-last (first i) = later i
     before-last (behind b) = later (before-last b)
 
--- behind a release come releases only
+-- behind a release come releases only, and a yield at the end
 ordered-free : (ds : List Do) → FreesOnly ds → Ordered ds
 unfolding FreesOnly Ordered
 ordered-free [] o = o
 ordered-free (link a b ∷ ds) o = absurd o
 ordered-free (hand h ∷ ds) o = absurd o
 ordered-free (free m ∷ ds) o = o
+ordered-free (yield ∷ ds) o = o
 
 -- what is left behind a release
 frees-only : {S : State} {t m : ℕ} {ds : List Do} → Fits S t (free m ∷ ds) → FreesOnly ds
@@ -414,10 +422,10 @@ shape-release {S} {v} {c} m k {ds} sh h is-fresh =
       edge-same = λ a b. refl;
       scope-same = λ u l. refl;
       maker-same = λ u l. refl;
-      rank-same = λ u l. refl;
+      rank-same = λ u l n. refl;
       fin-same = λ u l. refl;
       opens-same = λ u l n. refl;
-      last-same = refl;
+      setting-same = refl;
       own-sits = λ z. true-false z (joining-sits h);
       own-hands =
           λ u i.
@@ -482,14 +490,26 @@ shape-free {S} {v} {c} m {ds} sh h =
     let (k, f) = joining-fits sh h .frees m here .0 in
     subst (λ x. Shape (withControl S (put (put (S .control) m (freed x)) v (onward c ds)))) (sym f) (shape-release m k sh h f)
 
+-- a yield, which is the last
+shape-yields :
+    {S : State} {v : ℕ} {c : Code} {ds : List Do} → Shape S → S .control v ≡ joining c yield ds
+    → Shape (withControl S (put (S .control) v (ready c)))
+unfolding tasks madeOf Ordered
+shape-yields {S} {v} {c} {ds} sh h =
+    shape-turn (ready c) sh (joining-below sh h) (joining-old h) (ready-old refl) (λ z. true-false z (joining-sits h)) (joining-made h) refl
+    (λ m i. in-cases (subst (λ es. In (free m) es) (joining-tasks h) i) (λ e. clash cc) (λ k. in-empty (joining-fits sh h .ordered) k))
+    (λ m i. in-none i)
+    (fits-none S v)
+
 -- what is left to do of an item is done
 pub shape-acts :
     {S : State} {v : ℕ} {c : Code} (d : Do) {ds : List Do} → Shape S → S .control v ≡ joining c d ds
-    → Shape (withControl (done S v d) (put (done S v d .control) v (onward c ds)))
-unfolding done
+    → Shape (withControl (done S v d) (put (done S v d .control) v (resumed c d ds)))
+unfolding done resumed
 shape-acts {S} (link a b) sh h = shape-link a b (live (S .control a)) sh h
 shape-acts (hand h) sh k = shape-hand h sh k
 shape-acts (free m) sh h = shape-free m sh h
+shape-acts yield sh h = shape-yields sh h
 
 -- a vertex that has nothing left to do of an item, and goes on
 shape-plain :

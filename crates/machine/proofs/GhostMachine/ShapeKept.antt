@@ -11,6 +11,6 @@ pub shape-kept : {v : ℕ} {S S' : State} {e : Event} → Shape S → Opened S �
 shape-kept sh op (begins h free) = shape-begins sh h
 shape-kept sh op (performs {r = r} h) = shape-performs r sh h
 shape-kept sh op (stops h) = shape-stops sh h
-shape-kept {S = S} sh op (makes {c = c} {ms = ms} h d) = shape-makes sh h (makes-at (S .lastByte) c ms d)
-shape-kept {S = S} sh op (splits {c = c} {ms = ms} h d) = shape-splits _ sh op h (splits-at (S .lastByte) c ms d)
+shape-kept {S = S} sh op (makes {c = c} {ms = ms} h d) = shape-makes sh h (makes-at (S .setting) c ms d)
+shape-kept {S = S} sh op (splits {c = c} {ms = ms} h d) = shape-splits _ _ sh op h (splits-at (S .setting) c ms d)
 shape-kept sh op (acts {d = d} h) = shape-acts d sh h

@@ -1,7 +1,7 @@
 -- Moves that make a vertex keep the shape. A vertex is made behind all others, so no edge and no task names it. Where it is not its item's
 -- last one, it is a draft like those before. With the last one the item is split: all of its vertices are fresh from then on, and what is
--- left to do of the item is known. This list is looked at for each kind of item. What it names are the item's vertices and the scope; a
--- force's edge comes from the first vertex of its future, which is open (`Opened`).
+-- left to do of the item is known. This list is looked at for each kind of item. What it names are the item's vertices and the scope, and in
+-- the second edition the forking vertex; a force's edge comes from the first vertex of its future, which is open (`Opened`).
 use Prim.Native.Nat.{ℕ, _<_}
 use mathlib.Core.Path.{_≡_, refl, sym, _∙_, ap, subst}
 use mathlib.Core.Bool.{true, false}
@@ -9,19 +9,20 @@ use mathlib.Core.Logic.{_⊎_, inl, inr, ⊎-elim}
 use mathlib.Core.List.{List, [], _∷_, _++_}
 use native.Mathlib.Omega.{arith}
 use Rattle.graph.proofs.TestLaws.{decide, equal?, true-false, not-so}
-use Rattle.program.specs.Encodings.{own-scope, made-1, firstEdition}
-use Rattle.program.specs.Located.{Code}
-use Rattle.machine.proofs.GhostMachine.Ghost.{Do, link, hand, free, Control, draft, fresh, busy, State, Kid, kid, put, kids, onward, goes}
-use Rattle.machine.proofs.GhostMachine.Ghost.{todo, joins, commandsOf, kindOf, resolved, woken, among, grown, withControl, withOpens, oneMore}
+use Rattle.program.specs.declared.Edition.{Edition}
+use Rattle.program.specs.Encodings.{own-scope, made-1}
+use Rattle.program.specs.Located.{Code, force-at}
+use Rattle.machine.proofs.GhostMachine.Ghost.{Do, link, hand, free, yield, Control, draft, fresh, busy, Setting, State, Kid, kid, put, kids, onward, goes}
+use Rattle.machine.proofs.GhostMachine.Ghost.{todo, resolved, forcedBy, woken, among, grown, withControl, withOpens, withRanks, oneMore}
 use Rattle.machine.proofs.GhostMachine.Ghost.{split, stirred, scopeFor, todoOf, behindSplit}
-use Rattle.machine.proofs.GhostMachine.Invariant.{In, here, later, Precedes, first, behind, Once, tasks, tasksOf, isItem, isNew, sits, Draft}
+use Rattle.machine.proofs.GhostMachine.Invariant.{In, here, later, Precedes, first, behind, Once, tasks, tasksOf, yields, isItem, isNew, sits, Draft}
 use Rattle.machine.proofs.GhostMachine.Invariant.{Drafts, FreesOnly, Ordered, Forces, Fits, Shape, Opened}
 use Rattle.machine.proofs.GhostMachine.GhostLaws.{put-same, put-other, put-cases, clash, apart, draft-new, fresh-new, busy-old, in-cases}
 use Rattle.machine.proofs.GhostMachine.GhostLaws.{in-none, in-left, in-last, in-snoc, once-snoc, among-in, in-among, among-out, EachLink}
 use Rattle.machine.proofs.GhostMachine.GhostLaws.{EachHand, EachFree, each-link, each-hand, each-free, tasks-onward, Makes, finish-1, fork-1}
-use Rattle.machine.proofs.GhostMachine.GhostLaws.{fork-2, future-1, Splits, async-1, finish-2, fork-3, future-2, force-1, below, new-below}
-use Rattle.machine.proofs.GhostMachine.GhostLaws.{draft-of, put-below, forced-open}
-use Rattle.machine.proofs.GhostMachine.ShapeStep.{made-busy, none-made, onward-old, onward-made, Turn, itself, stays, wakes, born, shape-step}
+use Rattle.machine.proofs.GhostMachine.GhostLaws.{fork-2, future-1, Splits, async-1, finish-2, fork-3, fork-yields, future-2, force-1, below, new-below}
+use Rattle.machine.proofs.GhostMachine.GhostLaws.{draft-of, put-below, forced-open, todo-async, todo-finish, todo-fork, todo-fork-yields, todo-future, todo-force}
+use Rattle.machine.proofs.GhostMachine.ShapeStep.{made-busy, none-made, fits-none, onward-old, onward-made, Turn, itself, stays, wakes, born, shape-step}
 use Rattle.machine.proofs.GhostMachine.RoadLaws.{busy-below, draft-sits, busy-sits, forced-below}
 
 -- a vertex of an item that has just been split
@@ -31,30 +32,13 @@ record Made (S : State) (t m : ℕ) : Type 0 where
   made-by : S .maker m ≡ t
   bare : (x : ℕ) → S .edge m x ≡ false
 
--- nothing left to do
-pub fits-none : (S : State) (t : ℕ) → Fits S t []
-unfolding Ordered Once
-fits-none S t =
-    record {
-      ordered = tt;
-      once = tt;
-      frees = λ m i. in-none i;
-      free-scope = λ m i. in-none i;
-      link-from = λ a b i. in-none i;
-      link-to = λ a b i. in-none i;
-      link-new = λ a b i. in-none i;
-      hand-to = λ h i. in-none i;
-      hand-new = λ h x i. in-none i;
-      hand-apart = λ h b i j. in-none i;
-      hand-one = λ h h' i j. in-none i;
-    }
-
 -- what is found in the list that a split leaves: of a release, of a link and of a transfer
 abbrev ScopeFirst : State → List Do → ℕ → Type 0
 ScopeFirst S ds m = (isNew (S .control (S .scope m)) ≡ false) ⊎ Precedes (free (S .scope m)) (free m) ds
 
 abbrev Planned : State → ℕ → List Do → ℕ → ℕ → Type 0
-Planned S t ds a b = (In (free a) ds ⊎ Forces S a b ds) × (In (free b) ds ⊎ (b ≡ S .scope t)) × (S .edge a b ≡ false)
+Planned S t ds a b =
+    (In (free a) ds ⊎ Forces S a b ds) × (In (free b) ds ⊎ ((b ≡ S .scope t) ⊎ ((b ≡ t) × (yields ds ≡ true)))) × (S .edge a b ≡ false)
 
 abbrev Given : List Do → ℕ → Type 0
 Given ds h = In (free h) ds × ((b : ℕ) → In (link h b) ds → ⊥) × ((h' : ℕ) → In (hand h') ds → h ≡ h')
@@ -97,7 +81,7 @@ fits-async {S} {t} {n} kid same old =
     ((λ i. each-link (λ a b. ⊥) (free n ∷ []) tt i), ((λ i. in-none i), tt))
     (kid, tt)
     (inl (ap (λ w. isNew (S .control w)) same ∙ old), tt)
-    ((inl (later here), inr refl, kid .bare (S .scope t)), tt)
+    ((inl (later here), inr (inl refl), kid .bare (S .scope t)), tt)
     tt
 
 -- what a finish has left to do when its vertices m and n are made
@@ -169,8 +153,35 @@ fits-fork {S} {t} {m} {m'} {n} kid kid' kid'' ne ne' ne'' same same' same'' old 
     scoped : {u : ℕ} → S .scope u ≡ S .scope t → ScopeFirst S ds u
     scoped e = inl (ap (λ w. isNew (S .control w)) e ∙ old)
 
-    to-n : In (free n) ds ⊎ (n ≡ S .scope t)
+    to-n : In (free n) ds ⊎ ((n ≡ S .scope t) ⊎ ((n ≡ t) × (yields ds ≡ true)))
     to-n = inl (later (later (later here)))
+
+-- the same in the second edition, where its vertices are m and n
+fits-fork-yields :
+    {S : State} {t m n : ℕ} → Made S t m → Made S t n → (m ≡ n → ⊥) → S .scope m ≡ S .scope t → S .scope n ≡ S .scope t
+    → isNew (S .control (S .scope t)) ≡ false → Fits S t (link m t ∷ link n t ∷ free m ∷ free n ∷ yield ∷ [])
+unfolding Ordered FreesOnly Once EachLink EachHand EachFree yields
+fits-fork-yields {S} {t} {m} {n} kid kid' ne same same' old =
+    fits-new S t ds refl (
+      (λ i. each-link (λ a b. m ≡ a → ⊥) (link n t ∷ free m ∷ free n ∷ yield ∷ []) (ne, tt) i refl),
+      (
+        (λ i. each-link (λ a b. ⊥) (free m ∷ free n ∷ yield ∷ []) tt i),
+        (
+          (λ i. each-free (λ w. m ≡ w → ⊥) (free n ∷ yield ∷ []) (ne, tt) i refl),
+          ((λ i. in-cases i (λ e. clash cc) (λ i. in-none i)), ((λ i. in-none i), tt)),
+        ),
+      ),
+    )
+    (kid, (kid', tt))
+    (scoped same, (scoped same', tt))
+    ((inl (later (later here)), inr (inr (refl, refl)), kid .bare t), ((inl (later (later (later here))), inr (inr (refl, refl)), kid' .bare t), tt))
+    tt
+  where
+    ds : List Do
+    ds = link m t ∷ link n t ∷ free m ∷ free n ∷ yield ∷ []
+
+    scoped : {u : ℕ} → S .scope u ≡ S .scope t → ScopeFirst S ds u
+    scoped e = inl (ap (λ w. isNew (S .control w)) e ∙ old)
 
 -- what a future has left to do when its vertices m and n are made
 fits-future :
@@ -239,13 +250,13 @@ Stays S v base u =
 
 -- One vertex more, made by v, which is executing and comes to x; the others come to what `base` says.
 module _
-    (S : State) (v : ℕ) (base : ℕ → Control) (kid x : Control) (σ r f : ℕ) (opened : ℕ → List (ℕ × Code)) (sh : Shape S)
+    (S : State) (v : ℕ) (base : ℕ → Control) (kid x : Control) (σ r f : ℕ) (opened : ℕ → List (ℕ × Code)) (ranks : ℕ → ℕ) (sh : Shape S)
     (lt : v < S .count) (was : isNew (S .control v) ≡ false) (stands : sits (S .control v) ≡ false) (old : isNew x ≡ false)
     (new : isNew kid ≡ true) (scope : σ < S .count) (same : (u : ℕ) → u < S .count → (u ≡ v → ⊥) → opened u ≡ S .opens u)
-    (stay : (u : ℕ) → Stays S v base u)
+    (ranked : (u : ℕ) → u < S .count → (u ≡ v → ⊥) → ranks u ≡ S .rank u) (stay : (u : ℕ) → Stays S v base u)
   where
     abbrev With : State
-    With = withOpens (withControl (grown S v kid σ r f) (put (put base (S .count) kid) v x)) opened
+    With = withRanks (withOpens (withControl (grown S v kid σ r f) (put (put base (S .count) kid) v x)) opened) ranks
 
     is-own : With .control v ≡ x
     is-own = with-own S v base kid x
@@ -290,7 +301,7 @@ module _
 
     -- the shape is kept if that of v's own item is
     shape-with :
-        ((c : Code) (ms : List ℕ) → x ≡ busy c ms → Drafts With v ms ms (kids (S .lastByte) c) × Once ms)
+        ((c : Code) (ms : List ℕ) → x ≡ busy c ms → Drafts With v ms ms (kids (S .setting) c) × Once ms)
         → ((m : ℕ) (k : Code) → Own m (draft k) → (c : Code) × (ms : List ℕ) × (x ≡ busy c ms) × In m ms)
         → ((m : ℕ) (k : Code) → Own m (fresh k) → In (free m) (tasks x))
         → ((h : ℕ) → In (hand h) (tasks x) → h < S .count → sits (S .control h) ≡ true → ⊥) → Fits With v (tasks x) → Shape With
@@ -305,10 +316,10 @@ module _
           edge-same = λ a b. refl;
           scope-same = put-below (S .scope) (S .count) σ;
           maker-same = put-below (S .maker) (S .count) v;
-          rank-same = put-below (S .rank) (S .count) r;
+          rank-same = ranked;
           fin-same = put-below (S .fin) (S .count) f;
           opens-same = same;
-          last-same = refl;
+          setting-same = refl;
           own-sits = λ h. true-false h stands;
           own-hands = λ h i. inr (hands h (subst (λ y. In (hand h) (tasks y)) is-own i));
           own-item = λ c ms h. items c ms (sym is-own ∙ h);
@@ -323,7 +334,7 @@ module _
 pub under-way-draft :
     {S : State} {v m : ℕ} {c : Code} {ms : List ℕ} → Shape S → S .control v ≡ busy c ms → In m ms
     → (k : Kid) × Draft S v ms m k
-under-way-draft {S} {v = v} {c = c} {ms} sh h i = draft-of ms (kids (S .lastByte) c) (sh .under-way v c ms h .0) i
+under-way-draft {S} {v = v} {c = c} {ms} sh h i = draft-of ms (kids (S .setting) c) (sh .under-way v c ms h .0) i
 
 -- they are there
 under-way-below : {S : State} {v m : ℕ} {c : Code} {ms : List ℕ} → Shape S → S .control v ≡ busy c ms → In m ms → m < S .count
@@ -348,39 +359,41 @@ own-fresh {S = S} {v} {m} {c} {k} {ms} sh h f by =
     in-none (subst (λ x. In (free m) (tasks x)) h (subst (λ w. In (free m) (tasksOf S w)) by (sh .freshes m k f)))
 
 -- an item that makes vertices is an item
-pub makes-item : {L : ℕ} {c : Code} {ms : List ℕ} {k : Kid} → Makes L c ms k → isItem c ≡ true
+pub makes-item : {Γ : Setting} {c : Code} {ms : List ℕ} {k : Kid} → Makes Γ c ms k → isItem c ≡ true
 unfolding isItem
 makes-item finish-1 = refl
 makes-item fork-1 = refl
-makes-item fork-2 = refl
+makes-item (fork-2 e) = refl
 makes-item future-1 = refl
 
-pub splits-item : {c : Code} {ms : List ℕ} {k : Kid} → Splits c ms k → isItem c ≡ true
+pub splits-item : {ed : Edition} {c : Code} {ms : List ℕ} {k : Kid} → Splits ed c ms k → isItem c ≡ true
 unfolding isItem
 splits-item async-1 = refl
 splits-item finish-2 = refl
-splits-item fork-3 = refl
+splits-item (fork-3 e) = refl
+splits-item (fork-yields e) = refl
 splits-item future-2 = refl
 splits-item force-1 = refl
 
 -- the scope of a vertex that is made is there, where it is not the last one
 pub makes-scope :
-    {L v : ℕ} {S : State} {c : Code} {ms : List ℕ} {k : Kid} → Shape S → S .control v ≡ busy c ms → Makes L c ms k
+    {Γ : Setting} {v : ℕ} {S : State} {c : Code} {ms : List ℕ} {k : Kid} → Shape S → S .control v ≡ busy c ms → Makes Γ c ms k
     → scopeFor S v ms k < S .count
 unfolding resolved
 makes-scope {v = v} sh h finish-1 = sh .scope-within v (busy-below sh v h)
 makes-scope {v = v} sh h fork-1 = sh .scope-within v (busy-below sh v h)
-makes-scope {v = v} sh h fork-2 = sh .scope-within v (busy-below sh v h)
+makes-scope {v = v} sh h (fork-2 e) = sh .scope-within v (busy-below sh v h)
 makes-scope {v = v} sh h future-1 = sh .scope-within v (busy-below sh v h)
 
 -- and where it is
 pub splits-scope :
-    {v : ℕ} {S : State} {c : Code} {ms : List ℕ} {k : Kid} → Shape S → S .control v ≡ busy c ms → Splits c ms k
+    {ed : Edition} {v : ℕ} {S : State} {c : Code} {ms : List ℕ} {k : Kid} → Shape S → S .control v ≡ busy c ms → Splits ed c ms k
     → scopeFor S v ms k < S .count
 unfolding resolved
 splits-scope {v = v} sh h async-1 = sh .scope-within v (busy-below sh v h)
 splits-scope {v = v} sh h finish-2 = under-way-below sh h here
-splits-scope {v = v} sh h fork-3 = sh .scope-within v (busy-below sh v h)
+splits-scope {v = v} sh h (fork-3 e) = sh .scope-within v (busy-below sh v h)
+splits-scope {v = v} sh h (fork-yields e) = sh .scope-within v (busy-below sh v h)
 splits-scope {v = v} sh h future-2 = under-way-below sh h here
 splits-scope {v = v} sh h force-1 = sh .scope-within v (busy-below sh v h)
 
@@ -395,7 +408,7 @@ module _
     lt = below sh v (λ o. clash cc)
 
     -- the scope that v's names stand for
-    own-is : (all : List ℕ) → resolved (S .scope v) 0 ms own-scope ≡ resolved (More .scope v) 0 all own-scope
+    own-is : (all : List ℕ) → resolved v (S .scope v) 0 ms own-scope ≡ resolved v (More .scope v) 0 all own-scope
     unfolding resolved
     own-is all = sym (put-below (S .scope) (S .count) (scopeFor S v ms k) v lt)
 
@@ -409,9 +422,9 @@ module _
           is-draft = with-kid S v (S .control) (draft (k .code)) (busy c (ms ++ (S .count ∷ []))) lt;
           scope-is =
               put-same (S .scope) (S .count) (scopeFor S v ms k)
-              ∙ ap (resolved (S .scope v) 0 ms) own
+              ∙ ap (resolved v (S .scope v) 0 ms) own
               ∙ own-is all
-              ∙ ap (resolved (More .scope v) 0 all) (sym own);
+              ∙ ap (resolved v (More .scope v) 0 all) (sym own);
           rank-is = put-same (S .rank) (S .count) (k .low);
           fin-is = put-same (S .fin) (S .count) (k .high);
           made-by = put-same (S .maker) (S .count) v;
@@ -429,9 +442,9 @@ module _
           scope-is =
               put-below (S .scope) (S .count) (scopeFor S v ms k) m lm
               ∙ d .scope-is
-              ∙ ap (resolved (S .scope v) 0 ms) own
+              ∙ ap (resolved v (S .scope v) 0 ms) own
               ∙ own-is all
-              ∙ ap (resolved (More .scope v) 0 all) (sym own);
+              ∙ ap (resolved v (More .scope v) 0 all) (sym own);
           rank-is = put-below (S .rank) (S .count) (k .low) m lm ∙ d .rank-is;
           fin-is = put-below (S .fin) (S .count) (k .high) m lm ∙ d .fin-is;
           made-by = put-below (S .maker) (S .count) v m lm ∙ d .made-by;
@@ -443,27 +456,27 @@ module _
 
 -- so all that the item has made are its drafts
 makes-drafts :
-    {S : State} {v : ℕ} {c : Code} {ms : List ℕ} {k : Kid} (sh : Shape S) (h : S .control v ≡ busy c ms) → Makes (S .lastByte) c ms k
-    → Drafts (oneMore S v ms (busy c (ms ++ (S .count ∷ []))) k) v (ms ++ (S .count ∷ [])) (ms ++ (S .count ∷ [])) (kids (S .lastByte) c)
+    {S : State} {v : ℕ} {c : Code} {ms : List ℕ} {k : Kid} (sh : Shape S) (h : S .control v ≡ busy c ms) → Makes (S .setting) c ms k
+    → Drafts (oneMore S v ms (busy c (ms ++ (S .count ∷ []))) k) v (ms ++ (S .count ∷ [])) (ms ++ (S .count ∷ [])) (kids (S .setting) c)
 unfolding Drafts kids
 makes-drafts sh h finish-1 = (draft-more _ sh h _ refl, tt)
 makes-drafts sh h fork-1 = (draft-more _ sh h _ refl, tt)
-makes-drafts {v = v} sh h fork-2 = (draft-before _ sh h _ refl (sh .under-way v _ _ h .0 .0), (draft-more _ sh h _ refl, tt))
+makes-drafts {v = v} sh h (fork-2 e) = (draft-before _ sh h _ refl (sh .under-way v _ _ h .0 .0), (draft-more _ sh h _ refl, tt))
 makes-drafts sh h future-1 = (draft-more _ sh h _ refl, tt)
 
 -- A vertex is made that is not its item's last one.
 pub shape-makes :
-    {S : State} {v : ℕ} {c : Code} {ms : List ℕ} {k : Kid} → Shape S → S .control v ≡ busy c ms → Makes (S .lastByte) c ms k
+    {S : State} {v : ℕ} {c : Code} {ms : List ℕ} {k : Kid} → Shape S → S .control v ≡ busy c ms → Makes (S .setting) c ms k
     → Shape (oneMore S v ms (busy c (ms ++ (S .count ∷ []))) k)
 unfolding tasks
 shape-makes {S} {v} {c} {ms} {k} sh h mk =
-    shape-with S v (S .control) (draft (k .code)) (busy c ms') (scopeFor S v ms k) (k .low) (k .high) (S' .opens) sh
+    shape-with S v (S .control) (draft (k .code)) (busy c ms') (scopeFor S v ms k) (k .low) (k .high) (S' .opens) (S' .rank) sh
     (below sh v (λ o. clash cc)) (busy-old h) (busy-sits h (makes-item mk)) (busy-old refl) (draft-new refl) (makes-scope sh h mk)
-    (λ u l n. put-below (S .opens) (S .count) (S .opens v) u l) (λ u. inl refl)
+    (λ u l n. put-below (S .opens) (S .count) (S .opens v) u l) (λ u l n. put-below (S .rank) (S .count) (k .low) u l) (λ u. inl refl)
     (λ c' ns e.
     let (same, same') : (c ≡ c') × (ms' ≡ ns) = (cc, cc) in
-    subst (λ d. Drafts S' v ns ns (kids (S .lastByte) d) × Once ns) same
-    (subst (λ ns. Drafts S' v ns ns (kids (S .lastByte) c) × Once ns) same' (makes-drafts sh h mk, once)))
+    subst (λ d. Drafts S' v ns ns (kids (S .setting) d) × Once ns) same
+    (subst (λ ns. Drafts S' v ns ns (kids (S .setting) c) × Once ns) same' (makes-drafts sh h mk, once)))
     (λ m k'.
     ⊎-elim
     (λ n. (c, ms', refl, subst (λ w. In w ms') (sym (n .0)) (in-last (S .count) ms)))
@@ -483,43 +496,64 @@ shape-makes {S} {v} {c} {ms} {k} sh h mk =
 
 -- a split releases all of its item's vertices
 splits-frees :
-    {c : Code} {ms : List ℕ} {k : Kid} {m : ℕ} (σ f n : ℕ) → Splits c ms k → In m (ms ++ (n ∷ []))
-    → In (free m) (todo σ f (ms ++ (n ∷ [])) c)
-unfolding todo joins commandsOf kindOf firstEdition resolved
-splits-frees {m = m} σ f n async-1 i = in-cases i (λ e. rw e (later here)) (λ i. in-none i)
-splits-frees {m = m} σ f n finish-2 i =
-    in-cases i (λ e. rw e (later (later here)))
-    (λ i. in-cases i (λ e. rw e (later (later (later here)))) (λ i. in-none i))
-splits-frees {m = m} σ f n fork-3 i =
-    in-cases i (λ e. rw e (later (later (later (later here)))))
+    {ed : Edition} {c : Code} {ms : List ℕ} {k : Kid} {m : ℕ} (v σ f n : ℕ) → Splits ed c ms k → In m (ms ++ (n ∷ []))
+    → In (free m) (todo ed v σ f (ms ++ (n ∷ [])) c)
+splits-frees v σ f n (async-1 {o = o} {b = b} {r = r}) i =
+    rw (todo-async _ o b r v σ f n) (in-cases i (λ e. rw e (later here)) (λ i. in-none i))
+splits-frees v σ f n (finish-2 {o = o} {m = m} {b = b} {r = r}) i =
+    rw (todo-finish _ o b r v σ f m n)
+    (in-cases i (λ e. rw e (later (later here)))
+    (λ i. in-cases i (λ e. rw e (later (later (later here)))) (λ i. in-none i)))
+splits-frees v σ f n (fork-3 {o = o} {m = m} {m' = m'} {b = b} {c = c} {r = r} e) i =
+    rw (todo-fork e o b c r v σ f m m' n)
+    (in-cases i (λ e. rw e (later (later (later (later here)))))
     (λ i.
     in-cases i (λ e. rw e (later (later (later (later (later here))))))
+    (λ i. in-cases i (λ e. rw e (later (later (later here)))) (λ i. in-none i))))
+splits-frees v σ f n (fork-yields {o = o} {m = m} {b = b} {c = c} {r = r} e) i =
+    rw (todo-fork-yields e o b c r v σ f m n)
+    (in-cases i (λ e. rw e (later (later here)))
     (λ i. in-cases i (λ e. rw e (later (later (later here)))) (λ i. in-none i)))
-splits-frees {m = m} σ f n future-2 i =
-    in-cases i (λ e. rw e (later here))
-    (λ i. in-cases i (λ e. rw e (later (later here))) (λ i. in-none i))
-splits-frees {m = m} σ f n force-1 i = in-cases i (λ e. rw e (later (later here))) (λ i. in-none i)
+splits-frees v σ f n (future-2 {o = o} {m = m} {b = b} {r = r}) i =
+    rw (todo-future _ o b r v σ f m n)
+    (in-cases i (λ e. rw e (later here))
+    (λ i. in-cases i (λ e. rw e (later (later here))) (λ i. in-none i)))
+splits-frees v σ f n (force-1 {o = o} {n = m} {b = b} {r = r}) i =
+    rw (todo-force _ o m b r v σ f n) (in-cases i (λ e. rw e (later (later here))) (λ i. in-none i))
 
 -- and hands edges on to them only
 splits-hands :
-    {c : Code} {ms : List ℕ} {k : Kid} {h : ℕ} (σ f n : ℕ) → Splits c ms k → In (hand h) (todo σ f (ms ++ (n ∷ [])) c)
-    → In h (ms ++ (n ∷ []))
-unfolding todo joins commandsOf kindOf firstEdition resolved EachHand
-splits-hands σ f n async-1 i = each-hand (λ h. In h (n ∷ [])) _ tt i
-splits-hands σ f n (finish-2 {m = m}) i = each-hand (λ h. In h (m ∷ n ∷ [])) _ (here, tt) i
-splits-hands σ f n (fork-3 {m = m} {m' = m'}) i = each-hand (λ h. In h (m ∷ m' ∷ n ∷ [])) _ (later (later here), tt) i
-splits-hands σ f n (future-2 {m = m}) i = each-hand (λ h. In h (m ∷ n ∷ [])) _ tt i
-splits-hands σ f n force-1 i = each-hand (λ h. In h (n ∷ [])) _ (here, tt) i
+    {ed : Edition} {c : Code} {ms : List ℕ} {k : Kid} {h : ℕ} (v σ f n : ℕ) → Splits ed c ms k
+    → In (hand h) (todo ed v σ f (ms ++ (n ∷ [])) c) → In h (ms ++ (n ∷ []))
+unfolding EachHand
+splits-hands {h = h} v σ f n (async-1 {o = o} {b = b} {r = r}) i =
+    each-hand (λ h. In h (n ∷ [])) _ tt (subst (λ ds. In (hand h) ds) (todo-async _ o b r v σ f n) i)
+splits-hands {h = h} v σ f n (finish-2 {o = o} {m = m} {b = b} {r = r}) i =
+    each-hand (λ h. In h (m ∷ n ∷ [])) (link n m ∷ hand m ∷ free m ∷ free n ∷ []) (here, tt)
+    (subst (λ ds. In (hand h) ds) (todo-finish _ o b r v σ f m n) i)
+splits-hands {h = h} v σ f n (fork-3 {o = o} {m = m} {m' = m'} {b = b} {c = c} {r = r} e) i =
+    each-hand (λ h. In h (m ∷ m' ∷ n ∷ [])) (link m n ∷ link m' n ∷ hand n ∷ free n ∷ free m ∷ free m' ∷ []) (later (later here), tt)
+    (subst (λ ds. In (hand h) ds) (todo-fork e o b c r v σ f m m' n) i)
+splits-hands {h = h} v σ f n (fork-yields {o = o} {m = m} {b = b} {c = c} {r = r} e) i =
+    each-hand (λ h. In h (m ∷ n ∷ [])) (link m v ∷ link n v ∷ free m ∷ free n ∷ yield ∷ []) tt
+    (subst (λ ds. In (hand h) ds) (todo-fork-yields e o b c r v σ f m n) i)
+splits-hands {h = h} v σ f n (future-2 {o = o} {m = m} {b = b} {r = r}) i =
+    each-hand (λ h. In h (m ∷ n ∷ [])) (link n m ∷ free m ∷ free n ∷ []) tt
+    (subst (λ ds. In (hand h) ds) (todo-future _ o b r v σ f m n) i)
+splits-hands {h = h} v σ f n (force-1 {o = o} {n = m} {b = b} {r = r}) i =
+    each-hand (λ h. In h (n ∷ [])) (link f n ∷ hand n ∷ free n ∷ []) (here, tt)
+    (subst (λ ds. In (hand h) ds) (todo-force _ o m b r v σ f n) i)
 
 -- which do not sit
 pub hands-stand :
-    {S : State} {v : ℕ} {c : Code} {ms : List ℕ} {k : Kid} → Shape S → S .control v ≡ busy c ms → Splits c ms k → (u : ℕ)
+    {S : State} {v : ℕ} {c : Code} {ms : List ℕ} {k : Kid} → Shape S → S .control v ≡ busy c ms → Splits (S .setting .edition) c ms k
+    → (u : ℕ)
     → In (hand u) (todoOf S v (ms ++ (S .count ∷ [])) c) → u < S .count → sits (S .control u) ≡ true → ⊥
 hands-stand {S} {ms = ms} sh h sp u i lt sat =
     ⊎-elim
     (λ j. true-false sat (draft-sits (under-way-draft sh h j .1 .is-draft)))
     (λ e. absurd (omega arith))
-    (in-snoc ms (splits-hands _ _ (S .count) sp i))
+    (in-snoc ms (splits-hands _ _ _ (S .count) sp i))
 
 -- what the vertices that are there come to at a split: one of the item's
 pub woken-in : (S : State) {u : ℕ} {k : Code} {ms : List ℕ} → In u ms → S .control u ≡ draft k → stirred (S .control) ms u ≡ fresh k
@@ -568,9 +602,9 @@ splits-old {S} {v} {ms = ms} x k sh h old u lt was =
 
 -- so it is at a split
 halves :
-    {S : State} {v : ℕ} {c : Code} {ms : List ℕ} (x : Control) (fs : List (ℕ × Code)) (k : Kid) → Shape S → S .control v ≡ busy c ms
-    → isNew x ≡ false → Halves S (split S v ms x fs k) v ms (scopeFor S v ms k)
-halves {S} {v} {c} {ms} x fs k sh h old =
+    {S : State} {v : ℕ} {c : Code} {ms : List ℕ} (x : Control) (fs : List (ℕ × Code)) (ρ : ℕ) (k : Kid) → Shape S
+    → S .control v ≡ busy c ms → isNew x ≡ false → Halves S (split S v ms x fs ρ k) v ms (scopeFor S v ms k)
+halves {S} {v} {c} {ms} x fs ρ k sh h old =
     record {
       now =
           record {
@@ -583,7 +617,7 @@ halves {S} {v} {c} {ms} x fs k sh h old =
       not-now = λ i e. absurd (omega (arith, under-way-below sh h i));
       own-scope-is = own-is;
       own-scope-old =
-          ap (λ w. isNew (split S v ms x fs k .control w)) own-is
+          ap (λ w. isNew (split S v ms x fs ρ k .control w)) own-is
           ∙ splits-old x (k .code) sh h old (S .scope v) (sh .scope-within v there) (sh .scope-old v there (busy-old h));
       now-scope = put-same (S .scope) (S .count) (scopeFor S v ms k);
       before-scope = λ {m} i. put-below (S .scope) (S .count) (scopeFor S v ms k) m (under-way-below sh h i);
@@ -592,10 +626,10 @@ halves {S} {v} {c} {ms} x fs k sh h old =
     there : v < S .count
     there = below sh v (λ o. clash cc)
 
-    own-is : split S v ms x fs k .scope v ≡ S .scope v
+    own-is : split S v ms x fs ρ k .scope v ≡ S .scope v
     own-is = put-below (S .scope) (S .count) (scopeFor S v ms k) v there
 
-    old-kid : {m : ℕ} → In m ms → Made (split S v ms x fs k) v m
+    old-kid : {m : ℕ} → In m ms → Made (split S v ms x fs ρ k) v m
     old-kid {m} i =
         let (k', d) = under-way-draft sh h i in
         let lt = under-way-below sh h i in
@@ -612,11 +646,11 @@ halves {S} {v} {c} {ms} x fs k sh h old =
 
 -- the first vertex of an open future is forced by v, whose item is split
 splits-forces :
-    {S : State} {v t : ℕ} {b c : Code} (x : Control) (fs : List (ℕ × Code)) (k : Kid) (ds : List Do) → Shape S → Opened S
+    {S : State} {v t : ℕ} {b c : Code} (x : Control) (fs : List (ℕ × Code)) (ρ : ℕ) (k : Kid) (ds : List Do) → Shape S → Opened S
     → S .control v ≡ busy c [] → isItem c ≡ true → In (t, b) (S .opens v) → ((h : ℕ) → In (hand h) (tasks x) → h ≡ S .count)
-    → In (free (S .count)) ds → Forces (split S v [] x fs k) t (S .count) ds
+    → In (free (S .count)) ds → Forces (split S v [] x fs ρ k) t (S .count) ds
 unfolding among tasks
-splits-forces {S} {v} {t} {b} x fs k ds sh op h item i hands frees =
+splits-forces {S} {v} {t} {b} x fs ρ k ds sh op h item i hands frees =
     record {
       there = omega (arith, at .1);
       sitting = ap sits (with-other S v (stirred (S .control) []) (fresh (k .code)) x t not-v not-new) ∙ at .2;
@@ -645,61 +679,76 @@ splits-forces {S} {v} {t} {b} x fs k ds sh op h item i hands frees =
 
 -- what is left to do of the item can be done
 splits-fits :
-    {S : State} {v : ℕ} {c : Code} {ms : List ℕ} (x : Control) (fs : List (ℕ × Code)) {k : Kid} → Shape S → Opened S
-    → S .control v ≡ busy c ms → isNew x ≡ false → tasks x ≡ todoOf S v (ms ++ (S .count ∷ [])) c → Splits c ms k
-    → Fits (split S v ms x fs k) v (todoOf S v (ms ++ (S .count ∷ [])) c)
-unfolding todo joins commandsOf kindOf firstEdition resolved Drafts Once kids EachHand isItem
-splits-fits {S} {v} x fs sh op h old left (async-1 {b = b}) =
-    let hs = halves x fs (kid b own-scope) sh h old in
-    subst (λ σ. Fits (split S v [] x fs (kid b own-scope)) v (link (S .count) σ ∷ free (S .count) ∷ [])) (hs .own-scope-is)
-    (fits-async (hs .now) (hs .now-scope ∙ sym (hs .own-scope-is)) (hs .own-scope-old))
-splits-fits {S} {v} x fs sh op h old left (finish-2 {b = b}) =
-    let hs = halves x fs (kid b made-1) sh h old in
-    let (d, o) = sh .under-way v _ _ h in
-    fits-finish (hs .before here) (hs .now) (hs .not-now here)
+    {S : State} {v : ℕ} {c : Code} {ms : List ℕ} (x : Control) (fs : List (ℕ × Code)) (ρ : ℕ) {k : Kid} → Shape S → Opened S
+    → S .control v ≡ busy c ms → isNew x ≡ false → tasks x ≡ todoOf S v (ms ++ (S .count ∷ [])) c → Splits (S .setting .edition) c ms k
+    → Fits (split S v ms x fs ρ k) v (todoOf S v (ms ++ (S .count ∷ [])) c)
+unfolding resolved Drafts Once kids EachHand isItem
+splits-fits {S} {v} x fs ρ sh op h old left (async-1 {o = o} {b = b} {r = r}) =
+    let hs = halves x fs ρ (kid b own-scope) sh h old in
+    subst (λ ds. Fits (split S v [] x fs ρ (kid b own-scope)) v ds) (sym (todo-async _ o b r v (S .scope v) _ (S .count)))
+    (subst (λ σ. Fits (split S v [] x fs ρ (kid b own-scope)) v (link (S .count) σ ∷ free (S .count) ∷ [])) (hs .own-scope-is)
+    (fits-async (hs .now) (hs .now-scope ∙ sym (hs .own-scope-is)) (hs .own-scope-old)))
+splits-fits {S} {v} x fs ρ sh op h old left (finish-2 {o = o} {m = m} {b = b} {r = r}) =
+    let hs = halves x fs ρ (kid b made-1) sh h old in
+    let (d, _) = sh .under-way v _ _ h in
+    subst (λ ds. Fits (split S v (m ∷ []) x fs ρ (kid b made-1)) v ds) (sym (todo-finish _ o b r v (S .scope v) _ m (S .count)))
+    (fits-finish (hs .before here) (hs .now) (hs .not-now here)
     (hs .before-scope here ∙ d .0 .scope-is ∙ sym (hs .own-scope-is))
     (hs .now-scope)
-    (hs .own-scope-old)
-splits-fits {S} {v} x fs sh op h old left (fork-3 {m' = m'} {r = r}) =
-    let hs = halves x fs (kid r own-scope) sh h old in
-    let (d, o) = sh .under-way v _ _ h in
-    fits-fork (hs .before here) (hs .before (later here)) (hs .now)
-    (λ e. o .0 (subst (λ w. In w (m' ∷ [])) (sym e) here))
+    (hs .own-scope-old))
+splits-fits {S} {v} x fs ρ sh op h old left (fork-3 {o = o} {m = m} {m' = m'} {b = b} {c = c} {r = r} e) =
+    let hs = halves x fs ρ (kid r own-scope) sh h old in
+    let (d, once) = sh .under-way v _ _ h in
+    subst (λ ds. Fits (split S v (m ∷ m' ∷ []) x fs ρ (kid r own-scope)) v ds) (sym (todo-fork e o b c r v (S .scope v) _ m m' (S .count)))
+    (fits-fork (hs .before here) (hs .before (later here)) (hs .now)
+    (λ e. once .0 (subst (λ w. In w (m' ∷ [])) (sym e) here))
     (hs .not-now here)
     (hs .not-now (later here))
     (hs .before-scope here ∙ d .0 .scope-is ∙ sym (hs .own-scope-is))
     (hs .before-scope (later here) ∙ d .1 .0 .scope-is ∙ sym (hs .own-scope-is))
     (hs .now-scope ∙ sym (hs .own-scope-is))
-    (hs .own-scope-old)
-splits-fits {S} {v} x fs sh op h old left (future-2 {b = b}) =
-    let hs = halves x fs (kid b made-1) sh h old in
-    let (d, o) = sh .under-way v _ _ h in
-    fits-future (hs .before here) (hs .now) (hs .not-now here)
+    (hs .own-scope-old))
+splits-fits {S} {v} x fs ρ sh op h old left (fork-yields {o = o} {m = m} {b = b} {c = c} {r = r} e) =
+    let hs = halves x fs ρ (kid c own-scope) sh h old in
+    let (d, _) = sh .under-way v _ _ h in
+    subst (λ ds. Fits (split S v (m ∷ []) x fs ρ (kid c own-scope)) v ds) (sym (todo-fork-yields e o b c r v (S .scope v) _ m (S .count)))
+    (fits-fork-yields (hs .before here) (hs .now) (hs .not-now here)
+    (hs .before-scope here ∙ d .0 .scope-is ∙ sym (hs .own-scope-is))
+    (hs .now-scope ∙ sym (hs .own-scope-is))
+    (hs .own-scope-old))
+splits-fits {S} {v} x fs ρ sh op h old left (future-2 {o = o} {m = m} {b = b} {r = r}) =
+    let hs = halves x fs ρ (kid b made-1) sh h old in
+    let (d, _) = sh .under-way v _ _ h in
+    subst (λ ds. Fits (split S v (m ∷ []) x fs ρ (kid b made-1)) v ds) (sym (todo-future _ o b r v (S .scope v) _ m (S .count)))
+    (fits-future (hs .before here) (hs .now) (hs .not-now here)
     (hs .before-scope here ∙ d .0 .scope-is ∙ sym (hs .own-scope-is))
     (hs .now-scope)
-    (hs .own-scope-old)
-splits-fits {S} {v} x fs sh op h old left (force-1 {r = r}) =
-    let hs = halves x fs (kid r own-scope) sh h old in
+    (hs .own-scope-old))
+splits-fits {S} {v} x fs ρ sh op h old left (force-1 {o = o} {n = n} {b = b} {r = r}) =
+    let hs = halves x fs ρ (kid r own-scope) sh h old in
     let i = forced-open op h in
     let lt = forced-below sh op h in
-    fits-force (hs .now) (λ e. absurd (omega (arith, lt)))
+    let list = todo-force _ o n b r v (S .scope v) (forcedBy (S .opens v) (force-at o n b r)) (S .count) in
+    subst (λ ds. Fits (split S v [] x fs ρ (kid r own-scope)) v ds) (sym list)
+    (fits-force (hs .now) (λ e. absurd (omega (arith, lt)))
     (not-so _ (λ e. absurd (omega (arith, sh .within _ (S .count) e .1))))
-    (splits-forces x fs (kid r own-scope) _ sh op h refl i
-    (λ w j. each-hand (λ w. w ≡ S .count) _ (refl, tt) (subst (λ es. In (hand w) es) left j))
+    (splits-forces x fs ρ (kid r own-scope) _ sh op h refl i
+    (λ w j. each-hand (λ w. w ≡ S .count) _ (refl, tt) (subst (λ es. In (hand w) es) (left ∙ list) j))
     (later (later here)))
     (hs .now-scope ∙ sym (hs .own-scope-is))
-    (hs .own-scope-old)
+    (hs .own-scope-old))
 
 -- A vertex is made that is its item's last one.
 pub shape-splits :
-    {S : State} {v : ℕ} {c : Code} {ms : List ℕ} {k : Kid} (fs : List (ℕ × Code)) → Shape S → Opened S → S .control v ≡ busy c ms
-    → Splits c ms k → Shape (split S v ms (behindSplit S v (ms ++ (S .count ∷ [])) c) fs k)
-shape-splits {S} {v} {c} {ms} {k} fs sh op h sp =
-    shape-with S v (stirred (S .control) ms) (fresh (k .code)) x (scopeFor S v ms k) (k .low) (k .high) (S' .opens) sh
+    {S : State} {v : ℕ} {c : Code} {ms : List ℕ} {k : Kid} (fs : List (ℕ × Code)) (ρ : ℕ) → Shape S → Opened S → S .control v ≡ busy c ms
+    → Splits (S .setting .edition) c ms k → Shape (split S v ms (behindSplit S v (ms ++ (S .count ∷ [])) c) fs ρ k)
+shape-splits {S} {v} {c} {ms} {k} fs ρ sh op h sp =
+    shape-with S v (stirred (S .control) ms) (fresh (k .code)) x (scopeFor S v ms k) (k .low) (k .high) (S' .opens) (S' .rank) sh
     (below sh v (λ o. clash cc)) (busy-old h) (busy-sits h (splits-item sp)) old (fresh-new refl) (splits-scope sh h sp)
     (λ u l n. put-other (put (S .opens) (S .count) (S .opens v)) v fs u n ∙ put-below (S .opens) (S .count) (S .opens v) u l)
+    (λ u l n. put-other (put (S .rank) (S .count) (k .low)) v ρ u n ∙ put-below (S .rank) (S .count) (k .low) u l)
     (splits-stay sh h)
-    (λ c' ns e. none-made S' v c' (sym (made-busy e) ∙ onward-made (goes (S .lastByte) c) ds))
+    (λ c' ns e. none-made S' v c' (sym (made-busy e) ∙ onward-made (goes (S .setting) c) ds))
     (λ m k'.
     ⊎-elim
     (λ n. let e = n .1 in clash cc)
@@ -717,7 +766,7 @@ shape-splits {S} {v} {c} {ms} {k} fs sh op h sp =
     (λ out. own-fresh sh h (sym (woken-out S out) ∙ f .0) (f .1))
     (in? m ms)))
     (λ u i. hands-stand sh h sp u (subst (λ es. In (hand u) es) left i))
-    (subst (λ es. Fits S' v es) (sym left) (splits-fits x fs sh op h old left sp))
+    (subst (λ es. Fits S' v es) (sym left) (splits-fits x fs ρ sh op h old left sp))
   where
     ms' : List ℕ
     ms' = ms ++ (S .count ∷ [])
@@ -726,16 +775,16 @@ shape-splits {S} {v} {c} {ms} {k} fs sh op h sp =
     ds = todoOf S v ms' c
 
     x : Control
-    x = onward (goes (S .lastByte) c) ds
+    x = onward (goes (S .setting) c) ds
 
     S' : State
-    S' = split S v ms x fs k
+    S' = split S v ms x fs ρ k
 
     old : isNew x ≡ false
-    old = onward-old (goes (S .lastByte) c) ds
+    old = onward-old (goes (S .setting) c) ds
 
     left : tasks x ≡ ds
-    left = tasks-onward (goes (S .lastByte) c) ds
+    left = tasks-onward (goes (S .setting) c) ds
 
     released : {m : ℕ} → In m ms' → In (free m) (tasks x)
-    released {m} i = subst (λ es. In (free m) es) (sym left) (splits-frees _ _ (S .count) sp i)
+    released {m} i = subst (λ es. In (free m) es) (sym left) (splits-frees _ _ _ (S .count) sp i)

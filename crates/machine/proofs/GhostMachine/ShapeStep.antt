@@ -14,9 +14,9 @@ use Rattle.program.specs.Located.{Code}
 use Rattle.machine.proofs.GhostMachine.Ghost.{Do, link, hand, free, Control, draft, fresh, ready, busy, joining, over, State, Kid, kids}
 use Rattle.machine.proofs.GhostMachine.Ghost.{resolved, onward, withEdges}
 use Rattle.machine.proofs.GhostMachine.Invariant.{In, Precedes, Once, tasks, tasksOf, isNew, isDraft, sits, Draft, Drafts}
-use Rattle.machine.proofs.GhostMachine.Invariant.{Forces, Fits, Tasks, Shape}
+use Rattle.machine.proofs.GhostMachine.Invariant.{Ordered, Forces, Fits, Tasks, Shape}
 use Rattle.machine.proofs.GhostMachine.GhostLaws.{clash, draft-new, fresh-new, ready-old, busy-old, onward-cases, below, new-below, doer-below}
-use Rattle.machine.proofs.GhostMachine.GhostLaws.{apart, doer-old, one-freer}
+use Rattle.machine.proofs.GhostMachine.GhostLaws.{apart, doer-old, one-freer, in-none}
 
 -- the vertices that an item under way has made so far
 unfoldable pub madeOf : Control → List ℕ
@@ -34,9 +34,27 @@ made-busy h = cc
 
 -- an item under way with no vertices has none to keep
 pub none-made :
-    (S : State) (v : ℕ) (c : Code) {ms : List ℕ} → ms ≡ [] → Drafts S v ms ms (kids (S .lastByte) c) × Once ms
+    (S : State) (v : ℕ) (c : Code) {ms : List ℕ} → ms ≡ [] → Drafts S v ms ms (kids (S .setting) c) × Once ms
 unfolding Drafts Once
-none-made S v c e = subst (λ ms. Drafts S v ms ms (kids (S .lastByte) c) × Once ms) (sym e) (tt, tt)
+none-made S v c e = subst (λ ms. Drafts S v ms ms (kids (S .setting) c) × Once ms) (sym e) (tt, tt)
+
+-- nothing left to do
+pub fits-none : (S : State) (t : ℕ) → Fits S t []
+unfolding Ordered Once
+fits-none S t =
+    record {
+      ordered = tt;
+      once = tt;
+      frees = λ m i. in-none i;
+      free-scope = λ m i. in-none i;
+      link-from = λ a b i. in-none i;
+      link-to = λ a b i. in-none i;
+      link-new = λ a b i. in-none i;
+      hand-to = λ h i. in-none i;
+      hand-new = λ h x i. in-none i;
+      hand-apart = λ h b i j. in-none i;
+      hand-one = λ h h' i j. in-none i;
+    }
 
 -- behind a command, a vertex is executing
 pub onward-old : (c : Code) (ds : List Do) → isNew (onward c ds) ≡ false
@@ -72,16 +90,16 @@ pub record Step (S S' : State) (v : ℕ) : Type 0 where
   pub edge-same : (a b : ℕ) → S' .edge a b ≡ S .edge a b
   pub scope-same : (u : ℕ) → u < S .count → S' .scope u ≡ S .scope u
   pub maker-same : (u : ℕ) → u < S .count → S' .maker u ≡ S .maker u
-  pub rank-same : (u : ℕ) → u < S .count → S' .rank u ≡ S .rank u
+  pub rank-same : (u : ℕ) → u < S .count → (u ≡ v → ⊥) → S' .rank u ≡ S .rank u
   pub fin-same : (u : ℕ) → u < S .count → S' .fin u ≡ S .fin u
   pub opens-same : (u : ℕ) → u < S .count → (u ≡ v → ⊥) → S' .opens u ≡ S .opens u
-  pub last-same : S' .lastByte ≡ S .lastByte
+  pub setting-same : S' .setting ≡ S .setting
   -- v sits as before, and hands edges on to vertices that do not
   pub own-sits : sits (S .control v) ≡ true → sits (S' .control v) ≡ true
   pub own-hands :
       (h : ℕ) → In (hand h) (tasksOf S' v) → In (hand h) (tasksOf S v) ⊎ (h < S .count → sits (S .control h) ≡ true → ⊥)
   -- the shape of v's own item
-  pub own-item : (c : Code) (ms : List ℕ) → S' .control v ≡ busy c ms → Drafts S' v ms ms (kids (S' .lastByte) c) × Once ms
+  pub own-item : (c : Code) (ms : List ℕ) → S' .control v ≡ busy c ms → Drafts S' v ms ms (kids (S' .setting) c) × Once ms
   pub own-drafts :
       (m : ℕ) (k : Code) → S' .control m ≡ draft k → S' .maker m ≡ v
       → (c : Code) × (ms : List ℕ) × (S' .control v ≡ busy c ms) × In m ms
@@ -226,7 +244,9 @@ fits-kept {S} {S'} {t} {ds} f s =
           subst (λ (σ : ℕ). (isNew (S' .control σ) ≡ false) ⊎ Precedes (free σ) (free m) ds) (sym (s .scope m i))
           (⊎-elim (λ h. inl (s .old m i h)) (λ b. inr b) (f .free-scope m i));
       link-from = λ a b i. ⊎-elim (λ h. inl h) (λ h. inr (s .forces a b h)) (f .link-from a b i);
-      link-to = λ a b i. ⊎-elim (λ h. inl h) (λ e. inr (e ∙ sym (s .own-scope i))) (f .link-to a b i);
+      link-to =
+          λ a b i.
+          ⊎-elim (λ h. inl h) (λ r. inr (⊎-elim (λ e. inl (e ∙ sym (s .own-scope i))) (λ y. inr y) r)) (f .link-to a b i);
       link-new = λ a b i. s .link-edge a b i (f .link-new a b i);
       hand-to = f .hand-to;
       hand-new = λ h x i. s .hand-edge h x i (f .hand-new h x i);
@@ -283,18 +303,21 @@ draft-other :
 draft-other {S} {S'} {v} {t} {all} sh st ne lt m k d =
     record {
       is-draft = draft-kept sh st m (λ e. ne (sym (d .made-by) ∙ e)) (d .is-draft);
-      scope-is = st .scope-same m lm ∙ d .scope-is ∙ ap (λ σ. resolved σ 0 all (k .name)) (sym (st .scope-same t lt));
-      rank-is = st .rank-same m lm ∙ d .rank-is;
+      scope-is = st .scope-same m lm ∙ d .scope-is ∙ ap (λ σ. resolved t σ 0 all (k .name)) (sym (st .scope-same t lt));
+      rank-is = st .rank-same m lm not-v ∙ d .rank-is;
       fin-is = st .fin-same m lm ∙ d .fin-is;
       made-by = st .maker-same m lm ∙ d .made-by;
       opens-are =
-          st .opens-same m lm (apart isNew (S .control) (draft-new (d .is-draft)) (st .starts))
+          st .opens-same m lm not-v
           ∙ d .opens-are
           ∙ sym (st .opens-same t lt ne);
     }
   where
     lm : m < S .count
     lm = new-below sh m (draft-new (d .is-draft))
+
+    not-v : m ≡ v → ⊥
+    not-v = apart isNew (S .control) (draft-new (d .is-draft)) (st .starts)
 
 -- a draft was one before, or is made now
 draft-was :
@@ -353,20 +376,20 @@ step-scope-within {S} {S'} {v} sh st u lt = go (st .turn u)
 -- items under way have their drafts
 step-under-way :
     {S S' : State} {v : ℕ} → Shape S → Step S S' v → (t : ℕ) (c : Code) (ms : List ℕ) → S' .control t ≡ busy c ms
-    → Drafts S' t ms ms (kids (S' .lastByte) c) × Once ms
+    → Drafts S' t ms ms (kids (S' .setting) c) × Once ms
 step-under-way {S} {S'} {v} sh st t c ms h = ⊎-elim own other (equal? t v)
   where
-    own : t ≡ v → Drafts S' t ms ms (kids (S' .lastByte) c) × Once ms
+    own : t ≡ v → Drafts S' t ms ms (kids (S' .setting) c) × Once ms
     own e =
-        subst (λ w. Drafts S' w ms ms (kids (S' .lastByte) c) × Once ms) (sym e)
+        subst (λ w. Drafts S' w ms ms (kids (S' .setting) c) × Once ms) (sym e)
         (st .own-item c ms (ap (S' .control) (sym e) ∙ h))
 
-    other : (t ≡ v → ⊥) → Drafts S' t ms ms (kids (S' .lastByte) c) × Once ms
+    other : (t ≡ v → ⊥) → Drafts S' t ms ms (kids (S' .setting) c) × Once ms
     other ne =
         let b : S .control t ≡ busy c ms = busy-was st t ne h in
         let (d, o) = sh .under-way t c ms b in
-        subst (λ L. Drafts S' t ms ms (kids L c) × Once ms) (sym (st .last-same))
-        (drafts-kept ms (kids (S .lastByte) c) (draft-other sh st ne (below sh t (λ o. clash cc))) d, o)
+        subst (λ Γ. Drafts S' t ms ms (kids Γ c) × Once ms) (sym (st .setting-same))
+        (drafts-kept ms (kids (S .setting) c) (draft-other sh st ne (below sh t (λ o. clash cc))) d, o)
 
 -- drafts have their items
 step-drafts :
@@ -457,28 +480,37 @@ shape-step {S} {S'} {v} sh st =
       scope-old = step-scope-old sh st;
     }
 
+-- the scope of a vertex that has something left to do is not new, nor is that vertex
+pub joined-old :
+    {S : State} {Y : Type 0} → Shape S → (t b : ℕ) {d : Do} → In d (tasksOf S t) → (b ≡ S .scope t) ⊎ ((b ≡ t) × Y)
+    → isNew (S .control b) ≡ false
+joined-old {S} sh t b i to =
+    ⊎-elim
+    (λ e. ap (λ w. isNew (S .control w)) e ∙ sh .scope-old t (doer-below sh t i) (doer-old (S .control t) i))
+    (λ e. ap (λ w. isNew (S .control w)) (e .0) ∙ doer-old (S .control t) i)
+    to
+
 -- no edge is still to be made by two
 pub one-linker :
     {S : State} → Shape S → (a b t t' : ℕ) → In (link a b) (tasksOf S t) → In (link a b) (tasksOf S t') → t ≡ t'
 one-linker {S} sh a b t t' i j =
     ⊎-elim
-    (λ f. ⊎-elim (λ g. one-freer sh b t t' f g) (λ e. absurd (not-scope t t' f j e)) (sh .todo-fits t' .link-to a b j))
+    (λ f. ⊎-elim (λ g. one-freer sh b t t' f g) (λ e. absurd (not-old t f (joined-old sh t' b j e))) (sh .todo-fits t' .link-to a b j))
     (λ e.
+    let old = joined-old sh t b i e in
     ⊎-elim
     (λ f.
     ⊎-elim
     (λ g. one-freer sh a t t' f g)
-    (λ g. absurd (not-scope t' t (g .frees-it) i e))
+    (λ g. absurd (not-old t' (g .frees-it) old))
     (sh .todo-fits t' .link-from a b j))
-    (λ f. absurd (not-scope t t (f .frees-it) i e))
+    (λ f. absurd (not-old t (f .frees-it) old))
     (sh .todo-fits t .link-from a b i))
     (sh .todo-fits t .link-to a b i)
   where
-    -- a vertex that is still to be released is not the scope of one that has something left to do
-    not-scope : (x y : ℕ) {d : Do} → In (free b) (tasksOf S x) → In d (tasksOf S y) → b ≡ S .scope y → ⊥
-    not-scope x y f k e =
-        true-false (fresh-new (sh .todo-fits x .frees b f .0 .1))
-        (ap (λ w. isNew (S .control w)) e ∙ sh .scope-old y (doer-below sh y k) (doer-old (S .control y) k))
+    -- a vertex that is still to be released is new
+    not-old : (x : ℕ) → In (free b) (tasksOf S x) → isNew (S .control b) ≡ false → ⊥
+    not-old x f old = true-false (fresh-new (sh .todo-fits x .frees b f .0 .1)) old
 
 -- An edge that can be added: neither end is a draft, and no item under way adds it or hands its own edges to its source.
 pub record Fine (S : State) (a b : ℕ) : Type 0 where
@@ -503,7 +535,7 @@ shape-edges {S} e sh f =
       beyond = sh .beyond;
       within = λ a b h. ⊎-elim (λ k. sh .within a b k) (λ n. (n .from-there, n .to-there)) (f a b h);
       scope-within = sh .scope-within;
-      under-way = λ t c ms h. let (d, o) = sh .under-way t c ms h in (drafts-kept ms (kids (S .lastByte) c) same-draft d, o);
+      under-way = λ t c ms h. let (d, o) = sh .under-way t c ms h in (drafts-kept ms (kids (S .setting) c) same-draft d, o);
       drafts = sh .drafts;
       draft-bare =
           λ m x k h.

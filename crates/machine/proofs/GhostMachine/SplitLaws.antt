@@ -8,28 +8,28 @@ use mathlib.Core.List.{List, [], _∷_, _++_}
 use mathlib.Core.Option.{some}
 use native.Mathlib.Omega.{arith}
 use Rattle.graph.proofs.TestLaws.{equal?, true-false}
-use Rattle.program.specs.Encodings.{firstEdition}
-use Rattle.program.specs.Located.{Code, async-at, finish-at, fork-at, future-at, force-at}
-use Rattle.machine.proofs.GhostMachine.Ghost.{Do, link, hand, free, Control, draft, fresh, busy, over, State, put, goes, kindOf, commandsOf}
-use Rattle.machine.proofs.GhostMachine.Ghost.{Kid, resolved, joins, todo, woken, among, live, split, stirred, opensBehind, scopeFor, todoOf}
+use Rattle.program.specs.Located.{Code, startOf}
+use Rattle.machine.proofs.GhostMachine.Ghost.{Do, link, hand, free, yield, Control, draft, fresh, busy, over, State, put, goes, restOf, Kid, woken, among, live}
+use Rattle.machine.proofs.GhostMachine.Ghost.{split, stirred, opensBehind, scopeFor, todoOf}
 use Rattle.machine.proofs.GhostMachine.Ghost.{behindSplit}
-use Rattle.machine.proofs.GhostMachine.Invariant.{In, tasks, codeOf, waits, Shape}
+use Rattle.machine.proofs.GhostMachine.Invariant.{In, tasks, codeOf, yields, waits, Shape}
 use Rattle.machine.proofs.GhostMachine.GhostLaws.{put-same, put-other, clash, EachLink, EachHand, each-link, each-hand, put-keeps, woken-keeps}
-use Rattle.machine.proofs.GhostMachine.GhostLaws.{EachFree, each-free, tasks-onward}
+use Rattle.machine.proofs.GhostMachine.GhostLaws.{EachFree, each-free, tasks-onward, waits-onward}
 use Rattle.machine.proofs.GhostMachine.RoadLaws.{code-onward, live-onward}
 use Rattle.machine.proofs.GhostMachine.SettledLaws.{Plans, source-below}
 
 -- the item of code c that v has under way is split: k is the new vertex, and ms are those that were made before
 abbrev pub itemSplit : State → ℕ → Code → List ℕ → Kid → State
 itemSplit S v c ms k =
-    split S v ms (behindSplit S v (ms ++ (S .count ∷ [])) c) (opensBehind (S .opens v) (ms ++ (S .count ∷ [])) c) k
+    split S v ms (behindSplit S v (ms ++ (S .count ∷ [])) c) (opensBehind (S .opens v) (ms ++ (S .count ∷ [])) c) (startOf (restOf c)) k
 
 -- v has an item of code c, and its split with the vertices ms that were made before and a new one, whose scope is σ, leaves v with T to do
 pub record Split (S S' : State) (v : ℕ) (c : Code) (ms : List ℕ) (T : List Do) (σ : ℕ) : Type 0 where
   pub self : S .control v ≡ busy c ms
   pub plans : Plans S S' v T
   pub counts : S' .count ≡ suc (S .count)
-  pub self-code : codeOf (S' .control v) ≡ some (goes (S .lastByte) c)
+  pub self-code : codeOf (S' .control v) ≡ some (goes (S .setting) c)
+  pub self-waits : waits (S' .control v) ≡ yields T
   pub waiting : (u : ℕ) → waits (S .control u) ≡ true → waits (S' .control u) ≡ true
   pub new-waits : waits (S' .control (S .count)) ≡ true
   pub living : (u : ℕ) → (u ≡ S .count → ⊥) → live (S' .control u) ≡ live (S .control u)
@@ -41,33 +41,7 @@ pub record Split (S S' : State) (v : ℕ) (c : Code) (ms : List ℕ) (T : List D
   pub new-opens : S' .opens (S .count) ≡ S .opens v
   pub self-opens : S' .opens v ≡ opensBehind (S .opens v) (ms ++ (S .count ∷ [])) c
 
--- what the item of each kind does behind its split
-pub todo-async : (o : ℕ) (b r : Code) (σ f n : ℕ) → todo σ f (n ∷ []) (async-at o b r) ≡ link n σ ∷ free n ∷ []
-unfolding todo joins commandsOf kindOf resolved firstEdition
-todo-async o b r σ f n = refl
-
-pub todo-finish :
-    (o : ℕ) (b r : Code) (σ f m n : ℕ) → todo σ f (m ∷ n ∷ []) (finish-at o b r) ≡ link n m ∷ hand m ∷ free m ∷ free n ∷ []
-unfolding todo joins commandsOf kindOf resolved firstEdition
-todo-finish o b r σ f m n = refl
-
-pub todo-fork :
-    (o : ℕ) (b c r : Code) (σ f m m' n : ℕ)
-    → todo σ f (m ∷ m' ∷ n ∷ []) (fork-at o b c r) ≡ link m n ∷ link m' n ∷ hand n ∷ free n ∷ free m ∷ free m' ∷ []
-unfolding todo joins commandsOf kindOf resolved firstEdition
-todo-fork o b c r σ f m m' n = refl
-
-pub todo-future :
-    (o : ℕ) (b r : Code) (σ f m n : ℕ) → todo σ f (m ∷ n ∷ []) (future-at o b r) ≡ link n m ∷ free m ∷ free n ∷ []
-unfolding todo joins commandsOf kindOf resolved firstEdition
-todo-future o b r σ f m n = refl
-
--- a force: f is the vertex that its future made first
-pub todo-force : (o i : ℕ) (b r : Code) (σ f n : ℕ) → todo σ f (n ∷ []) (force-at o i b r) ≡ link f n ∷ hand n ∷ free n ∷ []
-unfolding todo joins commandsOf kindOf resolved firstEdition
-todo-force o i b r σ f n = refl
-
--- the edges that it plans, and the vertex that it hands over to
+-- the edges that the item of each kind plans, and the vertex that it hands over to
 pub async-links : {n σ a b : ℕ} → In (link a b) (link n σ ∷ free n ∷ []) → (a ≡ n) × (b ≡ σ)
 unfolding EachLink
 async-links {n} {σ} i = each-link (λ a b. (a ≡ n) × (b ≡ σ)) _ ((refl, refl), tt) i
@@ -93,6 +67,15 @@ fork-links {n} {m} {m'} i = each-link (λ a b. ((a ≡ m) ⊎ (a ≡ m')) × (b 
 pub fork-hands : {n m m' h : ℕ} → In (hand h) (link m n ∷ link m' n ∷ hand n ∷ free n ∷ free m ∷ free m' ∷ []) → h ≡ n
 unfolding EachHand
 fork-hands {n} i = each-hand (λ h. h ≡ n) _ (refl, tt) i
+
+pub fork-yields-links :
+    {v m n a b : ℕ} → In (link a b) (link m v ∷ link n v ∷ free m ∷ free n ∷ yield ∷ []) → ((a ≡ m) ⊎ (a ≡ n)) × (b ≡ v)
+unfolding EachLink
+fork-yields-links {v} {m} {n} i = each-link (λ a b. ((a ≡ m) ⊎ (a ≡ n)) × (b ≡ v)) _ ((inl refl, refl), ((inr refl, refl), tt)) i
+
+pub fork-yields-hands : {v m n h : ℕ} → In (hand h) (link m v ∷ link n v ∷ free m ∷ free n ∷ yield ∷ []) → ⊥
+unfolding EachHand
+fork-yields-hands i = each-hand (λ h. ⊥) _ tt i
 
 pub future-links : {n m a b : ℕ} → In (link a b) (link n m ∷ free m ∷ free n ∷ []) → (a ≡ n) × (b ≡ m)
 unfolding EachLink
@@ -199,19 +182,20 @@ split-of {S} {v} {c} {ms} k T sh q e =
     let new : f n ≡ over = sh .beyond n (omega arith) in
     let nv : v ≡ n → ⊥ = λ e. let z = sym q ∙ ap f e ∙ new in clash cc in
     let at-v = put-same (put (stirred f ms) n (fresh (k .code))) v x in
-    let lives = split-lives f ms n v (k .code) x (live-onward (goes (S .lastByte) c) ds ∙ sym (ap live q)) nv in
+    let lives = split-lives f ms n v (k .code) x (live-onward (goes (S .setting) c) ds ∙ sym (ap live q)) nv in
     record {
       self = q;
       plans =
           record {
             idle = ap tasks q;
-            plan = ap tasks at-v ∙ tasks-onward (goes (S .lastByte) c) ds ∙ e;
+            plan = ap tasks at-v ∙ tasks-onward (goes (S .setting) c) ds ∙ e;
             others = split-tasks f ms n v (k .code) x (ap tasks new);
             edges = λ a b. refl;
             lives = λ t a b i. let lt = source-below t sh i in lives a (λ e. absurd (omega (arith, lt)));
           };
       counts = refl;
-      self-code = ap codeOf at-v ∙ code-onward (goes (S .lastByte) c) ds;
+      self-code = ap codeOf at-v ∙ code-onward (goes (S .setting) c) ds;
+      self-waits = ap waits at-v ∙ waits-onward (goes (S .setting) c) ds ∙ ap yields e;
       waiting = split-waits f ms n v (k .code) x (ap waits q);
       new-waits = split-new-waits f ms n v (k .code) x (λ e. nv (sym e));
       living = lives;

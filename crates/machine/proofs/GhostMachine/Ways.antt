@@ -7,9 +7,10 @@ use mathlib.Core.Logic.{_⊎_, inl, inr, ⊎-elim}
 use Rattle.graph.proofs.TestLaws.{true-false}
 use Rattle.program.specs.Located.{Code}
 use Rattle.machine.proofs.GhostMachine.Ghost.{link, free, draft, ready, State}
-use Rattle.machine.proofs.GhostMachine.Invariant.{In, tasks, tasksOf, codeOf, waits, isNew, isDraft, Settled, held, given, planned, Way, one}
+use Rattle.machine.proofs.GhostMachine.Invariant.{In, tasks, tasksOf, codeOf, waits, isDraft, Settled, held, given, planned, Way, one}
 use Rattle.machine.proofs.GhostMachine.Invariant.{more, Shape, HasItem, Roads}
-use Rattle.machine.proofs.GhostMachine.GhostLaws.{clash, draft-new, doer-old, doer-below, in-empty}
+use Rattle.machine.proofs.GhostMachine.GhostLaws.{clash, draft-new, in-empty}
+use Rattle.machine.proofs.GhostMachine.ShapeStep.{joined-old}
 use Rattle.machine.proofs.GhostMachine.SettledLaws.{source-idle}
 
 -- a way by edges that are still there
@@ -32,16 +33,22 @@ way-last {R} {a = a} (more r w) =
     (x, s, inr (⊎-elim (λ e. (a, subst (λ (z : ℕ). R a z) (sym e) r)) (λ y. y) from))
 
 -- No settled edge leads to a released vertex that no held edge leads to. One that is still to be made leads to a new vertex, as the one from
--- an open future does, or it leads to the scope of its maker: then the maker's own way leads there, and ends with a held edge.
+-- an open future does; or to its maker, which executes; or to the scope of its maker: then the maker's own way leads there, and ends with a
+-- held edge.
 pub blocked :
     {S : State} → Shape S → Roads S → (v : ℕ) (c : Code) → S .control v ≡ ready c → ((u : ℕ) → S .edge u v ≡ false)
     → (a : ℕ) → Settled S a v → ⊥
+unfolding tasks
 blocked {S} sh rs v c q f a (held e n) = true-false e (f a)
 blocked {S} sh rs v c q f a (given t i e) = true-false e (f t)
 blocked {S} sh rs v c q f a (planned t i l) =
     ⊎-elim
     (λ j. released t j)
+    (λ to.
+    ⊎-elim
     (λ e. own (subst (λ (z : ℕ). Way (Settled S) t z) (sym e) (rs .plan t a (subst (λ (z : ℕ). In (link a z) (tasksOf S t)) e i))))
+    (λ e. in-empty (ap tasks (ap (S .control) (sym (e .0)) ∙ q)) i)
+    to)
     (sh .todo-fits t .link-to a v i)
   where
     released : (u : ℕ) → In (free v) (tasksOf S u) → ⊥
@@ -94,8 +101,5 @@ nothing-to-draft {m = m} {k = k} sh q x (given t i e) = true-false e (sh .draft-
 nothing-to-draft {S} {m} {k} sh q x (planned t i l) =
     ⊎-elim
     (λ j. let (c, p) = sh .todo-fits t .frees m j .0 in clash cc)
-    (λ e.
-    let t-below = doer-below sh t i in
-    let old = sh .scope-old t t-below (doer-old (S .control t) i) in
-    true-false (draft-new q) (ap (λ (z : ℕ). isNew (S .control z)) e ∙ old))
+    (λ to. true-false (draft-new q) (joined-old sh t m i to))
     (sh .todo-fits t .link-to x m i)

@@ -11,7 +11,7 @@ use native.Mathlib.Omega.{arith}
 use Rattle.graph.proofs.TestLaws.{equal?, true-false}
 use Rattle.program.specs.Located.{Code, end-at, job-at}
 use Rattle.program.proofs.LocatedLaws.{Laid}
-use Rattle.machine.proofs.GhostMachine.Ghost.{Do, link, Control, draft, ready, busy, joining, over, State, Kid, put, onward, done, withControl}
+use Rattle.machine.proofs.GhostMachine.Ghost.{Do, link, Control, draft, ready, busy, joining, over, State, Kid, put, resumed, done, withControl}
 use Rattle.machine.proofs.GhostMachine.Ghost.{withEdges, oneMore, dropped, live}
 use Rattle.machine.proofs.GhostMachine.Invariant.{In, tasks, isItem, Settled, Way, Shape, Roads, Coded}
 use Rattle.machine.proofs.GhostMachine.GhostLaws.{put-same, put-other, put-cases, put-keeps, puts-keep}
@@ -20,7 +20,7 @@ use Rattle.machine.proofs.GhostMachine.SettledLaws.{acts-keeps, settled
 use Rattle.machine.proofs.GhostMachine.Ways.{way-map, way-past, nothing-to}
 use Rattle.machine.proofs.JobOrder.Order.{Job, InA, InS, Pre, holds, Held, held, Waits, for-way, for-scope, for-scopes-way, Orders}
 use Rattle.machine.proofs.JobOrder.OrderLaws.{job-item, ina-item, ins-item}
-use Rattle.machine.proofs.JobOrder.WaitLaws.{job-behind, job-own, holds-one, holds-onward, held-laid, scope-led}
+use Rattle.machine.proofs.JobOrder.WaitLaws.{job-behind, job-own, holds-one, holds-resumed, held-laid, scope-led}
 use Rattle.machine.proofs.JobOrder.WaitLaws.{busy-holds}
 
 -- u, which holds c in S, holds as much of it in S' as concerns the job at p, and leads where it led
@@ -151,15 +151,15 @@ begins-orders {S = S} {v = v} {c = c} os q =
     lives : (u : ℕ) → live (put (S .control) v (busy c []) u) ≡ live (S .control u)
     lives = kept live (sym (ap live q))
 
--- a link, a hand-over, a release
+-- a link, a hand-over, a release, a yield
 pub acts-orders :
     {m : Code} {S S' : State} {v : ℕ} {c : Code} {d : Do} {ds : List Do} → Orders m S → S .control v ≡ joining c d ds
-    → ((u : ℕ) → S' .control u ≡ put (done S v d .control) v (onward c ds) u) → ((u : ℕ) → S' .scope u ≡ S .scope u)
+    → ((u : ℕ) → S' .control u ≡ put (done S v d .control) v (resumed c d ds) u) → ((u : ℕ) → S' .scope u ≡ S .scope u)
     → ((x y : ℕ) → Settled S' x y → Settled S x y) → ((x y : ℕ) → Settled S x y → Settled S' x y)
     → ((t : ℕ) (b : Code) → StaysOpen S S' t b) → Orders m S'
 unfolding holds
-acts-orders {S = S} {v = v} {c = c} {ds = ds} os q f σ back on opened =
-    orders-same os (λ u. ap holds (f u) ∙ acts-keeps S v holds (λ c. refl) (holds-onward c ds) q u) back on (λ u c h. σ u) opened
+acts-orders {S = S} {v = v} {c = c} {d = d} {ds = ds} os q f σ back on opened =
+    orders-same os (λ u. ap holds (f u) ∙ acts-keeps S v holds (λ c. refl) (holds-resumed c d ds) q u) back on (λ u c h. σ u) opened
 
 -- a make that does not split: what is open at the new vertex is open at its maker
 pub makes-orders :

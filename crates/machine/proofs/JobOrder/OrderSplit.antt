@@ -1,6 +1,7 @@
 -- The order of jobs at the split of an item: who holds which part of the code (`Shared`), and how the settled edges change. Behind an async
--- and a future its vertex holds the rest itself; behind a finish, a fork and a force, the vertex that gets its edges. A future's first vertex
--- waits for its body; the rest behind a force waits for the first vertex of the future, if that has something left to wait for.
+-- and a future its vertex holds the rest itself, and behind a fork of the second edition too; behind a finish, a fork of the first edition and
+-- a force, the vertex that gets its edges. A future's first vertex waits for its body; the rest behind a force waits for the first vertex of
+-- the future, if that has something left to wait for.
 use Prim.Native.Nat.{ℕ, _<_, _≤_}
 use mathlib.Core.Path.{_≡_, refl, sym, _∙_, ap, subst}
 use mathlib.Core.Bool.{Bool, true, not, cond}
@@ -9,20 +10,22 @@ use mathlib.Core.List.{List, [], _∷_, _++_}
 use mathlib.Core.Option.{some, Option·some-injective, Option·none-ne-some}
 use native.Mathlib.Omega.{arith}
 use Rattle.graph.proofs.TestLaws.{equal?, true-false}
+use Rattle.program.specs.declared.Edition.the-variants.{First, Second}
 use Rattle.program.specs.Encodings.{own-scope, made-1}
 use Rattle.program.specs.Located.{Code, end-at, async-at, finish-at, fork-at, future-at, force-at}
 use Rattle.program.proofs.LocatedLaws.{Laid, laid-le}
-use Rattle.machine.proofs.GhostMachine.Ghost.{Do, link, hand, free, Control, draft, fresh, ready, busy, joining, over, State, Kid, kid}
-use Rattle.machine.proofs.GhostMachine.Ghost.{awaiting, put, kids, goes, resolved, live, woken, behindSplit, stirred, forcedBy, opensBehind}
+use Rattle.machine.proofs.GhostMachine.Ghost.{Do, link, hand, free, yield, Control, draft, fresh, ready, busy, joining, over, State, Kid, kid}
+use Rattle.machine.proofs.GhostMachine.Ghost.{awaiting, put, kids, forkGoes, goes, resolved, live, woken, behindSplit, stirred, forcedBy, opensBehind}
 use Rattle.machine.proofs.GhostMachine.Invariant.{In, here, later, tasksOf, isItem, sits, Settled, held, given, planned, Way, one, more, Draft}
 use Rattle.machine.proofs.GhostMachine.Invariant.{Drafts, Shape, HasItem, Ranks, Roads, Opened, Coded}
 use Rattle.machine.proofs.GhostMachine.GhostLaws.{put-same, put-other, clash, in-cases, in-none, in-among, among-out, Splits}
-use Rattle.machine.proofs.GhostMachine.GhostLaws.{async-1, finish-2, fork-3, future-2, force-1, in-empty, forced-open}
+use Rattle.machine.proofs.GhostMachine.GhostLaws.{async-1, finish-2, fork-3, fork-yields, future-2, force-1, in-empty, forced-open, todo-async, todo-finish, todo-fork}
+use Rattle.machine.proofs.GhostMachine.GhostLaws.{todo-fork-yields, todo-future, todo-force}
 use Rattle.machine.proofs.GhostMachine.RoadLaws.{busy-code, busy-waits, busy-draft, busy-source, busy-below, over-waits, waits-live, isSource}
 use Rattle.machine.proofs.GhostMachine.RoadLaws.{draft-sits, busy-sits, forced-below}
 use Rattle.machine.proofs.GhostMachine.RanksKept.{link-below}
 use Rattle.machine.proofs.GhostMachine.SettledLaws.{Plans, split-cases, split-old, split-given, split-own, split-new, own-held}
-use Rattle.machine.proofs.GhostMachine.SplitLaws.{itemSplit, Split, split-of, todo-async, todo-finish, todo-fork, todo-future, todo-force}
+use Rattle.machine.proofs.GhostMachine.SplitLaws.{itemSplit, Split, split-of, fork-yields-links, fork-yields-hands}
 use Rattle.machine.proofs.GhostMachine.SplitLaws.{async-links, async-hands, finish-links, finish-hands, fork-links, fork-hands, future-links}
 use Rattle.machine.proofs.GhostMachine.SplitLaws.{future-hands, force-links, force-hands}
 use Rattle.machine.proofs.GhostMachine.Ways.{way-last, nothing-to, nothing-to-draft}
@@ -163,7 +166,7 @@ still-open op not-rest not-sunk f b x l i =
 
 -- who holds what behind the split: v, the new vertex, and the drafts
 pub record Shared (S S' : State) (v : ℕ) (c : Code) (ms : List ℕ) (k : Code) : Type 0 where
-  pub self-holds : holds (S' .control v) ≡ some (goes (S .lastByte) c)
+  pub self-holds : holds (S' .control v) ≡ some (goes (S .setting) c)
   pub new-holds : holds (S' .control (S .count)) ≡ some k
   pub draft-holds : (u : ℕ) (d : Code) → In u ms → S .control u ≡ draft d → holds (S' .control u) ≡ some d
 
@@ -330,7 +333,7 @@ finish-orders {o = o} {v = v} {m = m} {b = b} {r = r} {S = S} {S' = S'} l sh op 
     open-cases sh D w f d lt i (still v (busy-below sh v (D .self))) still)
   where
     L : ℕ
-    L = S .lastByte
+    L = S .setting .lastByte
 
     n : ℕ
     n = S .count
@@ -425,12 +428,13 @@ finish-orders {o = o} {v = v} {m = m} {b = b} {r = r} {S = S} {S' = S'} l sh op 
 
 -- a fork: the new vertex holds the rest, and the drafts the branches; v has come to an end
 fork-orders :
-    {p : Code} {o v m m' : ℕ} {b c r : Code} {S S' : State} → Laid (fork-at o b c r) → Shape S → Opened S → Roads S → Roads S'
+    {p : Code} {o v m m' : ℕ} {b c r : Code} {S S' : State} → S .setting .edition ≡ First → Laid (fork-at o b c r) → Shape S → Opened S
+    → Roads S → Roads S'
     → Split S S' v (fork-at o b c r) (m ∷ m' ∷ [])
     (link m (S .count) ∷ link m' (S .count) ∷ hand (S .count) ∷ free (S .count) ∷ free m ∷ free m' ∷ []) (S .scope v)
     → Shared S S' v (fork-at o b c r) (m ∷ m' ∷ []) r → Orders p S → Orders p S'
-unfolding goes isItem Drafts kids resolved opensBehind
-fork-orders {o = o} {v = v} {m = m} {m' = m'} {b = b} {c = c} {r = r} {S = S} {S' = S'} l sh op rs rs' D H os =
+unfolding goes forkGoes isItem Drafts kids resolved opensBehind
+fork-orders {o = o} {v = v} {m = m} {m' = m'} {b = b} {c = c} {r = r} {S = S} {S' = S'} first l sh op rs rs' D H os =
     parts-orders rs rs' parts (fork-pieces o m m' n σ b c r (inr refl) l σ-old) os
     (λ w f d lt i.
     let still =
@@ -438,7 +442,7 @@ fork-orders {o = o} {v = v} {m = m} {m' = m'} {b = b} {c = c} {r = r} {S = S} {S
     open-cases sh D w f d lt i (still v (busy-below sh v (D .self))) still)
   where
     L : ℕ
-    L = S .lastByte
+    L = S .setting .lastByte
 
     n : ℕ
     n = S .count
@@ -448,6 +452,9 @@ fork-orders {o = o} {v = v} {m = m} {m' = m'} {b = b} {c = c} {r = r} {S = S} {S
 
     new : S .control n ≡ over
     new = sh .beyond n (omega arith)
+
+    self-holds : holds (S' .control v) ≡ some (end-at L)
+    self-holds = H .self-holds ∙ ap (λ ed. some (forkGoes ed L r)) first
 
     σ-old : σ ≡ n → ⊥
     σ-old e = absurd (omega (arith, sh .scope-within v (busy-below sh v (D .self))))
@@ -516,7 +523,7 @@ fork-orders {o = o} {v = v} {m = m} {m' = m'} {b = b} {c = c} {r = r} {S = S} {S
     origin u k e i =
         ⊎-elim
         (λ q.
-        let same : k ≡ end-at L = holds-one (S' .control u) e (ap (λ (z : ℕ). holds (S' .control z)) q ∙ H .self-holds) in
+        let same : k ≡ end-at L = holds-one (S' .control u) e (ap (λ (z : ℕ). holds (S' .control z)) q ∙ self-holds) in
         true-false i (ap isItem same))
         (λ nv.
         ⊎-elim
@@ -556,6 +563,142 @@ fork-orders {o = o} {v = v} {m = m} {m' = m'} {b = b} {c = c} {r = r} {S = S} {S
           forces = unforced S S' v n Kid n;
         }
 
+-- a fork of the second edition: v holds the rest and waits for the branches, which the draft and the new vertex hold
+fork-yields-orders :
+    {p : Code} {o v m : ℕ} {b c r : Code} {S S' : State} → S .setting .edition ≡ Second → Laid (fork-at o b c r) → Shape S → Opened S
+    → Roads S → Roads S'
+    → Split S S' v (fork-at o b c r) (m ∷ []) (link m v ∷ link (S .count) v ∷ free m ∷ free (S .count) ∷ yield ∷ []) (S .scope v)
+    → Shared S S' v (fork-at o b c r) (m ∷ []) c → Orders p S → Orders p S'
+unfolding goes forkGoes isItem Drafts kids resolved opensBehind
+fork-yields-orders {o = o} {v = v} {m = m} {b = b} {c = c} {r = r} {S = S} {S' = S'} second l sh op rs rs' D H os =
+    parts-orders rs rs' parts (fork-pieces o m n v σ b c r (inr refl) l (scope-other rs (D .self) refl)) os
+    (λ w f d lt i.
+    let still =
+    still-open op (λ f lt s e. v-sits f s e) (λ f lt s end e. v-sits f s (sym e)) f d in
+    open-cases sh D w f d lt i (still v v-below) still)
+  where
+    n : ℕ
+    n = S .count
+
+    σ : ℕ
+    σ = S .scope v
+
+    new : S .control n ≡ over
+    new = sh .beyond n (omega arith)
+
+    v-below : v < n
+    v-below = busy-below sh v (D .self)
+
+    v-old : v ≡ n → ⊥
+    v-old e = absurd (omega (arith, v-below))
+
+    v-sits : (f : ℕ) → sits (S .control f) ≡ true → f ≡ v → ⊥
+    v-sits f s e = true-false s (busy-sits (ap (S .control) e ∙ D .self) refl)
+
+    v-holds : holds (S' .control v) ≡ some r
+    v-holds = H .self-holds ∙ ap (λ ed. some (forkGoes ed (S .setting .lastByte) r)) second
+
+    made-m : Draft S v (m ∷ []) m (kid b own-scope)
+    made-m = sh .under-way v _ _ (D .self) .0 .0
+
+    m-draft : S .control m ≡ draft b
+    m-draft = made-m .is-draft
+
+    m-old : m ≡ n → ⊥
+    m-old e = let z = sym m-draft ∙ ap (S .control) e ∙ new in clash cc
+
+    m-other : m ≡ v → ⊥
+    m-other e = let z = sym m-draft ∙ ap (S .control) e ∙ D .self in clash cc
+
+    T : List Do
+    T = link m v ∷ link n v ∷ free m ∷ free n ∷ yield ∷ []
+
+    Kid : ℕ → Code → Type 0
+    Kid = Two m n b c
+
+    bare : (x : ℕ) (d : Code) → Kid x d → Bare S x
+    bare x d left = draft-bare sh m-draft
+    bare x d right = new-bare sh rs
+
+    linked : (x : ℕ) (d : Code) → Kid x d → In (link x v) T
+    linked x d left = here
+    linked x d right = later here
+
+    kid-holds : (x : ℕ) (d : Code) → Kid x d → holds (S' .control x) ≡ some d
+    kid-holds x d left = H .draft-holds m b here m-draft
+    kid-holds x d right = H .new-holds
+
+    kid-scope : (x : ℕ) (d : Code) → Kid x d → S' .scope x ≡ σ
+    kid-scope x d left = D .same-scope m m-old ∙ made-m .scope-is
+    kid-scope x d right = D .new-scope
+
+    kid-held : (x : ℕ) (d k : Code) → Kid x d → holds (S .control x) ≡ some k → ⊥
+    kid-held x d k left e = draft-holds-none m-draft e
+    kid-held x d k right e = over-holds-none new e
+
+    kid-other : (x : ℕ) (d : Code) → Kid x d → x ≡ v → ⊥
+    kid-other x d left e = m-other e
+    kid-other x d right e = v-old (sym e)
+
+    links : (x y : ℕ) → In (link x y) T → (d : Code) × Kid x d × (y ≡ v)
+    links x y i =
+        let (e, e') = fork-yields-links i in
+        ⊎-elim
+        (λ e. (b, subst (λ (z : ℕ). Kid z b) (sym e) left, e'))
+        (λ e. (c, subst (λ (z : ℕ). Kid z c) (sym e) right, e'))
+        e
+
+    -- a vertex is a kid, or is neither of the two
+    kid-or : (u : ℕ) → ((d : Code) × Kid u d) ⊎ ((u ≡ n → ⊥) × (In u (m ∷ []) → ⊥))
+    kid-or u =
+        ⊎-elim
+        (λ e. inl (b, subst (λ (z : ℕ). Kid z b) (sym e) left))
+        (λ ne.
+        ⊎-elim
+        (λ e. inl (c, subst (λ (z : ℕ). Kid z c) (sym e) right))
+        (λ nn. inr (nn, λ i. in-cases i ne (λ i. in-none i)))
+        (equal? u n))
+        (equal? u m)
+
+    origin : (u : ℕ) (k : Code) → holds (S' .control u) ≡ some k → isItem k ≡ true → Origin S S' v v r Kid u k
+    origin u k e i =
+        ⊎-elim
+        (λ q. the-rest q (holds-one (S' .control u) e (ap (λ (z : ℕ). holds (S' .control z)) q ∙ v-holds)))
+        (λ nv.
+        ⊎-elim
+        (λ d.
+        let same : d .0 ≡ k = holds-one (S' .control u) (kid-holds u (d .0) (d .1)) e in
+        a-kid (subst (λ (z : Code). Kid u z) same (d .1)))
+        (λ none. let (same, σ-same) = other-holds D u nv (none .0) (none .1) in stood nv (sym same ∙ e) σ-same)
+        (kid-or u))
+        (equal? u v)
+
+    parts : Parts S S' v (fork-at o b c r) v r Kid Nothing Nothing v σ
+    parts =
+        record {
+          self = busy-holds (D .self);
+          item = refl;
+          executes = busy-waits (D .self);
+          rest = v-holds;
+          rest-scope = D .same-scope v v-old;
+          rest-held = λ k ne e. ne refl;
+          kid = kid-holds;
+          kid-scope = kid-scope;
+          kid-held = kid-held;
+          ends = inl (inl refl, inr refl);
+          on =
+              λ u k nv e.
+              ⊎-elim
+              (λ d. absurd (kid-held u (d .0) k (d .1) e))
+              (λ none. let (same, σ-same) = other-holds D u nv (none .0) (none .1) in (same ∙ e, σ-same))
+              (kid-or u);
+          origin = origin;
+          edges =
+              own-edges Kid sh rs (D .self) refl (D .plans) (λ x i. fork-yields-hands i) links linked kid-holds bare
+              (λ d k. kid-other v d k refl) (λ d k. kid-other v d k refl);
+          forces = unforced S S' v v Kid v;
+        }
+
 -- a future: v holds the rest, and the new vertex the body; the draft waits for the body, and leads nowhere
 future-orders :
     {p : Code} {o v m : ℕ} {b r : Code} {S S' : State} → Laid (future-at o b r) → Shape S → Opened S → Roads S → Roads S'
@@ -574,7 +717,7 @@ future-orders {o = o} {v = v} {m = m} {b = b} {r = r} {S = S} {S' = S'} l sh op 
     n = S .count
 
     L : ℕ
-    L = S .lastByte
+    L = S .setting .lastByte
 
     new : S .control n ≡ over
     new = sh .beyond n (omega arith)
@@ -726,7 +869,7 @@ force-orders {o = o} {i = i} {v = v} {b = b} {r = r} {S = S} {S' = S'} l sh op r
     n = S .count
 
     L : ℕ
-    L = S .lastByte
+    L = S .setting .lastByte
 
     c : Code
     c = force-at o i b r
@@ -825,20 +968,24 @@ force-orders {o = o} {i = i} {v = v} {b = b} {r = r} {S = S} {S' = S'} l sh op r
 -- The split of an item keeps the order.
 pub splits-orders :
     (p : Code) {S : State} {v : ℕ} {c : Code} {ms : List ℕ} {k : Kid} → Laid p → Coded p S → Shape S → Opened S → Ranks S → Roads S
-    → Roads (itemSplit S v c ms k) → Orders p S → S .control v ≡ busy c ms → Splits c ms k → Orders p (itemSplit S v c ms k)
+    → Roads (itemSplit S v c ms k) → Orders p S → S .control v ≡ busy c ms → Splits (S .setting .edition) c ms k
+    → Orders p (itemSplit S v c ms k)
 unfolding resolved
 splits-orders p {S} {v} lp cd sh op rk rs rs' os q (async-1 {o = o} {b = b} {r = r}) =
     async-orders (held-laid p S v lp cd (busy-holds q)) sh op rs rs'
-    (split-of (kid b own-scope) _ sh q (todo-async o b r (S .scope v) _ (S .count))) (shared-of (kid b own-scope) sh q) os
+    (split-of (kid b own-scope) _ sh q (todo-async _ o b r v (S .scope v) _ (S .count))) (shared-of (kid b own-scope) sh q) os
 splits-orders p {S} {v} lp cd sh op rk rs rs' os q (finish-2 {o = o} {m = m} {b = b} {r = r}) =
     finish-orders (held-laid p S v lp cd (busy-holds q)) sh op rs rs'
-    (split-of (kid b made-1) _ sh q (todo-finish o b r (S .scope v) _ m (S .count))) (shared-of (kid b made-1) sh q) os
-splits-orders p {S} {v} lp cd sh op rk rs rs' os q (fork-3 {o = o} {m = m} {m' = m'} {b = b} {c = c} {r = r}) =
-    fork-orders (held-laid p S v lp cd (busy-holds q)) sh op rs rs'
-    (split-of (kid r own-scope) _ sh q (todo-fork o b c r (S .scope v) _ m m' (S .count))) (shared-of (kid r own-scope) sh q) os
+    (split-of (kid b made-1) _ sh q (todo-finish _ o b r v (S .scope v) _ m (S .count))) (shared-of (kid b made-1) sh q) os
+splits-orders p {S} {v} lp cd sh op rk rs rs' os q (fork-3 {o = o} {m = m} {m' = m'} {b = b} {c = c} {r = r} e) =
+    fork-orders e (held-laid p S v lp cd (busy-holds q)) sh op rs rs'
+    (split-of (kid r own-scope) _ sh q (todo-fork e o b c r v (S .scope v) _ m m' (S .count))) (shared-of (kid r own-scope) sh q) os
+splits-orders p {S} {v} lp cd sh op rk rs rs' os q (fork-yields {o = o} {m = m} {b = b} {c = c} {r = r} e) =
+    fork-yields-orders e (held-laid p S v lp cd (busy-holds q)) sh op rs rs'
+    (split-of (kid c own-scope) _ sh q (todo-fork-yields e o b c r v (S .scope v) _ m (S .count))) (shared-of (kid c own-scope) sh q) os
 splits-orders p {S} {v} lp cd sh op rk rs rs' os q (future-2 {o = o} {m = m} {b = b} {r = r}) =
     future-orders (held-laid p S v lp cd (busy-holds q)) sh op rs rs'
-    (split-of (kid b made-1) _ sh q (todo-future o b r (S .scope v) _ m (S .count))) (shared-of (kid b made-1) sh q) os
+    (split-of (kid b made-1) _ sh q (todo-future _ o b r v (S .scope v) _ m (S .count))) (shared-of (kid b made-1) sh q) os
 splits-orders p {S} {v} lp cd sh op rk rs rs' os q (force-1 {o = o} {n = n} {b = b} {r = r}) =
     force-orders (held-laid p S v lp cd (busy-holds q)) sh op rk rs rs'
-    (split-of (kid r own-scope) _ sh q (todo-force o n b r (S .scope v) _ (S .count))) (shared-of (kid r own-scope) sh q) os
+    (split-of (kid r own-scope) _ sh q (todo-force _ o n b r v (S .scope v) _ (S .count))) (shared-of (kid r own-scope) sh q) os

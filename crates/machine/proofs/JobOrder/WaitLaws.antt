@@ -10,9 +10,9 @@ use mathlib.Core.Option.{some, Option·some-injective, Option·none-ne-some}
 use native.Mathlib.Omega.{arith}
 use Rattle.program.specs.Located.{Code, end-at, job-at, startOf}
 use Rattle.program.proofs.LocatedLaws.{Laid, code-laid}
-use Rattle.machine.proofs.GhostMachine.Ghost.{Do, Control, draft, fresh, ready, busy, joining, over, State, onward}
+use Rattle.machine.proofs.GhostMachine.Ghost.{Do, Control, draft, fresh, ready, busy, joining, over, State, onward, resumed}
 use Rattle.machine.proofs.GhostMachine.Invariant.{codeOf, isItem, waits, isDraft, Settled, Way, Roads, Coded}
-use Rattle.machine.proofs.GhostMachine.GhostLaws.{onward-cases}
+use Rattle.machine.proofs.GhostMachine.GhostLaws.{onward-cases, resumed-cases}
 use Rattle.machine.proofs.GhostMachine.RoadLaws.{busy-waits}
 use Rattle.machine.proofs.GhostMachine.Ways.{way-last, nothing-to}
 use Rattle.machine.proofs.JobOrder.Order.{Job, Pre, holds, Held, Waits, for-way, for-scope, for-scopes-way, Orders}
@@ -41,6 +41,10 @@ holds-one x {c} {d} h k = Option·some-injective c d (sym h ∙ k)
 pub holds-onward : (c : Code) (ds : List Do) → holds (onward c ds) ≡ some c
 unfolding holds
 holds-onward c = onward-cases (λ x. holds x ≡ some c) c refl (λ d ds. refl)
+
+pub holds-resumed : (c : Code) (d : Do) (ds : List Do) → holds (resumed c d ds) ≡ some c
+unfolding holds
+holds-resumed c = resumed-cases (λ x. holds x ≡ some c) c refl (λ d ds. refl) refl
 
 -- a vertex that holds an item has a way to its scope
 pub held-way :

@@ -20,14 +20,16 @@ use Rattle.graph.proofs.SoundLaws.{sound-tally}
 use Rattle.graph.proofs.EdgeLaws.{none-out-of}
 use Rattle.graph.proofs.CycleLaws.{target-reaches}
 use Rattle.graph.proofs.TakenLaws as of-taken
-use Rattle.graph.proofs.TakenLaws.{leaves, says-accepted, taken-is, after-is, Runs, Adds, Taken, taken}
+use Rattle.graph.proofs.TakenLaws.{leaves, says-accepted, taken-is, after-is, Runs, Adds, Target, Taken, taken}
 use Rattle.graph.proofs.Demand2.{stays-sound}
 use Rattle.program.specs.Located.{Code}
 use Rattle.machine.specs.Answers.{StepSaid, oneStep, saidAs}
 use Rattle.machine.specs.Stepping.{Own, command-due, withOwn, doDue}
-use Rattle.machine.proofs.GhostMachine.Ghost.{Do, link, hand, free, Control, draft, fresh, ready, busy, joining, over, State, live}
-use Rattle.machine.proofs.GhostMachine.Invariant.{In, here, tasks, tasksOf, waits, Forces, planned, Shape, Ranks, Roads}
+use Rattle.machine.proofs.GhostMachine.Ghost.{Do, link, hand, free, Control, draft, fresh, ready, busy, joining, over, Setting, State, live}
+use Rattle.machine.proofs.GhostMachine.Invariant.{In, here, tasks, tasksOf, yields, Forces, Shape, Ranks}
 use Rattle.machine.proofs.GhostMachine.Acyclic.{path-rises}
+use Rattle.machine.proofs.GhostMachine.Ways.{at-link}
+use Rattle.machine.proofs.GhostMachine.ScopesAsleep.{asleep, ScopesAsleep}
 use Rattle.machine.proofs.TablesFollow.Follows.{Follows}
 use Rattle.machine.proofs.TablesFollow.FollowLaws.{statusOf, follows-status}
 
@@ -60,15 +62,15 @@ made-of S shape v n q lt =
     (λ h. let z : statusOf (S .control v) ≡ FINISHED = ap statusOf (shape .beyond v (ltb-false v (S .count) h)) in absurd (omega arith))
     (decide (ltb v (S .count)))
 
--- a vertex that waits is new or released
-waits-status : (x : Control) → waits x ≡ true → (statusOf x ≡ NEW) ⊎ (statusOf x ≡ RELEASED)
-unfolding waits statusOf
-waits-status (draft c) h = inl refl
-waits-status (fresh c) h = inl refl
-waits-status (ready c) h = inr refl
-waits-status (busy c ms) h = true-false h refl
-waits-status (joining c d ds) h = true-false h refl
-waits-status over h = true-false h refl
+-- a vertex that is asleep is new or released
+asleep-status : (x : Control) → asleep x ≡ true → (statusOf x ≡ NEW) ⊎ (statusOf x ≡ RELEASED)
+unfolding asleep statusOf
+asleep-status (draft c) h = inl refl
+asleep-status (fresh c) h = inl refl
+asleep-status (ready c) h = inr refl
+asleep-status (busy c ms) h = true-false h refl
+asleep-status (joining c d ds) h = true-false h refl
+asleep-status over h = true-false h refl
 
 -- a fresh vertex is new, and not finished
 fresh-status : {x : Control} {c : Code} → x ≡ fresh c → statusOf x ≡ NEW
@@ -103,7 +105,7 @@ pub first-task : (S : State) (v : ℕ) {c : Code} {d : Do} {ds : List Do} → S 
 unfolding tasks
 first-task S v q = rw q here
 
-module _ {p : Code} {L : ℕ} {s : Lent} {S : State} (shape : Shape S) (F : Follows p L s S) where
+module _ {p : Code} {Γ : Setting} {s : Lent} {S : State} (shape : Shape S) (F : Follows p Γ s S) where
   -- a vertex's row, by what the vertex is at
   pub stands : (v n : ℕ) → statusOf (S .control v) ≡ n → n < FINISHED → (v < s .made) × (status (s .vertices) v ≡ n)
   stands v n q lt =
@@ -145,20 +147,34 @@ module _ {p : Code} {L : ℕ} {s : Lent} {S : State} (shape : Shape S) (F : Foll
       (λ f. f .there)
       (shape .todo-fits v .link-from a b i)
 
-  abbrev WaitsIn : ℕ → Type 0
-  WaitsIn b = (b < s .made) × ((status (s .vertices) b ≡ NEW) ⊎ (status (s .vertices) b ≡ RELEASED))
+  -- its target is new, the scope of v, or v itself
+  target-made : ScopesAsleep S → (v a b : ℕ) → Runs s v → In (link a b) (tasksOf S v) → (b < s .made) × Target s v b
+  target-made sleep v a b r i = go (shape .todo-fits v .link-to a b i)
+    where
+      sleeping : {b : ℕ} → (statusOf (S .control b) ≡ NEW) ⊎ (statusOf (S .control b) ≡ RELEASED) → (b < s .made) × Target s v b
+      sleeping {b} (inl z) = let (made, new) = stands b NEW z (omega arith) in (made, inl (inl new))
+      sleeping {b} (inr z) = let (made, released) = stands b RELEASED z (omega arith) in (made, inl (inr released))
+
+      go :
+          In (free b) (tasksOf S v) ⊎ ((b ≡ S .scope v) ⊎ ((b ≡ v) × (yields (tasksOf S v) ≡ true)))
+          → (b < s .made) × Target s v b
+      go (inl f) = sleeping (inl (new-of v b f))
+      go (inr (inl e)) =
+          sleeping
+          (asleep-status (S .control b)
+          (ap (λ (z : ℕ). asleep (S .control z)) e ∙ sleep v (at-link a (subst (λ (z : ℕ). In (link a z) (tasksOf S v)) e i))))
+      go (inr (inr (e, y))) = (subst (λ (z : ℕ). z < s .made) (sym e) (r .is-made), inr e)
 
   -- newEdge from a vertex that is not finished appends its edge: no step names one that is held
   pub takes-edge :
-      Ranks S → Roads S → (v a b : ℕ) → statusOf (S .control v) ≡ EXECUTING → In (link a b) (tasksOf S v) → live (S .control a) ≡ true
+      Ranks S → ScopesAsleep S → (v a b : ℕ) → statusOf (S .control v) ≡ EXECUTING → In (link a b) (tasksOf S v) → live (S .control a) ≡ true
       → s .held < edgeRows (s .edges) → Taken (NewEdge v a b) s × Adds s a b
-  takes-edge ranks roads v a b q i unfinished room =
+  takes-edge ranks sleep v a b q i unfinished room =
       let made-a = source-made v a b i in
       let status-a = follows-status s S a F made-a in
       let le-a = ranks .rank-le a made-a in
       let up = ranks .link-rank v a b i in
-      let waiting = waits-status (S .control b) (roads .into a b (planned v i unfinished)) in
-      let (made-b, status-b) = target-of waiting in
+      let (made-b, target-b) = target-made sleep v a b (runs v q) i in
       let adds : Adds s a b =
       record {
         not-finished = λ z. omega (arith, z, status-a, live-status (S .control a) unfinished);
@@ -172,17 +188,13 @@ module _ {p : Code} {L : ℕ} {s : Lent} {S : State} (shape : Shape S) (F : Foll
           record {
             source-made = subst (λ (k : ℕ). a < k) (sym (F .made-is)) made-a;
             target-made = made-b;
-            waits = status-b;
+            waits = target-b;
             adds = inr adds;
           },
         ),
         adds,
       )
     where
-      target-of : {b : ℕ} → (statusOf (S .control b) ≡ NEW) ⊎ (statusOf (S .control b) ≡ RELEASED) → WaitsIn b
-      target-of {b} (inl z) = let (made, new) = stands b NEW z (omega arith) in (made, inl new)
-      target-of {b} (inr z) = let (made, released) = stands b RELEASED z (omega arith) in (made, inr released)
-
       apart : {a b : ℕ} → a ≡ b → S .fin a < S .rank b → S .rank a ≤ S .fin a → ⊥
       apart {a} z up le = let up' : S .fin a < S .rank a = subst (λ (k : ℕ). S .fin a < S .rank k) (sym z) up in omega arith
 
@@ -199,7 +211,7 @@ module _ {p : Code} {L : ℕ} {s : Lent} {S : State} (shape : Shape S) (F : Foll
           record {
             source-made = subst (λ (k : ℕ). a < k) (sym (F .made-is)) made-a;
             target-made = made-b;
-            waits = inl new-b;
+            waits = inl (inl new-b);
             adds = inl nothing;
           },
         ),

@@ -1,6 +1,6 @@
--- Tables that follow a state: what the rows tell of it, and how they follow it further. There are five effects, and each move is made of
--- them: a row and its control change, and what is open there; the edges change, a vertex is made, drafts are drafts no more, a step is
--- counted.
+-- Tables that follow a state: what the rows tell of it, and how they follow it further. There are six effects, and each move is made of
+-- them: a row and its control change, and what is open there; the edges change, a vertex is made, drafts are drafts no more, ranks change, a
+-- step is counted.
 use Prim.Native.Nat.{ℕ, suc, _+_, _<_}
 use mathlib.Core.Path.{_≡_, refl, sym, _∙_, ap, subst}
 use mathlib.Core.Bool.{Bool, true, false, cond}
@@ -16,8 +16,8 @@ use Rattle.graph.proofs.SoundLaws.{Known, Fits, sound-fits, fits-sound}
 use Rattle.program.specs.Located.{Code}
 use Rattle.machine.specs.Answers.{oneStep}
 use Rattle.machine.specs.Stepping.{latest}
-use Rattle.machine.proofs.GhostMachine.Ghost.{Control, draft, fresh, ready, busy, joining, over, State, put, woken, among, withControl}
-use Rattle.machine.proofs.GhostMachine.Ghost.{withEdges, withOpens, grown, stirred}
+use Rattle.machine.proofs.GhostMachine.Ghost.{Control, draft, fresh, ready, busy, joining, over, Setting, State, put, woken, among}
+use Rattle.machine.proofs.GhostMachine.Ghost.{withControl, withEdges, withOpens, withRanks, grown, stirred}
 use Rattle.machine.proofs.GhostMachine.GhostLaws.{put-same, put-other}
 use Rattle.machine.proofs.TablesFollow.Follows.{Words, row, wordsOf, Shows, shows-draft, shows-fresh, shows-ready, shows-busy, shows-joining}
 use Rattle.machine.proofs.TablesFollow.Follows.{shows-over, Follows, statusIn}
@@ -44,7 +44,7 @@ status-known over = (omega arith, omega arith)
 
 -- a row has the status of what it shows
 status-shown :
-    {p : Code} {L σ : ℕ} {fs : List (ℕ × Code)} {w : Words} {x : Control} → Shows p L w σ fs x → statusIn w ≡ statusOf x
+    {p : Code} {Γ : Setting} {v σ : ℕ} {fs : List (ℕ × Code)} {w : Words} {x : Control} → Shows p Γ v w σ fs x → statusIn w ≡ statusOf x
 unfolding statusOf
 status-shown (shows-draft h) = ap statusIn h
 status-shown (shows-fresh h) = ap statusIn h
@@ -54,24 +54,24 @@ status-shown (shows-joining k φ ms gs h at goes le rest behind opens) = ap stat
 status-shown (shows-over pl sc ph a b c h) = ap statusIn h
 
 shown-status :
-    {p : Code} {L σ : ℕ} {fs : List (ℕ × Code)} (s : Lent) (v : ℕ) {x : Control} → Shows p L (wordsOf s v) σ fs x
+    {p : Code} {Γ : Setting} {σ : ℕ} {fs : List (ℕ × Code)} (s : Lent) (v : ℕ) {x : Control} → Shows p Γ v (wordsOf s v) σ fs x
     → status (s .vertices) v ≡ statusOf x
 unfolding wordsOf
 shown-status s v h = status-shown h
 
 -- what is shown by the row of a vertex that is made
 pub follows-status :
-    {p : Code} {L : ℕ} (s : Lent) (S : State) (v : ℕ) → Follows p L s S → v < S .count → status (s .vertices) v ≡ statusOf (S .control v)
+    {p : Code} {Γ : Setting} (s : Lent) (S : State) (v : ℕ) → Follows p Γ s S → v < S .count → status (s .vertices) v ≡ statusOf (S .control v)
 follows-status s S v F lt = shown-status s v (F .rows-are v lt)
 
 -- a row and its control change, and other futures are open there
 pub opens-follow :
-    {p : Code} {L : ℕ} {s s' : Lent} {v : ℕ} {f : Words → Words} (S : State) (x : Control) (opens : ℕ → List (ℕ × Code)) → Follows p L s S
-    → Rowed s s' v f → ((u : ℕ) → (u ≡ v → ⊥) → opens u ≡ S .opens u) → Shows p L (f (wordsOf s v)) (S .scope v) (opens v) x
-    → Follows p L s' (withOpens (withControl S (put (S .control) v x)) opens)
-opens-follow {p} {L} {s} {s'} {v} S x opens F R same shown =
+    {p : Code} {Γ : Setting} {s s' : Lent} {v : ℕ} {f : Words → Words} (S : State) (x : Control) (opens : ℕ → List (ℕ × Code)) → Follows p Γ s S
+    → Rowed s s' v f → ((u : ℕ) → (u ≡ v → ⊥) → opens u ≡ S .opens u) → Shows p Γ v (f (wordsOf s v)) (S .scope v) (opens v) x
+    → Follows p Γ s' (withOpens (withControl S (put (S .control) v x)) opens)
+opens-follow {p} {Γ} {s} {s'} {v} S x opens F R same shown =
     record {
-      last-is = F .last-is;
+      setting-is = F .setting-is;
       made-is = R .made-same ∙ F .made-is;
       edges-are = edges;
       rows-are = rows;
@@ -94,28 +94,28 @@ opens-follow {p} {L} {s} {s'} {v} S x opens F R same shown =
     edges : (a b : ℕ) → holds (s' .edges) (s' .held) a b ≡ S .edge a b
     edges a b = rw (R .held-same, R .edges-same) (F .edges-are a b)
 
-    rows : (u : ℕ) → u < S .count → Shows p L (wordsOf s' u) (S .scope u) (opens u) (put (S .control) v x u)
+    rows : (u : ℕ) → u < S .count → Shows p Γ u (wordsOf s' u) (S .scope u) (opens u) (put (S .control) v x u)
     rows u lt =
         ⊎-elim
         (λ q.
-        subst (λ (z : ℕ). Shows p L (wordsOf s' z) (S .scope z) (opens z) (put (S .control) v x z)) (sym q)
+        subst (λ (z : ℕ). Shows p Γ z (wordsOf s' z) (S .scope z) (opens z) (put (S .control) v x z)) (sym q)
         (rw (R .here, put-same (S .control) v x) shown))
         (λ ne. rw (R .others u ne, put-other (S .control) v x u ne, same u ne) (F .rows-are u lt))
         (equal? u v)
 
 -- a row and its control change
 pub row-follows :
-    {p : Code} {L : ℕ} {s s' : Lent} {v : ℕ} {f : Words → Words} (S : State) (x : Control) → Follows p L s S → Rowed s s' v f
-    → Shows p L (f (wordsOf s v)) (S .scope v) (S .opens v) x → Follows p L s' (withControl S (put (S .control) v x))
+    {p : Code} {Γ : Setting} {s s' : Lent} {v : ℕ} {f : Words → Words} (S : State) (x : Control) → Follows p Γ s S → Rowed s s' v f
+    → Shows p Γ v (f (wordsOf s v)) (S .scope v) (S .opens v) x → Follows p Γ s' (withControl S (put (S .control) v x))
 row-follows S x F R shown = opens-follow S x (S .opens) F R (λ u ne. refl) shown
 
 -- the edges change, and no row does
 pub edges-follow :
-    {p : Code} {L : ℕ} {s s' : Lent} (S : State) (e : ℕ → ℕ → Bool) → Follows p L s S → ((u : ℕ) → wordsOf s' u ≡ wordsOf s u) → s' .made ≡ s .made
-    → ((a b : ℕ) → holds (s' .edges) (s' .held) a b ≡ e a b) → sound s' ≡ true → Follows p L s' (withEdges S e)
+    {p : Code} {Γ : Setting} {s s' : Lent} (S : State) (e : ℕ → ℕ → Bool) → Follows p Γ s S → ((u : ℕ) → wordsOf s' u ≡ wordsOf s u)
+    → s' .made ≡ s .made → ((a b : ℕ) → holds (s' .edges) (s' .held) a b ≡ e a b) → sound s' ≡ true → Follows p Γ s' (withEdges S e)
 edges-follow S e F same m h known =
     record {
-      last-is = F .last-is;
+      setting-is = F .setting-is;
       made-is = m ∙ F .made-is;
       edges-are = h;
       rows-are = λ u lt. rw (same u) (F .rows-are u lt);
@@ -124,13 +124,13 @@ edges-follow S e F same m h known =
 
 -- a vertex is made by t, with this place, scope, rank and fin
 pub vertex-follows :
-    {p : Code} {L : ℕ} (s : Lent) (S : State) (t : ℕ) (x : Control) (place σ low high : ℕ) → Follows p L s S
+    {p : Code} {Γ : Setting} (s : Lent) (S : State) (t : ℕ) (x : Control) (place σ low high : ℕ) → Follows p Γ s S
     → s .made < vertexRows (s .vertices) → sound (withVertex s t place σ) ≡ true
-    → Shows p L (row NEW place σ 0 0 0 0 (latest s t)) σ (S .opens t) x → Follows p L (withVertex s t place σ) (grown S t x σ low high)
+    → Shows p Γ (s .made) (row NEW place σ 0 0 0 0 (latest s t)) σ (S .opens t) x → Follows p Γ (withVertex s t place σ) (grown S t x σ low high)
 unfolding withVertex
-vertex-follows {p} {L} s S t x place σ low high F room known shown =
+vertex-follows {p} {Γ} s S t x place σ low high F room known shown =
     record {
-      last-is = F .last-is;
+      setting-is = F .setting-is;
       made-is = counted s S (F .made-is);
       edges-are = F .edges-are;
       rows-are = rows;
@@ -142,7 +142,7 @@ vertex-follows {p} {L} s S t x place σ low high F room known shown =
 
     Row : ℕ → Type 0
     Row u =
-        Shows p L (wordsOf (withVertex s t place σ) u) (put (S .scope) (S .count) σ u) (put (S .opens) (S .count) (S .opens t) u)
+        Shows p Γ u (wordsOf (withVertex s t place σ) u) (put (S .scope) (S .count) σ u) (put (S .opens) (S .count) (S .opens t) u)
         (put (S .control) (S .count) x u)
 
     rows : (u : ℕ) → u < suc (S .count) → Row u
@@ -160,7 +160,7 @@ vertex-follows {p} {L} s S t x place σ low high F room known shown =
 
 -- a draft and a fresh vertex have the same row
 shows-woken :
-    {p : Code} {L σ : ℕ} {fs : List (ℕ × Code)} {w : Words} {x : Control} → Shows p L w σ fs x → Shows p L w σ fs (woken x)
+    {p : Code} {Γ : Setting} {v σ : ℕ} {fs : List (ℕ × Code)} {w : Words} {x : Control} → Shows p Γ v w σ fs x → Shows p Γ v w σ fs (woken x)
 unfolding woken
 shows-woken (shows-draft h) = shows-fresh h
 shows-woken (shows-fresh h) = shows-fresh h
@@ -171,11 +171,11 @@ shows-woken (shows-over pl sc ph a b c h) = shows-over pl sc ph a b c h
 
 -- drafts are drafts no more
 pub woken-follows :
-    {p : Code} {L : ℕ} {s : Lent} (S : State) (ms : List ℕ) → Follows p L s S
-    → Follows p L s (withControl S (stirred (S .control) ms))
-woken-follows {p} {L} {s} S ms F =
+    {p : Code} {Γ : Setting} {s : Lent} (S : State) (ms : List ℕ) → Follows p Γ s S
+    → Follows p Γ s (withControl S (stirred (S .control) ms))
+woken-follows {p} {Γ} {s} S ms F =
     record {
-      last-is = F .last-is;
+      setting-is = F .setting-is;
       made-is = F .made-is;
       edges-are = F .edges-are;
       rows-are = λ u lt. go (among u ms) (F .rows-are u lt);
@@ -183,17 +183,28 @@ woken-follows {p} {L} {s} S ms F =
     }
   where
     go :
-        (b : Bool) {w : Words} {σ : ℕ} {fs : List (ℕ × Code)} {x : Control} → Shows p L w σ fs x
-        → Shows p L w σ fs (cond b (woken x) x)
+        (b : Bool) {v : ℕ} {w : Words} {σ : ℕ} {fs : List (ℕ × Code)} {x : Control} → Shows p Γ v w σ fs x
+        → Shows p Γ v w σ fs (cond b (woken x) x)
     go true h = shows-woken h
     go false h = h
 
+-- ranks do not stand in the tables
+pub ranks-follow : {p : Code} {Γ : Setting} {s : Lent} {S : State} (f : ℕ → ℕ) → Follows p Γ s S → Follows p Γ s (withRanks S f)
+ranks-follow f F =
+    record {
+      setting-is = F .setting-is;
+      made-is = F .made-is;
+      edges-are = F .edges-are;
+      rows-are = F .rows-are;
+      sound-is = F .sound-is;
+    }
+
 -- a step is counted
-pub count-follows : {p : Code} {L : ℕ} {s : Lent} {S : State} → Follows p L s S → Follows p L (oneStep s) S
+pub count-follows : {p : Code} {Γ : Setting} {s : Lent} {S : State} → Follows p Γ s S → Follows p Γ (oneStep s) S
 unfolding wordsOf sound
 count-follows F =
     record {
-      last-is = F .last-is;
+      setting-is = F .setting-is;
       made-is = F .made-is;
       edges-are = F .edges-are;
       rows-are = F .rows-are;

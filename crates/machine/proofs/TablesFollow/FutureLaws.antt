@@ -11,7 +11,7 @@ use Rattle.graph.proofs.TestLaws.{true-false, both-true}
 use Rattle.program.specs.Located.{Code}
 use Rattle.program.proofs.OpenLaws.{nthOpen}
 use Rattle.machine.specs.Stepping.{latest, openFuture, further, followed}
-use Rattle.machine.proofs.GhostMachine.Ghost.{Control, State, vertexAt}
+use Rattle.machine.proofs.GhostMachine.Ghost.{Control, Setting, State, vertexAt}
 use Rattle.machine.proofs.GhostMachine.Invariant.{In, here, sits, bodies, Opened}
 use Rattle.machine.proofs.TablesFollow.Follows.{Words, row, wordsOf, firstOf, Shows, shows-draft, shows-fresh, shows-ready, shows-busy}
 use Rattle.machine.proofs.TablesFollow.Follows.{shows-joining, shows-over, Follows}
@@ -22,7 +22,8 @@ latestIn (row st pl sc ph a b c l) = l
 
 -- is the nearest one that is open at a vertex that sits
 sitting-latest :
-    {p : Code} {L σ : ℕ} {fs : List (ℕ × Code)} {w : Words} {x : Control} → Shows p L w σ fs x → sits x ≡ true → latestIn w ≡ firstOf fs
+    {p : Code} {Γ : Setting} {v σ : ℕ} {fs : List (ℕ × Code)} {w : Words} {x : Control} → Shows p Γ v w σ fs x → sits x ≡ true
+    → latestIn w ≡ firstOf fs
 unfolding sits
 sitting-latest (shows-draft h) q = true-false q refl
 sitting-latest (shows-fresh h) q = ap latestIn h
@@ -36,7 +37,7 @@ pub future-named : (s : Lent) (t : ℕ) → 0 < t → t < s .made → openFuture
 unfolding openFuture
 future-named s t some-vertex made = rw (both-true (lt-ltb 0 t some-vertex) (lt-ltb t (s .made) made)) refl
 
-module _ {p : Code} {L : ℕ} {s : Lent} {S : State} (F : Follows p L s S) (opened : Opened S) where
+module _ {p : Code} {Γ : Setting} {s : Lent} {S : State} (F : Follows p Γ s S) (opened : Opened S) where
   latest-is : (t : ℕ) → t < S .count → sits (S .control t) ≡ true → latest s t ≡ firstOf (S .opens t)
   unfolding wordsOf
   latest-is t lt q = sitting-latest (F .rows-are t lt) q

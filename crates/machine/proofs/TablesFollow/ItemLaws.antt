@@ -10,21 +10,23 @@ use native.Mathlib.Omega.{arith}
 use lib.ListN.{length, drop, take, getD}
 use borrow.Author.Tests.{eq-eqb, ne-eqb}
 use Rattle.graph.specs.Tests.{both}
-use Rattle.graph.specs.Tables.{EXECUTING}
+use Rattle.graph.specs.Tables.{RELEASED, EXECUTING}
 use Rattle.graph.proofs.TestLaws.{both-left, both-right}
+use Rattle.program.specs.declared.Edition.{Edition}
+use Rattle.program.specs.declared.Edition.the-variants.{First, Second}
 use Rattle.program.specs.Encodings.{Name, own-scope, made-1, Spot, first-body, second-body, past-item, last-byte, Command, perform, newTd, newEdge}
-use Rattle.program.specs.Encodings.{transfer, release, firstEdition, weight}
+use Rattle.program.specs.Encodings.{transfer, release, forkRow, rowOf, weight}
 use Rattle.program.specs.Encodings as table
 use Rattle.program.specs.Located.{Code, end-at, job-at, async-at, finish-at, fork-at, future-at, force-at, startOf, codeAt}
 use Rattle.program.proofs.OpenLaws.{nthOpen, Opens}
 use Rattle.machine.specs.Stepping.{nth, Own, withMade, withKept, withPhase, pastItem, movedOn}
-use Rattle.machine.proofs.GhostMachine.Ghost.{Do, link, hand, free, joining, Kid, kid, awaiting, kids, goes, kindOf, commandsOf, vertexAt}
-use Rattle.machine.proofs.GhostMachine.Ghost.{forcedBy, opensBehind, resolved, joins, todo, onward}
+use Rattle.machine.proofs.GhostMachine.Ghost.{Do, link, hand, free, yield, ready, joining, Setting, Kid, kid, awaiting, forkKids, kids, goes}
+use Rattle.machine.proofs.GhostMachine.Ghost.{kindOf, commandsOf, vertexAt, forcedBy, opensBehind, resolved, joins, todo, onward, resumed}
 use Rattle.machine.proofs.GhostMachine.Invariant.{isItem, bodies}
 use Rattle.machine.proofs.GhostMachine.Unsplit.{MoreToMake}
-use Rattle.machine.proofs.TablesFollow.Follows.{Words, row, firstOf, Shows, shows-busy, shows-joining}
-use Rattle.machine.proofs.TablesFollow.RowLaws.{ownIn, putOwn, advancing}
-use Rattle.machine.proofs.TablesFollow.StepLaws.{plain, plainNames, ItemOf, rowOf, job-item, item-of}
+use Rattle.machine.proofs.TablesFollow.Follows.{Words, row, firstOf, Shows, shows-ready, shows-busy, shows-joining}
+use Rattle.machine.proofs.TablesFollow.RowLaws.{ownIn, putOwn, advancing, turned}
+use Rattle.machine.proofs.TablesFollow.StepLaws.{plain, plainNames, ItemOf, rowFor, job-item, item-of}
 
 -- no list is empty and not
 not-nil : {A P : Type 0} {x : A} {xs : List A} → [] ≡ x ∷ xs → P
@@ -46,7 +48,7 @@ next-left (x ∷ xs) zero {c} {rest} h =
     (cc, z, omega (arith, ap (λ (l : List Command). length l) z))
 next-left (x ∷ xs) (suc n) h = let (p, q, r) = next-left xs n h in (p, q, omega (arith, r))
 
--- commands that join vertices
+-- commands that join vertices, a yield at the end only
 unfoldable Joining : List Command → Type 0
 Joining [] = Unit {0}
 Joining (perform ∷ cs) = ⊥
@@ -54,6 +56,7 @@ Joining (newTd p a ∷ cs) = ⊥
 Joining (newEdge a b ∷ cs) = Joining cs
 Joining (transfer a ∷ cs) = Joining cs
 Joining (release a ∷ cs) = Joining cs
+Joining (table.yield ∷ cs) = cs ≡ []
 
 -- and what is left of such
 joining-drop : (cs : List Command) (n : ℕ) → Joining cs → Joining (drop n cs)
@@ -65,91 +68,101 @@ joining-drop (newTd p a ∷ cs) (suc n) h = absurd h
 joining-drop (newEdge a b ∷ cs) (suc n) h = joining-drop cs n h
 joining-drop (transfer a ∷ cs) (suc n) h = joining-drop cs n h
 joining-drop (release a ∷ cs) (suc n) h = joining-drop cs n h
+joining-drop (table.yield ∷ cs) (suc n) h = subst (λ (l : List Command). Joining (drop n l)) (sym h) (joining-drop [] n tt)
 
 -- behind the vertices that it makes, an item has nothing else to do
+joining-fork :
+    (ed : Edition) (r : Code) (φ : ℕ) → 2 + length (forkKids ed r) ≤ φ → Joining (drop φ (forkRow ed .commands))
+unfolding forkKids forkRow Joining
+joining-fork ed r zero le = absurd (omega arith)
+joining-fork ed r (suc zero) le = absurd (omega arith)
+joining-fork First r (suc (suc zero)) le = absurd (omega arith)
+joining-fork First r (suc (suc (suc φ))) le = joining-drop _ φ tt
+joining-fork Second r (suc (suc φ)) le = joining-drop _ φ refl
+
 joining-left :
-    (L : ℕ) (c : Code) (φ σ f : ℕ) (ms : List ℕ) {d : Do} {ds : List Do} → length (kids L c) ≤ φ
-    → joins σ f ms (drop φ (commandsOf (kindOf c))) ≡ d ∷ ds → Joining (drop φ (commandsOf (kindOf c)))
-unfolding kids kindOf commandsOf firstEdition joins Joining
-joining-left L (end-at o) zero σ f ms le h = tt
-joining-left L (end-at o) (suc φ) σ f ms le h = tt
-joining-left L (job-at o n r) zero σ f ms le h = not-nil h
-joining-left L (job-at o n r) (suc φ) σ f ms le h = joining-drop [] φ tt
-joining-left L (async-at o b r) zero σ f ms le h = absurd (omega arith)
-joining-left L (async-at o b r) (suc φ) σ f ms le h = joining-drop _ φ tt
-joining-left L (finish-at o b r) zero σ f ms le h = absurd (omega arith)
-joining-left L (finish-at o b r) (suc zero) σ f ms le h = absurd (omega arith)
-joining-left L (finish-at o b r) (suc (suc φ)) σ f ms le h = joining-drop _ φ tt
-joining-left L (fork-at o b c r) zero σ f ms le h = absurd (omega arith)
-joining-left L (fork-at o b c r) (suc zero) σ f ms le h = absurd (omega arith)
-joining-left L (fork-at o b c r) (suc (suc zero)) σ f ms le h = absurd (omega arith)
-joining-left L (fork-at o b c r) (suc (suc (suc φ))) σ f ms le h = joining-drop _ φ tt
-joining-left L (future-at o b r) zero σ f ms le h = absurd (omega arith)
-joining-left L (future-at o b r) (suc zero) σ f ms le h = absurd (omega arith)
-joining-left L (future-at o b r) (suc (suc φ)) σ f ms le h = joining-drop _ φ tt
-joining-left L (force-at o n b r) zero σ f ms le h = absurd (omega arith)
-joining-left L (force-at o n b r) (suc φ) σ f ms le h = joining-drop _ φ tt
+    (Γ : Setting) (c : Code) (φ v σ f : ℕ) (ms : List ℕ) {d : Do} {ds : List Do} → length (kids Γ c) ≤ φ
+    → joins v σ f ms (drop φ (commandsOf (Γ .edition) (kindOf c))) ≡ d ∷ ds → Joining (drop φ (commandsOf (Γ .edition) (kindOf c)))
+unfolding kids kindOf commandsOf rowOf joins Joining
+joining-left Γ (end-at o) zero v σ f ms le h = tt
+joining-left Γ (end-at o) (suc φ) v σ f ms le h = tt
+joining-left Γ (job-at o n r) zero v σ f ms le h = not-nil h
+joining-left Γ (job-at o n r) (suc φ) v σ f ms le h = joining-drop [] φ tt
+joining-left Γ (async-at o b r) zero v σ f ms le h = absurd (omega arith)
+joining-left Γ (async-at o b r) (suc φ) v σ f ms le h = joining-drop _ φ tt
+joining-left Γ (finish-at o b r) zero v σ f ms le h = absurd (omega arith)
+joining-left Γ (finish-at o b r) (suc zero) v σ f ms le h = absurd (omega arith)
+joining-left Γ (finish-at o b r) (suc (suc φ)) v σ f ms le h = joining-drop _ φ tt
+joining-left Γ (fork-at o b c r) φ v σ f ms le h = joining-fork (Γ .edition) r φ (omega (arith, le))
+joining-left Γ (future-at o b r) zero v σ f ms le h = absurd (omega arith)
+joining-left Γ (future-at o b r) (suc zero) v σ f ms le h = absurd (omega arith)
+joining-left Γ (future-at o b r) (suc (suc φ)) v σ f ms le h = joining-drop _ φ tt
+joining-left Γ (force-at o n b r) zero v σ f ms le h = absurd (omega arith)
+joining-left Γ (force-at o n b r) (suc φ) v σ f ms le h = joining-drop _ φ tt
 
 -- a command and what it does, with its names filled in
-pub data Joins (σ f : ℕ) (ms : List ℕ) : Command → Do → Type 0 where
-  joins-link : (a b : Name) → Joins σ f ms (newEdge a b) (link (resolved σ f ms a) (resolved σ f ms b))
-  joins-hand : (a : Name) → Joins σ f ms (transfer a) (hand (resolved σ f ms a))
-  joins-free : (a : Name) → Joins σ f ms (release a) (free (resolved σ f ms a))
+pub data Joins (v σ f : ℕ) (ms : List ℕ) : Command → Do → Type 0 where
+  joins-link : (a b : Name) → Joins v σ f ms (newEdge a b) (link (resolved v σ f ms a) (resolved v σ f ms b))
+  joins-hand : (a : Name) → Joins v σ f ms (transfer a) (hand (resolved v σ f ms a))
+  joins-free : (a : Name) → Joins v σ f ms (release a) (free (resolved v σ f ms a))
+  joins-yield : Joins v σ f ms table.yield yield
 
 -- the next one of commands that join
-record Next (σ f : ℕ) (ms : List ℕ) (cs : List Command) (d : Do) (ds : List Do) : Type 0 where
+record Next (v σ f : ℕ) (ms : List ℕ) (cs : List Command) (d : Do) (ds : List Do) : Type 0 where
   pub command : Command
   pub rest : List Command
   pub list-is : cs ≡ command ∷ rest
-  pub does : Joins σ f ms command d
-  pub then-does : joins σ f ms rest ≡ ds
-  pub still : Joining rest
+  pub does : Joins v σ f ms command d
+  pub then-does : joins v σ f ms rest ≡ ds
 
 -- one that is found
 next-by :
-    {σ f : ℕ} {ms : List ℕ} {c : Command} {cs : List Command} {d d' : Do} {ds ds' : List Do} → Joins σ f ms c d' → d' ∷ ds' ≡ d ∷ ds
-    → joins σ f ms cs ≡ ds' → Joining cs → Next σ f ms (c ∷ cs) d ds
-next-by {σ} {f} {ms} {c} {cs} {d} {d'} {ds} does q h j =
+    {v σ f : ℕ} {ms : List ℕ} {c : Command} {cs : List Command} {d d' : Do} {ds ds' : List Do} → Joins v σ f ms c d' → d' ∷ ds' ≡ d ∷ ds
+    → joins v σ f ms cs ≡ ds' → Next v σ f ms (c ∷ cs) d ds
+next-by {v} {σ} {f} {ms} {c} {cs} {d} {d'} {ds} does q h =
     let first : d' ≡ d = cc in
     record {
       command = c;
       rest = cs;
       list-is = refl;
-      does = subst (λ (x : Do). Joins σ f ms c x) first does;
+      does = subst (λ (x : Do). Joins v σ f ms c x) first does;
       then-does = cc;
-      still = j;
     }
 
 next-of :
-    (σ f : ℕ) (ms : List ℕ) (cs : List Command) (d : Do) (ds : List Do) → Joining cs → joins σ f ms cs ≡ d ∷ ds → Next σ f ms cs d ds
+    (v σ f : ℕ) (ms : List ℕ) (cs : List Command) (d : Do) (ds : List Do) → Joining cs → joins v σ f ms cs ≡ d ∷ ds
+    → Next v σ f ms cs d ds
 unfolding Joining joins
-next-of σ f ms [] d ds j h = not-nil h
-next-of σ f ms (perform ∷ cs) d ds j h = absurd j
-next-of σ f ms (newTd p a ∷ cs) d ds j h = absurd j
-next-of σ f ms (newEdge a b ∷ cs) d ds j h = next-by (joins-link a b) h refl j
-next-of σ f ms (transfer a ∷ cs) d ds j h = next-by (joins-hand a) h refl j
-next-of σ f ms (release a ∷ cs) d ds j h = next-by (joins-free a) h refl j
+next-of v σ f ms [] d ds j h = not-nil h
+next-of v σ f ms (perform ∷ cs) d ds j h = absurd j
+next-of v σ f ms (newTd p a ∷ cs) d ds j h = absurd j
+next-of v σ f ms (newEdge a b ∷ cs) d ds j h = next-by (joins-link a b) h refl
+next-of v σ f ms (transfer a ∷ cs) d ds j h = next-by (joins-hand a) h refl
+next-of v σ f ms (release a ∷ cs) d ds j h = next-by (joins-free a) h refl
+next-of v σ f ms (table.yield ∷ cs) d ds j h = next-by joins-yield h refl
 
 -- a command that joins keeps no vertex in the row
-joins-kept : {σ f : ℕ} {ms : List ℕ} {c : Command} {d : Do} (k x : ℕ) (w : Own) → Joins σ f ms c d → withKept c k x w ≡ w
+joins-kept : {v σ f : ℕ} {ms : List ℕ} {c : Command} {d : Do} (k x : ℕ) (w : Own) → Joins v σ f ms c d → withKept c k x w ≡ w
 unfolding withKept
 joins-kept k x w (joins-link a b) = refl
 joins-kept k x w (joins-hand a) = refl
 joins-kept k x w (joins-free a) = refl
+joins-kept k x w joins-yield = refl
 
 -- the kind's commands are the code's
-commands-are : {L : ℕ} {c : Code} (i : ItemOf L c) → commandsOf (kindOf c) ≡ rowOf i .commands
+commands-are : {Γ : Setting} {c : Code} (i : ItemOf Γ c) → commandsOf (Γ .edition) (kindOf c) ≡ rowFor i .commands
 unfolding commandsOf
-commands-are i = ap commandsOf (i .is-kind)
+commands-are {Γ} i = ap (commandsOf (Γ .edition)) (i .is-kind)
 
 -- commands that join do something
-joins-some : (σ f : ℕ) (ms : List ℕ) (c : Command) (cs : List Command) → Joining (c ∷ cs) → joins σ f ms (c ∷ cs) ≡ [] → ⊥
+joins-some : (v σ f : ℕ) (ms : List ℕ) (c : Command) (cs : List Command) → Joining (c ∷ cs) → joins v σ f ms (c ∷ cs) ≡ [] → ⊥
 unfolding Joining joins
-joins-some σ f ms perform cs j h = j
-joins-some σ f ms (newTd p a) cs j h = j
-joins-some σ f ms (newEdge a b) cs j h = not-nil (sym h)
-joins-some σ f ms (transfer a) cs j h = not-nil (sym h)
-joins-some σ f ms (release a) cs j h = not-nil (sym h)
+joins-some v σ f ms perform cs j h = j
+joins-some v σ f ms (newTd p a) cs j h = j
+joins-some v σ f ms (newEdge a b) cs j h = not-nil (sym h)
+joins-some v σ f ms (transfer a) cs j h = not-nil (sym h)
+joins-some v σ f ms (release a) cs j h = not-nil (sym h)
+joins-some v σ f ms table.yield cs j h = not-nil (sym h)
 
 -- the row of a vertex that is at phase φ of the first item of c, and of one whose item has made ms; l is the latest open future
 abbrev itemRow : Code → ℕ → ℕ → List ℕ → ℕ → Words
@@ -159,47 +172,73 @@ abbrev pub busyRow : Code → ℕ → List ℕ → ℕ → Words
 busyRow c σ ms l = row EXECUTING (startOf c) σ (length ms) (getD ms 0 0) (getD ms 1 0) (getD ms 2 0) l
 
 module _
-    {p : Code} {L : ℕ} (σ : ℕ) (w : Words) (k : Code) (φ : ℕ) (ms : List ℕ) (gs : List (ℕ × Code)) (i : ItemOf L k)
+    (p : Code) {Γ : Setting} (v σ : ℕ) (w : Words) (k : Code) (φ : ℕ) (ms : List ℕ) (gs : List (ℕ × Code)) (i : ItemOf Γ k)
     (is-row : w ≡ itemRow k σ φ ms (firstOf gs)) (opens : Opens (bodies gs) k)
   where
-    -- the row after an item's last command
-    shows-last : Shows p L (putOwn (pastItem (rowOf i) (i .spot) (ownIn w)) w) σ (opensBehind gs ms k) (onward (goes L k) [])
+    -- the own words past the item, and what is left of it
+    abbrev past : Own
+    past = pastItem (rowFor i) (i .spot) (ownIn w)
+
+    abbrev left : List Command → List Do
+    left cs = joins v σ (forcedBy gs k) ms cs
+
+    -- the row after an item's last command, and after one that yields
+    shows-last : Shows p Γ v (putOwn past w) σ (opensBehind gs ms k) (onward (goes Γ k) [])
     unfolding onward pastItem
     shows-last =
         shows-busy
-        (ap (λ (y : Words). putOwn (pastItem (rowOf i) (i .spot) (ownIn y)) y) is-row
+        (ap (λ (y : Words). putOwn (pastItem (rowFor i) (i .spot) (ownIn y)) y) is-row
         ∙ (λ j. row EXECUTING (i .goes-on j) σ 0 0 0 0 (i .opens-as gs ms j)))
+
+    shows-yielded : Shows p Γ v (putOwn past (turned yield w)) σ (opensBehind gs ms k) (ready (goes Γ k))
+    unfolding pastItem
+    shows-yielded =
+        shows-ready
+        (ap (λ (y : Words). putOwn (pastItem (rowFor i) (i .spot) (ownIn y)) (turned yield y)) is-row
+        ∙ (λ j. row RELEASED (i .goes-on j) σ 0 0 0 0 (i .opens-as gs ms j)))
 
     -- and after another one of those that join
     shows-next :
-        (ds : List Do) → codeAt p (startOf k) ≡ some k → length (kids L k) ≤ φ
-        → joins σ (forcedBy gs k) ms (drop (suc φ) (commandsOf (kindOf k))) ≡ ds → (ds ≡ [] → ⊥)
-        → Shows p L (putOwn (withPhase (suc φ) (ownIn w)) w) σ (opensBehind gs ms k) (onward (goes L k) ds)
+        (ds : List Do) → codeAt p (startOf k) ≡ some k → length (kids Γ k) ≤ φ
+        → left (drop (suc φ) (commandsOf (Γ .edition) (kindOf k))) ≡ ds → (ds ≡ [] → ⊥)
+        → Shows p Γ v (putOwn (withPhase (suc φ) (ownIn w)) w) σ (opensBehind gs ms k) (onward (goes Γ k) ds)
     unfolding onward withPhase
     shows-next [] at le h full = absurd (full refl)
     shows-next (d ∷ ds) at le h full =
         shows-joining k (suc φ) ms gs (ap (λ (y : Words). putOwn (withPhase (suc φ) (ownIn y)) y) is-row) at refl (omega arith) h refl opens
 
     -- by what is left
-    shows-onward :
-        (x : ℕ) (c : Command) (rest : List Command) (d : Do) (ds : List Do) → codeAt p (startOf k) ≡ some k → length (kids L k) ≤ φ
-        → drop (suc φ) (commandsOf (kindOf k)) ≡ rest → suc φ + length rest ≡ length (commandsOf (kindOf k)) → Joining rest
-        → Joins σ (forcedBy gs k) ms c d → joins σ (forcedBy gs k) ms rest ≡ ds
-        → Shows p L (advancing (rowOf i) (i .spot) c φ x w) σ (opensBehind gs ms k) (onward (goes L k) ds)
-    unfolding joins movedOn
-    shows-onward x c [] d ds at le left count j does h =
-        rw (eq-eqb (suc φ) (length (rowOf i .commands)) (omega (arith, count, all)), sym h) shows-last
-      where
-        all : length (commandsOf (kindOf k)) ≡ length (rowOf i .commands)
-        all = ap (λ (l : List Command). length l) (commands-are i)
-    shows-onward x c (c' ∷ rest) d ds at le left count j does h =
-        rw (ne-eqb (suc φ) (length (rowOf i .commands)) (λ q. omega (arith, q, count, all)))
-        (rw (joins-kept (weight table.makes (take φ (rowOf i .commands))) x (ownIn w) does)
-        (shows-next ds at le (ap (λ (l : List Command). joins σ (forcedBy gs k) ms l) left ∙ h)
-        (λ q. joins-some σ (forcedBy gs k) ms c' rest j (h ∙ q))))
-      where
-        all : length (commandsOf (kindOf k)) ≡ length (rowOf i .commands)
-        all = ap (λ (l : List Command). length l) (commands-are i)
+    module _ (at : codeAt p (startOf k) ≡ some k) (le : length (kids Γ k) ≤ φ) where
+      all-commands : length (commandsOf (Γ .edition) (kindOf k)) ≡ length (rowFor i .commands)
+      all-commands = ap (λ (l : List Command). length l) (commands-are i)
+
+      shows-onward :
+          (x : ℕ) {c : Command} (rest : List Command) {d : Do} (ds : List Do) → drop (suc φ) (commandsOf (Γ .edition) (kindOf k)) ≡ rest
+          → suc φ + length rest ≡ length (commandsOf (Γ .edition) (kindOf k)) → Joining rest → Joins v σ (forcedBy gs k) ms c d
+          → left rest ≡ ds
+          → Shows p Γ v (advancing (rowFor i) (i .spot) c φ x w) σ (opensBehind gs ms k) (onward (goes Γ k) ds)
+      unfolding joins movedOn
+      shows-onward x [] ds from count j does h =
+          rw (eq-eqb (suc φ) (length (rowFor i .commands)) (omega (arith, count, all-commands)), sym h) shows-last
+      shows-onward x (c' ∷ rest) ds from count j does h =
+          rw (ne-eqb (suc φ) (length (rowFor i .commands)) (λ q. omega (arith, q, count, all-commands)))
+          (rw (joins-kept (weight table.makes (take φ (rowFor i .commands))) x (ownIn w) does)
+          (shows-next ds at le (ap (λ (l : List Command). left l) from ∙ h)
+          (λ q. joins-some v σ (forcedBy gs k) ms c' rest j (h ∙ q))))
+
+      shows-resumed :
+          (x : ℕ) {c : Command} (rest : List Command) {d : Do} (ds : List Do) → drop (suc φ) (commandsOf (Γ .edition) (kindOf k)) ≡ rest
+          → suc φ + length rest ≡ length (commandsOf (Γ .edition) (kindOf k)) → Joining (c ∷ rest) → Joins v σ (forcedBy gs k) ms c d
+          → left rest ≡ ds
+          → Shows p Γ v (putOwn (movedOn (rowFor i) (i .spot) c φ x (ownIn w)) (turned d w)) σ (opensBehind gs ms k)
+          (resumed (goes Γ k) d ds)
+      unfolding resumed movedOn Joining
+      shows-resumed x rest ds from count j (joins-link a b) h = shows-onward x rest ds from count j (joins-link a b) h
+      shows-resumed x rest ds from count j (joins-hand a) h = shows-onward x rest ds from count j (joins-hand a) h
+      shows-resumed x rest ds from count j (joins-free a) h = shows-onward x rest ds from count j (joins-free a) h
+      shows-resumed x [] ds from count j joins-yield h =
+          rw (eq-eqb (suc φ) (length (rowFor i .commands)) (omega (arith, count, all-commands))) shows-yielded
+      shows-resumed x (c' ∷ rest) ds from count j joins-yield h = not-nil (sym j)
 
 -- k begins with a force of the future number n, which is open among gs; behind the item the same futures fs are
 pub record ForcesOpen (gs fs : List (ℕ × Code)) (k : Code) (n : ℕ) : Type 0 where
@@ -208,33 +247,33 @@ pub record ForcesOpen (gs fs : List (ℕ × Code)) (k : Code) (n : ℕ) : Type 0
   pub vertex-is : forcedBy gs k ≡ vertexAt gs n
   pub still-open : gs ≡ fs
 
--- A row w whose vertex does d next and then ds, and goes to the code `to`, where the futures fs are open: it has come to phase φ of the first
--- item of k, and the command there does d. If that command names a future, the item is a force of one that is open.
-pub record Acting (p : Code) (L σ : ℕ) (fs : List (ℕ × Code)) (w : Words) (d : Do) (ds : List Do) (to : Code) : Type 0 where
+-- A row w whose vertex v does d next and then ds, and goes to the code `to`, where the futures fs are open: it has come to phase φ of the
+-- first item of k, and the command there does d. If that command names a future, the item is a force of one that is open.
+pub record Acting (p : Code) (Γ : Setting) (v σ : ℕ) (fs : List (ℕ × Code)) (w : Words) (d : Do) (ds : List Do) (to : Code) : Type 0 where
   pub k : Code
   pub φ : ℕ
   pub ms : List ℕ
   pub gs : List (ℕ × Code)
-  pub item : ItemOf L k
+  pub item : ItemOf Γ k
   pub is-row : w ≡ itemRow k σ φ ms (firstOf gs)
   pub stands : codeAt p (startOf k) ≡ some k
   pub command : Command
-  pub next-is : nth (rowOf item .commands) φ ≡ some command
+  pub next-is : nth (rowFor item .commands) φ ≡ some command
   pub names : (plainNames command ≡ true) ⊎ ForcesOpen gs fs k (item .number)
-  pub does : Joins σ (forcedBy gs k) ms command d
-  pub shows : (x : ℕ) → Shows p L (advancing (rowOf item) (item .spot) command φ x w) σ fs (onward to ds)
+  pub does : Joins v σ (forcedBy gs k) ms command d
+  pub shows : (x : ℕ) → Shows p Γ v (putOwn (movedOn (rowFor item) (item .spot) command φ x (ownIn w)) (turned d w)) σ fs (resumed to d ds)
 
 -- an end byte has no commands
-left-item : (k : Code) (φ : ℕ) {c : Command} {rest : List Command} → drop φ (commandsOf (kindOf k)) ≡ c ∷ rest → isItem k ≡ true
+left-item : (ed : Edition) (k : Code) (φ : ℕ) {c : Command} {rest : List Command} → drop φ (commandsOf ed (kindOf k)) ≡ c ∷ rest → isItem k ≡ true
 unfolding kindOf commandsOf isItem
-left-item (end-at o) zero h = not-nil h
-left-item (end-at o) (suc φ) h = not-nil h
-left-item (job-at o n r) φ h = refl
-left-item (async-at o b r) φ h = refl
-left-item (finish-at o b r) φ h = refl
-left-item (fork-at o b c r) φ h = refl
-left-item (future-at o b r) φ h = refl
-left-item (force-at o n b r) φ h = refl
+left-item ed (end-at o) zero h = not-nil h
+left-item ed (end-at o) (suc φ) h = not-nil h
+left-item ed (job-at o n r) φ h = refl
+left-item ed (async-at o b r) φ h = refl
+left-item ed (finish-at o b r) φ h = refl
+left-item ed (fork-at o b c r) φ h = refl
+left-item ed (future-at o b r) φ h = refl
+left-item ed (force-at o n b r) φ h = refl
 
 -- commands none of which names a force's future
 unfoldable allPlain : List Command → Bool
@@ -247,33 +286,44 @@ plain-nth [] n all h = absurd (Option·none-ne-some _ h)
 plain-nth (c ∷ cs) zero all h = let same = Option·some-injective _ _ h in ap plainNames (sym same) ∙ both-left _ _ all
 plain-nth (c ∷ cs) (suc n) all h = plain-nth cs n (both-right _ _ all) h
 
--- such are those of every item but a force
+-- such are those of a fork, and of every item but a force
+fork-plain : (ed : Edition) → allPlain (forkRow ed .commands) ≡ true
+unfolding forkRow allPlain plainNames plain both
+fork-plain First = refl
+fork-plain Second = refl
+
 names-of :
-    (L : ℕ) (k : Code) (item : isItem k ≡ true) (gs fs : List (ℕ × Code)) (ms : List ℕ) (φ : ℕ) {c : Command}
-    → nth (commandsOf (kindOf k)) φ ≡ some c → Opens (bodies gs) k → opensBehind gs ms k ≡ fs
-    → (plainNames c ≡ true) ⊎ ForcesOpen gs fs k (item-of L k item .number)
-unfolding kindOf commandsOf firstEdition allPlain plainNames plain both Opens opensBehind forcedBy item-of isItem
-names-of L (end-at o) item gs fs ms φ h opens q = inl (plain-nth [] φ refl h)
-names-of L (job-at o n r) item gs fs ms φ h opens q = inl (plain-nth _ φ refl h)
-names-of L (async-at o b r) item gs fs ms φ h opens q = inl (plain-nth _ φ refl h)
-names-of L (finish-at o b r) item gs fs ms φ h opens q = inl (plain-nth _ φ refl h)
-names-of L (fork-at o b c r) item gs fs ms φ h opens q = inl (plain-nth _ φ refl h)
-names-of L (future-at o b r) item gs fs ms φ h opens q = inl (plain-nth _ φ refl h)
-names-of L (force-at o n b r) item gs fs ms φ h opens q =
+    (Γ : Setting) (k : Code) (item : isItem k ≡ true) (gs fs : List (ℕ × Code)) (ms : List ℕ) (φ : ℕ) {c : Command}
+    → nth (commandsOf (Γ .edition) (kindOf k)) φ ≡ some c → Opens (bodies gs) k → opensBehind gs ms k ≡ fs
+    → (plainNames c ≡ true) ⊎ ForcesOpen gs fs k (item-of Γ k item .number)
+unfolding kindOf commandsOf rowOf allPlain plainNames plain both Opens opensBehind forcedBy item-of isItem
+names-of Γ (end-at o) item gs fs ms φ h opens q = inl (plain-nth [] φ refl h)
+names-of Γ (job-at o n r) item gs fs ms φ h opens q = inl (plain-nth _ φ refl h)
+names-of Γ (async-at o b r) item gs fs ms φ h opens q = inl (plain-nth _ φ refl h)
+names-of Γ (finish-at o b r) item gs fs ms φ h opens q = inl (plain-nth _ φ refl h)
+names-of Γ (fork-at o b c r) item gs fs ms φ h opens q = inl (plain-nth _ φ (fork-plain (Γ .edition)) h)
+names-of Γ (future-at o b r) item gs fs ms φ h opens q = inl (plain-nth _ φ refl h)
+names-of Γ (force-at o n b r) item gs fs ms φ h opens q =
     inr (record { body = b; is-open = opens .0; vertex-is = refl; still-open = q })
 
 -- it is so of each row that shows a joining control
 pub acting :
-    {p : Code} {L σ : ℕ} {fs : List (ℕ × Code)} {w : Words} {c : Code} {d : Do} {ds : List Do} → Shows p L w σ fs (joining c d ds)
-    → Acting p L σ fs w d ds c
-acting {p} {L} {σ} {fs} {w} {c} {d} {ds} (shows-joining k φ ms gs is-row at to le left behind opens) =
+    {p : Code} {Γ : Setting} {v σ : ℕ} {fs : List (ℕ × Code)} {w : Words} {c : Code} {d : Do} {ds : List Do}
+    → Shows p Γ v w σ fs (joining c d ds) → Acting p Γ v σ fs w d ds c
+acting {p} {Γ} {v} {σ} {fs} {w} {c} {d} {ds} (shows-joining k φ ms gs is-row at to le left behind opens) =
     let f : ℕ = forcedBy gs k in
-    let n : Next σ f ms (drop φ (commandsOf (kindOf k))) d ds = next-of σ f ms _ d ds (joining-left L k φ σ f ms le left) left in
-    let is-item = left-item k φ (n .list-is) in
-    let i : ItemOf L k = item-of L k is-item in
-    let (at-φ, further, count) = next-left (commandsOf (kindOf k)) φ (n .list-is) in
-    let shown : (x : ℕ) → Shows p L (advancing (rowOf i) (i .spot) (n .command) φ x w) σ (opensBehind gs ms k) (onward (goes L k) ds)
-    = λ x. shows-onward σ w k φ ms gs i is-row opens x (n .command) (n .rest) d ds at le further count (n .still) (n .does) (n .then-does) in
+    let cs : List Command = commandsOf (Γ .edition) (kindOf k) in
+    let order : Joining (drop φ cs) = joining-left Γ k φ v σ f ms le left in
+    let n : Next v σ f ms (drop φ cs) d ds = next-of v σ f ms _ d ds order left in
+    let is-item = left-item (Γ .edition) k φ (n .list-is) in
+    let i : ItemOf Γ k = item-of Γ k is-item in
+    let (at-φ, further, count) = next-left cs φ (n .list-is) in
+    let after : ℕ → Words = λ x. putOwn (movedOn (rowFor i) (i .spot) (n .command) φ x (ownIn w)) (turned d w) in
+    let shown : (x : ℕ) → Shows p Γ v (after x) σ (opensBehind gs ms k) (resumed (goes Γ k) d ds) =
+    λ x.
+    shows-resumed p v σ w k φ ms gs i is-row opens at le x (n .rest) ds further count (subst Joining (n .list-is) order) (n .does)
+    (n .then-does)
+    in
     record {
       k = k;
       φ = φ;
@@ -284,49 +334,48 @@ acting {p} {L} {σ} {fs} {w} {c} {d} {ds} (shows-joining k φ ms gs is-row at to
       stands = at;
       command = n .command;
       next-is = ap (λ (l : List Command). nth l φ) (sym (commands-are i)) ∙ at-φ;
-      names = names-of L k is-item gs fs ms φ at-φ opens behind;
+      names = names-of Γ k is-item gs fs ms φ at-φ opens behind;
       does = n .does;
       shows =
           λ x.
-          subst (λ (z : Code). Shows p L (advancing (rowOf i) (i .spot) (n .command) φ x w) σ fs (onward z ds)) to
-          (subst (λ (z : List (ℕ × Code)). Shows p L (advancing (rowOf i) (i .spot) (n .command) φ x w) σ z (onward (goes L k) ds)) behind
-          (shown x));
+          subst (λ (z : Code). Shows p Γ v (after x) σ fs (resumed z d ds)) to
+          (subst (λ (z : List (ℕ × Code)). Shows p Γ v (after x) σ z (resumed (goes Γ k) d ds)) behind (shown x));
     }
 
 -- an item that has made ms next makes the vertex k
-pub record Making (L : ℕ) (c : Code) (ms : List ℕ) (k : Kid) : Type 0 where
-  pub item : ItemOf L c
+pub record Making (Γ : Setting) (c : Code) (ms : List ℕ) (k : Kid) : Type 0 where
+  pub item : ItemOf Γ c
   pub spot-of : Spot
-  pub next-is : nth (rowOf item .commands) (length ms) ≡ some (newTd spot-of (k .name))
+  pub next-is : nth (rowFor item .commands) (length ms) ≡ some (newTd spot-of (k .name))
   pub plain-scope : plain (k .name) ≡ true
   pub spot-is : item .spot spot-of ≡ startOf (k .code)
   pub row-is :
       (σ l x : ℕ)
-      → advancing (rowOf item) (item .spot) (newTd spot-of (k .name)) (length ms) x (busyRow c σ ms l) ≡ busyRow c σ (ms ++ (x ∷ [])) l
+      → advancing (rowFor item) (item .spot) (newTd spot-of (k .name)) (length ms) x (busyRow c σ ms l) ≡ busyRow c σ (ms ++ (x ∷ [])) l
 
 -- this one is the last: the row shows what the item does behind its split
-abbrev pub Splitting : ℕ → Code → List ℕ → Type 0
-Splitting L c ms =
-    (p : Code) (σ x : ℕ) (gs : List (ℕ × Code)) (w : Words) → w ≡ busyRow c σ (ms ++ (x ∷ [])) (firstOf gs)
+abbrev pub Splitting : Setting → Code → List ℕ → Type 0
+Splitting Γ c ms =
+    (p : Code) (v σ x : ℕ) (gs : List (ℕ × Code)) (w : Words) → w ≡ busyRow c σ (ms ++ (x ∷ [])) (firstOf gs)
     → codeAt p (startOf c) ≡ some c → Opens (bodies gs) c
-    → Shows p L w σ (opensBehind gs (ms ++ (x ∷ [])) c) (onward (goes L c) (todo σ (forcedBy gs c) (ms ++ (x ∷ [])) c))
+    → Shows p Γ v w σ (opensBehind gs (ms ++ (x ∷ [])) c) (onward (goes Γ c) (todo (Γ .edition) v σ (forcedBy gs c) (ms ++ (x ∷ [])) c))
 
 -- what an item does that has made ms and is not split
-pub data Busy (L : ℕ) : Code → List ℕ → Type 0 where
-  at-end : (o : ℕ) → Busy L (end-at o) []
-  at-job : (o n : ℕ) (r : Code) → Busy L (job-at o n r) []
+pub data Busy (Γ : Setting) : Code → List ℕ → Type 0 where
+  at-end : (o : ℕ) → Busy Γ (end-at o) []
+  at-job : (o n : ℕ) (r : Code) → Busy Γ (job-at o n r) []
   making :
-      {c : Code} {ms : List ℕ} (k next : Kid) (more : List Kid) → drop (length ms) (kids L c) ≡ k ∷ (next ∷ more) → Making L c ms k
-      → Busy L c ms
+      {c : Code} {ms : List ℕ} (k next : Kid) (more : List Kid) → drop (length ms) (kids Γ c) ≡ k ∷ (next ∷ more) → Making Γ c ms k
+      → Busy Γ c ms
   splitting :
-      {c : Code} {ms : List ℕ} (k : Kid) → drop (length ms) (kids L c) ≡ k ∷ [] → Making L c ms k → Splitting L c ms → Busy L c ms
+      {c : Code} {ms : List ℕ} (k : Kid) → drop (length ms) (kids Γ c) ≡ k ∷ [] → Making Γ c ms k → Splitting Γ c ms → Busy Γ c ms
 
 -- the items' vertices
-async-makes : (L o : ℕ) (b r : Code) → Making L (async-at o b r) [] (kid b own-scope)
+async-makes : (Γ : Setting) (o : ℕ) (b r : Code) → Making Γ (async-at o b r) [] (kid b own-scope)
 unfolding nth weight table.makes item-of movedOn withPhase withKept withMade plain
-async-makes L o b r =
+async-makes Γ o b r =
     record {
-      item = item-of L (async-at o b r) refl;
+      item = item-of Γ (async-at o b r) refl;
       spot-of = first-body;
       next-is = refl;
       plain-scope = refl;
@@ -334,11 +383,11 @@ async-makes L o b r =
       row-is = λ σ l x. refl;
     }
 
-finish-makes-1 : (L o : ℕ) (b r : Code) → Making L (finish-at o b r) [] (kid r own-scope)
+finish-makes-1 : (Γ : Setting) (o : ℕ) (b r : Code) → Making Γ (finish-at o b r) [] (kid r own-scope)
 unfolding nth weight table.makes item-of movedOn withPhase withKept withMade plain
-finish-makes-1 L o b r =
+finish-makes-1 Γ o b r =
     record {
-      item = item-of L (finish-at o b r) refl;
+      item = item-of Γ (finish-at o b r) refl;
       spot-of = past-item;
       next-is = refl;
       plain-scope = refl;
@@ -346,11 +395,11 @@ finish-makes-1 L o b r =
       row-is = λ σ l x. refl;
     }
 
-finish-makes-2 : (L o : ℕ) (b r : Code) (m : ℕ) → Making L (finish-at o b r) (m ∷ []) (kid b made-1)
+finish-makes-2 : (Γ : Setting) (o : ℕ) (b r : Code) (m : ℕ) → Making Γ (finish-at o b r) (m ∷ []) (kid b made-1)
 unfolding nth weight table.makes item-of movedOn withPhase withKept withMade plain
-finish-makes-2 L o b r m =
+finish-makes-2 Γ o b r m =
     record {
-      item = item-of L (finish-at o b r) refl;
+      item = item-of Γ (finish-at o b r) refl;
       spot-of = first-body;
       next-is = refl;
       plain-scope = refl;
@@ -358,11 +407,24 @@ finish-makes-2 L o b r m =
       row-is = λ σ l x. refl;
     }
 
-fork-makes-1 : (L o : ℕ) (b c r : Code) → Making L (fork-at o b c r) [] (kid b own-scope)
-unfolding nth weight table.makes item-of movedOn withPhase withKept withMade plain
-fork-makes-1 L o b c r =
+-- a fork's, by its edition
+abbrev in-edition : Edition → ℕ → Setting
+in-edition ed L = record { edition = ed; lastByte = L }
+
+fork-makes-1 : (ed : Edition) (L o : ℕ) (b c r : Code) → Making (in-edition ed L) (fork-at o b c r) [] (kid b own-scope)
+unfolding nth weight table.makes item-of movedOn withPhase withKept withMade plain forkRow
+fork-makes-1 First L o b c r =
     record {
-      item = item-of L (fork-at o b c r) refl;
+      item = item-of (in-edition First L) (fork-at o b c r) refl;
+      spot-of = first-body;
+      next-is = refl;
+      plain-scope = refl;
+      spot-is = refl;
+      row-is = λ σ l x. refl;
+    }
+fork-makes-1 Second L o b c r =
+    record {
+      item = item-of (in-edition Second L) (fork-at o b c r) refl;
       spot-of = first-body;
       next-is = refl;
       plain-scope = refl;
@@ -370,11 +432,20 @@ fork-makes-1 L o b c r =
       row-is = λ σ l x. refl;
     }
 
-fork-makes-2 : (L o : ℕ) (b c r : Code) (m : ℕ) → Making L (fork-at o b c r) (m ∷ []) (kid c own-scope)
-unfolding nth weight table.makes item-of movedOn withPhase withKept withMade plain
-fork-makes-2 L o b c r m =
+fork-makes-2 : (ed : Edition) (L o : ℕ) (b c r : Code) (m : ℕ) → Making (in-edition ed L) (fork-at o b c r) (m ∷ []) (kid c own-scope)
+unfolding nth weight table.makes item-of movedOn withPhase withKept withMade plain forkRow
+fork-makes-2 First L o b c r m =
     record {
-      item = item-of L (fork-at o b c r) refl;
+      item = item-of (in-edition First L) (fork-at o b c r) refl;
+      spot-of = second-body;
+      next-is = refl;
+      plain-scope = refl;
+      spot-is = refl;
+      row-is = λ σ l x. refl;
+    }
+fork-makes-2 Second L o b c r m =
+    record {
+      item = item-of (in-edition Second L) (fork-at o b c r) refl;
       spot-of = second-body;
       next-is = refl;
       plain-scope = refl;
@@ -382,11 +453,11 @@ fork-makes-2 L o b c r m =
       row-is = λ σ l x. refl;
     }
 
-fork-makes-3 : (L o : ℕ) (b c r : Code) (m m' : ℕ) → Making L (fork-at o b c r) (m ∷ (m' ∷ [])) (kid r own-scope)
-unfolding nth weight table.makes item-of movedOn withPhase withKept withMade plain
+fork-makes-3 : (L o : ℕ) (b c r : Code) (m m' : ℕ) → Making (in-edition First L) (fork-at o b c r) (m ∷ (m' ∷ [])) (kid r own-scope)
+unfolding nth weight table.makes item-of movedOn withPhase withKept withMade plain forkRow
 fork-makes-3 L o b c r m m' =
     record {
-      item = item-of L (fork-at o b c r) refl;
+      item = item-of (in-edition First L) (fork-at o b c r) refl;
       spot-of = past-item;
       next-is = refl;
       plain-scope = refl;
@@ -394,11 +465,11 @@ fork-makes-3 L o b c r m m' =
       row-is = λ σ l x. refl;
     }
 
-future-makes-1 : (L o : ℕ) (b r : Code) → Making L (future-at o b r) [] (awaiting L r)
+future-makes-1 : (Γ : Setting) (o : ℕ) (b r : Code) → Making Γ (future-at o b r) [] (awaiting (Γ .lastByte) r)
 unfolding nth weight table.makes item-of movedOn withPhase withKept withMade plain startOf
-future-makes-1 L o b r =
+future-makes-1 Γ o b r =
     record {
-      item = item-of L (future-at o b r) refl;
+      item = item-of Γ (future-at o b r) refl;
       spot-of = last-byte;
       next-is = refl;
       plain-scope = refl;
@@ -406,11 +477,11 @@ future-makes-1 L o b r =
       row-is = λ σ l x. refl;
     }
 
-future-makes-2 : (L o : ℕ) (b r : Code) (m : ℕ) → Making L (future-at o b r) (m ∷ []) (kid b made-1)
+future-makes-2 : (Γ : Setting) (o : ℕ) (b r : Code) (m : ℕ) → Making Γ (future-at o b r) (m ∷ []) (kid b made-1)
 unfolding nth weight table.makes item-of movedOn withPhase withKept withMade plain
-future-makes-2 L o b r m =
+future-makes-2 Γ o b r m =
     record {
-      item = item-of L (future-at o b r) refl;
+      item = item-of Γ (future-at o b r) refl;
       spot-of = first-body;
       next-is = refl;
       plain-scope = refl;
@@ -418,11 +489,11 @@ future-makes-2 L o b r m =
       row-is = λ σ l x. refl;
     }
 
-force-makes : (L o n : ℕ) (b r : Code) → Making L (force-at o n b r) [] (kid r own-scope)
+force-makes : (Γ : Setting) (o n : ℕ) (b r : Code) → Making Γ (force-at o n b r) [] (kid r own-scope)
 unfolding nth weight table.makes item-of movedOn withPhase withKept withMade plain
-force-makes L o n b r =
+force-makes Γ o n b r =
     record {
-      item = item-of L (force-at o n b r) refl;
+      item = item-of Γ (force-at o n b r) refl;
       spot-of = past-item;
       next-is = refl;
       plain-scope = refl;
@@ -431,58 +502,73 @@ force-makes L o n b r =
     }
 
 -- and what is behind each split
-async-splits : (L o : ℕ) (b r : Code) → Splitting L (async-at o b r) []
-unfolding kids kindOf firstEdition commandsOf joins todo onward
-async-splits L o b r p σ x gs w q at opens = shows-joining (async-at o b r) 1 (x ∷ []) gs q at refl (omega arith) refl refl opens
+async-splits : (Γ : Setting) (o : ℕ) (b r : Code) → Splitting Γ (async-at o b r) []
+unfolding kids kindOf rowOf commandsOf joins todo onward
+async-splits Γ o b r p v σ x gs w q at opens = shows-joining (async-at o b r) 1 (x ∷ []) gs q at refl (omega arith) refl refl opens
 
-finish-splits : (L o : ℕ) (b r : Code) (m : ℕ) → Splitting L (finish-at o b r) (m ∷ [])
-unfolding kids kindOf firstEdition commandsOf joins todo onward
-finish-splits L o b r m p σ x gs w q at opens =
+finish-splits : (Γ : Setting) (o : ℕ) (b r : Code) (m : ℕ) → Splitting Γ (finish-at o b r) (m ∷ [])
+unfolding kids kindOf rowOf commandsOf joins todo onward
+finish-splits Γ o b r m p v σ x gs w q at opens =
     shows-joining (finish-at o b r) 2 (m ∷ (x ∷ [])) gs q at refl (omega arith) refl refl opens
 
-fork-splits : (L o : ℕ) (b c r : Code) (m m' : ℕ) → Splitting L (fork-at o b c r) (m ∷ (m' ∷ []))
-unfolding kids kindOf firstEdition commandsOf joins todo onward
-fork-splits L o b c r m m' p σ x gs w q at opens =
+fork-splits : (L o : ℕ) (b c r : Code) (m m' : ℕ) → Splitting (in-edition First L) (fork-at o b c r) (m ∷ (m' ∷ []))
+unfolding kids forkKids kindOf rowOf forkRow commandsOf joins todo onward
+fork-splits L o b c r m m' p v σ x gs w q at opens =
     shows-joining (fork-at o b c r) 3 (m ∷ (m' ∷ (x ∷ []))) gs q at refl (omega arith) refl refl opens
 
-future-splits : (L o : ℕ) (b r : Code) (m : ℕ) → Splitting L (future-at o b r) (m ∷ [])
-unfolding kids kindOf firstEdition commandsOf joins todo onward
-future-splits L o b r m p σ x gs w q at opens =
+fork-yields : (L o : ℕ) (b c r : Code) (m : ℕ) → Splitting (in-edition Second L) (fork-at o b c r) (m ∷ [])
+unfolding kids forkKids kindOf rowOf forkRow commandsOf joins todo onward
+fork-yields L o b c r m p v σ x gs w q at opens =
+    shows-joining (fork-at o b c r) 2 (m ∷ (x ∷ [])) gs q at refl (omega arith) refl refl opens
+
+future-splits : (Γ : Setting) (o : ℕ) (b r : Code) (m : ℕ) → Splitting Γ (future-at o b r) (m ∷ [])
+unfolding kids kindOf rowOf commandsOf joins todo onward
+future-splits Γ o b r m p v σ x gs w q at opens =
     shows-joining (future-at o b r) 2 (m ∷ (x ∷ [])) gs q at refl (omega arith) refl refl opens
 
-force-splits : (L o n : ℕ) (b r : Code) → Splitting L (force-at o n b r) []
-unfolding kids kindOf firstEdition commandsOf joins todo onward
-force-splits L o n b r p σ x gs w q at opens = shows-joining (force-at o n b r) 1 (x ∷ []) gs q at refl (omega arith) refl refl opens
+force-splits : (Γ : Setting) (o n : ℕ) (b r : Code) → Splitting Γ (force-at o n b r) []
+unfolding kids kindOf rowOf commandsOf joins todo onward
+force-splits Γ o n b r p v σ x gs w q at opens = shows-joining (force-at o n b r) 1 (x ∷ []) gs q at refl (omega arith) refl refl opens
 
--- by the item and by how many are made
-pub busy-cases : (L : ℕ) (c : Code) (ms : List ℕ) → MoreToMake L c ms → Busy L c ms
+-- a fork, by the edition and by how many are made
+fork-cases :
+    (ed : Edition) (L o : ℕ) (b c r : Code) (ms : List ℕ) → MoreToMake (in-edition ed L) (fork-at o b c r) ms
+    → Busy (in-edition ed L) (fork-at o b c r) ms
+unfolding MoreToMake kids forkKids
+fork-cases First L o b c r [] h = making _ _ (kid r own-scope ∷ []) refl (fork-makes-1 First L o b c r)
+fork-cases First L o b c r (m ∷ []) h = making _ _ [] refl (fork-makes-2 First L o b c r m)
+fork-cases First L o b c r (m ∷ (m' ∷ [])) h = splitting _ refl (fork-makes-3 L o b c r m m') (fork-splits L o b c r m m')
+fork-cases First L o b c r (m ∷ (m' ∷ (m'' ∷ ms))) h = absurd (omega arith)
+fork-cases Second L o b c r [] h = making _ _ [] refl (fork-makes-1 Second L o b c r)
+fork-cases Second L o b c r (m ∷ []) h = splitting _ refl (fork-makes-2 Second L o b c r m) (fork-yields L o b c r m)
+fork-cases Second L o b c r (m ∷ (m' ∷ ms)) h = absurd (omega arith)
+
+-- any item, by how many are made
+pub busy-cases : (Γ : Setting) (c : Code) (ms : List ℕ) → MoreToMake Γ c ms → Busy Γ c ms
 unfolding MoreToMake kids
-busy-cases L (end-at o) [] h = at-end o
-busy-cases L (end-at o) (m ∷ ms) h = absurd (omega arith)
-busy-cases L (job-at o n r) [] h = at-job o n r
-busy-cases L (job-at o n r) (m ∷ ms) h = absurd (omega arith)
-busy-cases L (async-at o b r) [] h = splitting _ refl (async-makes L o b r) (async-splits L o b r)
-busy-cases L (async-at o b r) (m ∷ ms) h = absurd (omega arith)
-busy-cases L (finish-at o b r) [] h = making _ _ [] refl (finish-makes-1 L o b r)
-busy-cases L (finish-at o b r) (m ∷ []) h = splitting _ refl (finish-makes-2 L o b r m) (finish-splits L o b r m)
-busy-cases L (finish-at o b r) (m ∷ (m' ∷ ms)) h = absurd (omega arith)
-busy-cases L (fork-at o b c r) [] h = making _ _ (kid r own-scope ∷ []) refl (fork-makes-1 L o b c r)
-busy-cases L (fork-at o b c r) (m ∷ []) h = making _ _ [] refl (fork-makes-2 L o b c r m)
-busy-cases L (fork-at o b c r) (m ∷ (m' ∷ [])) h = splitting _ refl (fork-makes-3 L o b c r m m') (fork-splits L o b c r m m')
-busy-cases L (fork-at o b c r) (m ∷ (m' ∷ (m'' ∷ ms))) h = absurd (omega arith)
-busy-cases L (future-at o b r) [] h = making _ _ [] refl (future-makes-1 L o b r)
-busy-cases L (future-at o b r) (m ∷ []) h = splitting _ refl (future-makes-2 L o b r m) (future-splits L o b r m)
-busy-cases L (future-at o b r) (m ∷ (m' ∷ ms)) h = absurd (omega arith)
-busy-cases L (force-at o n b r) [] h = splitting _ refl (force-makes L o n b r) (force-splits L o n b r)
-busy-cases L (force-at o n b r) (m ∷ ms) h = absurd (omega arith)
+busy-cases Γ (end-at o) [] h = at-end o
+busy-cases Γ (end-at o) (m ∷ ms) h = absurd (omega arith)
+busy-cases Γ (job-at o n r) [] h = at-job o n r
+busy-cases Γ (job-at o n r) (m ∷ ms) h = absurd (omega arith)
+busy-cases Γ (async-at o b r) [] h = splitting _ refl (async-makes Γ o b r) (async-splits Γ o b r)
+busy-cases Γ (async-at o b r) (m ∷ ms) h = absurd (omega arith)
+busy-cases Γ (finish-at o b r) [] h = making _ _ [] refl (finish-makes-1 Γ o b r)
+busy-cases Γ (finish-at o b r) (m ∷ []) h = splitting _ refl (finish-makes-2 Γ o b r m) (finish-splits Γ o b r m)
+busy-cases Γ (finish-at o b r) (m ∷ (m' ∷ ms)) h = absurd (omega arith)
+busy-cases Γ (fork-at o b c r) ms h = fork-cases (Γ .edition) (Γ .lastByte) o b c r ms h
+busy-cases Γ (future-at o b r) [] h = making _ _ [] refl (future-makes-1 Γ o b r)
+busy-cases Γ (future-at o b r) (m ∷ []) h = splitting _ refl (future-makes-2 Γ o b r m) (future-splits Γ o b r m)
+busy-cases Γ (future-at o b r) (m ∷ (m' ∷ ms)) h = absurd (omega arith)
+busy-cases Γ (force-at o n b r) [] h = splitting _ refl (force-makes Γ o n b r) (force-splits Γ o n b r)
+busy-cases Γ (force-at o n b r) (m ∷ ms) h = absurd (omega arith)
 
 -- a job's one command
-pub job-next : (L o n : ℕ) (r : Code) → nth (rowOf (job-item L o n r) .commands) 0 ≡ some perform
+pub job-next : (Γ : Setting) (o n : ℕ) (r : Code) → nth (rowFor (job-item Γ o n r) .commands) 0 ≡ some perform
 unfolding job-item nth
-job-next L o n r = refl
+job-next Γ o n r = refl
 
 pub job-row :
-    (L o n : ℕ) (r : Code) (σ l x : ℕ)
-    → advancing (rowOf (job-item L o n r)) (job-item L o n r .spot) perform 0 x (busyRow (job-at o n r) σ [] l) ≡ busyRow r σ [] l
+    (Γ : Setting) (o n : ℕ) (r : Code) (σ l x : ℕ)
+    → advancing (rowFor (job-item Γ o n r)) (job-item Γ o n r .spot) perform 0 x (busyRow (job-at o n r) σ [] l) ≡ busyRow r σ [] l
 unfolding job-item movedOn pastItem
-job-row L o n r σ l x = refl
+job-row Γ o n r σ l x = refl

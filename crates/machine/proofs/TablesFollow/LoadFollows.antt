@@ -20,6 +20,7 @@ use Rattle.graph.proofs.TableLaws.{vertex-in, word-other, length-clear, clear-i
 use Rattle.graph.proofs.EdgeLaws.{Is, is-same, holds-none, appended-is}
 use Rattle.graph.proofs.SoundLaws.{fits-sound}
 use Rattle.program.specs.Trees.{Body}
+use Rattle.program.specs.declared.Edition.{Edition}
 use Rattle.program.specs.Bytes.{encode, size}
 use Rattle.program.specs.Reader.{program, reading}
 use Rattle.program.specs.Located.{Code, end-at, located}
@@ -30,10 +31,10 @@ use Rattle.machine.specs.Answers.{isLoaded}
 use Rattle.machine.specs.Loading.{placed, loadedTables, load}
 use Rattle.machine.specs.Demand2.{Lends}
 use Rattle.machine.proofs.LoadLaws.{two-rows, one-edge-row, load-accepted}
-use Rattle.machine.proofs.GhostMachine.Ghost.{ready, vertexAt}
+use Rattle.machine.proofs.GhostMachine.Ghost.{ready, Setting, vertexAt}
 use Rattle.machine.proofs.GhostMachine.RoadLaws.{linked-new}
 use Rattle.machine.proofs.GhostMachine.Beginning.{beginning, beginning-edge}
-use Rattle.machine.proofs.TablesFollow.Follows.{row, wordsOf, Shows, shows-ready, Follows, statusIn}
+use Rattle.machine.proofs.TablesFollow.Follows.{settingOf, row, wordsOf, Shows, shows-ready, Follows, statusIn}
 use Rattle.machine.proofs.TablesFollow.RowLaws.{same-row, rowIn, same-words}
 
 -- a vertex as loading sets it, in a table where its row is cleared
@@ -148,31 +149,34 @@ unfolding edgesInto howMany
 loaded-into e n k lt = rw (appended-target (clear e 0 n) 0 0 1 (rw length-clear lt)) (omega arith)
 
 -- and so does the ghost machine
-begin-edge : (p : Code) (L : ℕ) → Is (beginning p L .edge) (λ a b. (a ≡ 0) × (b ≡ 1))
+begin-edge : (p : Code) (Γ : Setting) → Is (beginning p Γ .edge) (λ a b. (a ≡ 0) × (b ≡ 1))
 unfolding beginning
-begin-edge p L a b = (beginning-edge p L a b, λ q. rw (q .0, q .1) (linked-new (λ a b. false) 0 1))
+begin-edge p Γ a b = (beginning-edge p Γ a b, λ q. rw (q .0, q .1) (linked-new (λ a b. false) 0 1))
 
-module _ (bytes : List ℕ) (s : Lent) (t : Body) (h : Lends t s) where
+module _ (ed : Edition) (bytes : List ℕ) (s : Lent) (t : Body) (h : Lends ed t s) where
+  abbrev Γ : Setting
+  Γ = settingOf ed bytes
+
   -- the offset of the last byte
   abbrev L : ℕ
-  L = length bytes - 1
+  L = Γ .lastByte
 
   -- each part of the claim
-  edges-follow : (a b : ℕ) → holds (loadedTables bytes s .edges) (loadedTables bytes s .held) a b ≡ beginning (located t) L .edge a b
+  edges-follow : (a b : ℕ) → holds (loadedTables bytes s .edges) (loadedTables bytes s .held) a b ≡ beginning (located t) Γ .edge a b
   unfolding loadedTables
-  edges-follow = is-same (loaded-edge (s .edges) (edgeWords * edgeRows (s .edges)) (one-edge-row t s h)) (begin-edge (located t) L)
+  edges-follow = is-same (loaded-edge (s .edges) (edgeWords * edgeRows (s .edges)) (one-edge-row ed t s h)) (begin-edge (located t) Γ)
 
-  first-shows : Shows (located t) L (wordsOf (loadedTables bytes s) 0) 1 [] (ready (located t))
+  first-shows : Shows (located t) Γ 0 (wordsOf (loadedTables bytes s) 0) 1 [] (ready (located t))
   unfolding loadedTables wordsOf vertexAt located
   first-shows =
       shows-ready
-      (first-row (s .vertices) L _ (two-rows t s h) ∙ ap (λ (x : ℕ). row RELEASED x 1 0 0 0 0 0) (sym (place-locate [] 0 t)))
+      (first-row (s .vertices) L _ (two-rows ed t s h) ∙ ap (λ (x : ℕ). row RELEASED x 1 0 0 0 0 0) (sym (place-locate [] 0 t)))
 
-  second-shows : Shows (located t) L (wordsOf (loadedTables bytes s) 1) 1 [] (ready (end-at L))
+  second-shows : Shows (located t) Γ 1 (wordsOf (loadedTables bytes s) 1) 1 [] (ready (end-at L))
   unfolding loadedTables wordsOf vertexAt code.startOf
-  second-shows = shows-ready (second-row (s .vertices) L _ (two-rows t s h))
+  second-shows = shows-ready (second-row (s .vertices) L _ (two-rows ed t s h))
 
-  rows-follow : (v : ℕ) → v < 2 → Shows (located t) L (wordsOf (loadedTables bytes s) v) 1 [] (beginning (located t) L .control v)
+  rows-follow : (v : ℕ) → v < 2 → Shows (located t) Γ v (wordsOf (loadedTables bytes s) v) 1 [] (beginning (located t) Γ .control v)
   unfolding beginning
   rows-follow zero lt = first-shows
   rows-follow (suc zero) lt = second-shows
@@ -180,8 +184,8 @@ module _ (bytes : List ℕ) (s : Lent) (t : Body) (h : Lends t s) where
 
   statuses-follow : (k : ℕ) → k < 2 → status (loadedTables bytes s .vertices) k ≡ RELEASED
   unfolding loadedTables
-  statuses-follow zero lt = ap statusIn (first-row (s .vertices) L _ (two-rows t s h))
-  statuses-follow (suc zero) lt = ap statusIn (second-row (s .vertices) L _ (two-rows t s h))
+  statuses-follow zero lt = ap statusIn (first-row (s .vertices) L _ (two-rows ed t s h))
+  statuses-follow (suc zero) lt = ap statusIn (second-row (s .vertices) L _ (two-rows ed t s h))
   statuses-follow (suc (suc v)) lt = absurd (omega arith)
 
   sound-follows : sound (loadedTables bytes s) ≡ true
@@ -189,26 +193,26 @@ module _ (bytes : List ℕ) (s : Lent) (t : Body) (h : Lends t s) where
   sound-follows =
       fits-sound (loadedTables bytes s)
       (record {
-        vertices-fit = rw (length-loaded (s .vertices) L _) (two-rows t s h);
-        edges-fit = rw (length-appended (clear (s .edges) 0 (edgeWords * edgeRows (s .edges))) 0 0 1, length-clear) (one-edge-row t s h);
+        vertices-fit = rw (length-loaded (s .vertices) L _) (two-rows ed t s h);
+        edges-fit = rw (length-appended (clear (s .edges) 0 (edgeWords * edgeRows (s .edges))) 0 0 1, length-clear) (one-edge-row ed t s h);
         statuses-known = λ k lt. let q = statuses-follow k lt in (omega (arith, q), omega (arith, q));
         ends-made =
             λ a b q.
-            let (x, y) = loaded-edge (s .edges) (edgeWords * edgeRows (s .edges)) (one-edge-row t s h) a b .0 q in
+            let (x, y) = loaded-edge (s .edges) (edgeWords * edgeRows (s .edges)) (one-edge-row ed t s h) a b .0 q in
             (omega (arith, x), omega (arith, y));
       })
 
   loaded-true : CountsTrue (loadedTables bytes s)
   unfolding loadedTables
-  loaded-true zero lt = first-count (s .vertices) L _ (two-rows t s h) ∙ sym (loaded-into (s .edges) _ 0 (one-edge-row t s h))
-  loaded-true (suc zero) lt = second-count (s .vertices) L _ (two-rows t s h) ∙ sym (loaded-into (s .edges) _ 1 (one-edge-row t s h))
+  loaded-true zero lt = first-count (s .vertices) L _ (two-rows ed t s h) ∙ sym (loaded-into (s .edges) _ 0 (one-edge-row ed t s h))
+  loaded-true (suc zero) lt = second-count (s .vertices) L _ (two-rows ed t s h) ∙ sym (loaded-into (s .edges) _ 1 (one-edge-row ed t s h))
   loaded-true (suc (suc v)) lt = absurd (omega arith)
 
-  loaded-follows : Follows (located t) L (loadedTables bytes s) (beginning (located t) L)
+  loaded-follows : Follows (located t) Γ (loadedTables bytes s) (beginning (located t) Γ)
   unfolding loadedTables beginning
   loaded-follows =
       record {
-        last-is = refl;
+        setting-is = refl;
         made-is = refl;
         edges-are = edges-follow;
         rows-are = rows-follow;
@@ -223,11 +227,11 @@ pub record Begun (s s' : Lent) : Type 0 where
   pub vertex-length : length (s' .vertices) ≡ length (s .vertices)
   pub edge-length : length (s' .edges) ≡ length (s .edges)
 
-loaded-begun : (bytes : List ℕ) (s : Lent) (t : Body) → Lends t s → Begun s (loadedTables bytes s)
+loaded-begun : (ed : Edition) (bytes : List ℕ) (s : Lent) (t : Body) → Lends ed t s → Begun s (loadedTables bytes s)
 unfolding loadedTables
-loaded-begun bytes s t h =
+loaded-begun ed bytes s t h =
     record {
-      counts-true = loaded-true bytes s t h;
+      counts-true = loaded-true ed bytes s t h;
       steps-none = refl;
       held-one = refl;
       vertex-length = length-loaded (s .vertices) (length bytes - 1) _;
@@ -236,17 +240,17 @@ loaded-begun bytes s t h =
 
 -- After an accepted loading the tables follow the ghost machine as it begins.
 pub load-follows :
-    (bytes : List ℕ) (s : Lent) (t : Body) → reading bytes ≡ program t → isLoaded (load bytes s .answer) ≡ true
-    → Follows (located t) (length bytes - 1) (load bytes s .after) (beginning (located t) (length bytes - 1))
-    × Begun s (load bytes s .after)
-load-follows bytes s t r h =
-    let (l, e) = load-accepted bytes s t r h in
-    rw e (loaded-follows bytes s t l, loaded-begun bytes s t l)
+    (ed : Edition) (bytes : List ℕ) (s : Lent) (t : Body) → reading ed bytes ≡ program t → isLoaded (load ed bytes s .answer) ≡ true
+    → Follows (located t) (settingOf ed bytes) (load ed bytes s .after) (beginning (located t) (settingOf ed bytes))
+    × Begun s (load ed bytes s .after)
+load-follows ed bytes s t r h =
+    let (l, e) = load-accepted ed bytes s t r h in
+    rw e (loaded-follows ed bytes s t l, loaded-begun ed bytes s t l)
 
 -- The number that the two are told is the offset of the program's end byte.
-pub last-byte : (bytes : List ℕ) (t : Body) → reading bytes ≡ program t → code.last (located t) ≡ length bytes - 1
+pub last-byte : (ed : Edition) (bytes : List ℕ) (t : Body) → reading ed bytes ≡ program t → code.last (located t) ≡ settingOf ed bytes .lastByte
 unfolding size located
-last-byte bytes t r =
-    let same : length bytes ≡ length (encode t) = ap length (reading-sound bytes t r .0) in
+last-byte ed bytes t r =
+    let same : length bytes ≡ length (encode t) = ap length (reading-sound ed bytes t r .0) in
     let ends : suc (code.last (located t)) ≡ 0 + size t = last-locate [] 0 t in
     omega arith

@@ -14,7 +14,7 @@ use Rattle.graph.specs.Tables.{Lent, vertexWords, statusWord, placeWord, phaseW
 use Rattle.graph.specs.Paths.{holds}
 use Rattle.graph.specs.Demand2.{graph, VertexWordOf}
 use Rattle.graph.specs.declared.Command as single
-use Rattle.graph.specs.declared.Command.the-variants.{NewTd, NewEdge, Release, Transfer, Start, Stop}
+use Rattle.graph.specs.declared.Command.the-variants.{NewTd, NewEdge, Release, Transfer, Start, Stop, Yield}
 use Rattle.graph.proofs.TakenLaws.{leaves}
 use Rattle.graph.proofs.WordLaws.{vertex-words-of}
 use Rattle.machine.specs.Answers.{oneStep}
@@ -86,6 +86,7 @@ not-changed (Release t t') s v w lt gt lw q = omega arith
 not-changed (Transfer t t') s v w lt gt lw q = q
 not-changed (Start t) s v w lt gt lw q = omega arith
 not-changed (Stop t) s v w lt gt lw q = ⊎-elim (λ z. omega arith) (λ z. let y = z .3 in omega arith) q
+not-changed (Yield t) s v w lt gt lw q = omega arith
 
 -- so it leaves them as they were
 pub leaves-own : (c : single.Command) (s : Lent) (v : ℕ) → v < s .made → ownOf (leaves c s) v ≡ ownOf s v

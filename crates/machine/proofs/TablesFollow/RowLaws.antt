@@ -10,14 +10,15 @@ use lib.Dec.{eqb}
 use lib.ListN.{length, getD, set, length-set}
 use lib.Seq.{getD-set-same, getD-set-other}
 use borrow.Author.Tests.{eq-eqb, ne-eqb}
-use Rattle.graph.specs.Tables.{Lent, NEW, FINISHED, vertexWords, statusWord, placeWord, phaseWord, madeWord, futureWord, inCountWord, vertexRows}
-use Rattle.graph.specs.Tables.{vertexWord, setStatus, setVertexWord}
+use Rattle.graph.specs.Tables.{Lent, NEW, RELEASED, FINISHED, vertexWords, statusWord, placeWord, phaseWord, madeWord, futureWord, inCountWord}
+use Rattle.graph.specs.Tables.{vertexRows, vertexWord, setStatus, setVertexWord}
 use Rattle.graph.specs.Commands.{withStatus, withVertex, withEdge, withMoved, stopped}
 use Rattle.graph.proofs.TestLaws.{equal?}
 use Rattle.graph.proofs.TableLaws.{vertex-in, vertex-apart, newRow-other, newRow-status, newRow-place, newRow-scope, newRow-future, newRow-zero}
 use Rattle.graph.proofs.TableLaws.{more-word, lowered-word}
 use Rattle.program.specs.Encodings.{Command, Spot, Row}
 use Rattle.machine.specs.Stepping.{latest, Own, own, ownOf, movedOn, stored, withOwn}
+use Rattle.machine.proofs.GhostMachine.Ghost.{Do, link, hand, free, yield}
 use Rattle.machine.proofs.TablesFollow.Follows.{Words, row, wordsOf}
 
 -- word number w of a row set to x
@@ -96,8 +97,21 @@ rowed-word s v w x lw lt =
     at : (i : ℕ) → vertexWord (withWord s v w x .vertices) v i ≡ cond (eqb w i) x (vertexWord (s .vertices) v i)
     at i = word-set (s .vertices) v w i x (vertex-in (s .vertices) v w lt lw)
 
+-- no update
+pub rowed-none : (s : Lent) (v : ℕ) → Rowed s s v (λ w. w)
+rowed-none s v =
+    record {
+      edges-same = refl;
+      made-same = refl;
+      held-same = refl;
+      steps-same = refl;
+      length-same = refl;
+      others = λ u ne. refl;
+      here = refl;
+    }
+
 -- one update after another
-rowed-then :
+pub rowed-then :
     {s s' s'' : Lent} {v : ℕ} {f g : Words → Words} → Rowed s s' v f → Rowed s' s'' v g → Rowed s s'' v (λ w. g (f w))
 rowed-then {g = g} p q =
     record {
@@ -151,6 +165,13 @@ rowed-own s v (own p φ a b c l) lt =
 -- the row after an item's command c, which was at phase φ and made x if it made a vertex
 abbrev pub advancing : Row → (Spot → ℕ) → Command → ℕ → ℕ → Words → Words
 advancing r spot c φ x w = putOwn (movedOn r spot c φ x (ownIn w)) w
+
+-- what a command that joins vertices does to the row of its own vertex, before the own words are stored
+abbrev pub turned : Do → Words → Words
+turned (link a b) w = w
+turned (hand h) w = w
+turned (free m) w = w
+turned yield w = setAt statusWord RELEASED w
 
 -- the row that newTd of t makes, and the others; the latest open future is copied
 pub new-row :

@@ -1,13 +1,13 @@
 -- How a run ends from what was reached: done where nothing is left to do, and otherwise spent, since some vertex can always step.
-use Prim.Native.Nat.{ℕ, _+_, _-_, _<_}
+use Prim.Native.Nat.{ℕ, _+_, _<_}
 use mathlib.Core.Path.{_≡_, refl, sym, _∙_, ap, subst}
 use mathlib.Core.Bool.{true, false}
 use mathlib.Core.List.{List}
 use native.Mathlib.Omega.{arith}
-use lib.ListN.{length}
 use Rattle.graph.specs.Tables.{Lent, FINISHED}
 use Rattle.graph.proofs.TestLaws.{true-false}
 use Rattle.program.specs.Trees.{Body, counts}
+use Rattle.program.specs.declared.Edition.{Edition}
 use Rattle.program.specs.Encodings.{stepsTaken, stepFormula}
 use Rattle.program.proofs.Formulas.{steps-formula}
 use Rattle.machine.specs.Answers.{StepSaid}
@@ -18,6 +18,7 @@ use Rattle.machine.specs.Demand2.{AllFinished, Looks, OnlySuchSteps, run
 use Rattle.machine.proofs.GhostMachine.Ghost.{Control, draft, fresh, ready, busy, joining, over}
 use Rattle.machine.proofs.Counting.Weights.{total, each}
 use Rattle.machine.proofs.Counting.CountLaws.{all-over, over-all, steps-run}
+use Rattle.machine.proofs.TablesFollow.Follows.{settingOf}
 use Rattle.machine.proofs.TablesFollow.FollowLaws.{statusOf, follows-status}
 use Rattle.machine.proofs.TablesFollow.Tracked.{Tracked}
 
@@ -31,9 +32,9 @@ status-over (busy c ms) h = absurd (let z : _≡_ {A = ℕ} 3 4 = h in omega ari
 status-over (joining c d ds) h = absurd (let z : _≡_ {A = ℕ} 3 4 = h in omega arith)
 status-over over h = refl
 
-module _ {bytes : List ℕ} {t : Body} {s₀ : Lent} {answers : List StepSaid} {s : Lent} (T : Tracked bytes t s₀ answers s) where
+module _ {ed : Edition} {bytes : List ℕ} {t : Body} {s₀ : Lent} {answers : List StepSaid} {s : Lent} (T : Tracked ed bytes t s₀ answers s) where
   -- all vertices made are finished exactly if nothing is left to do
-  finished-full : AllFinished s → s .steps ≡ stepFormula (counts t)
+  finished-full : AllFinished s → s .steps ≡ stepFormula ed (counts t)
   finished-full all =
       let z : total each (T .state) ≡ 0 =
       over-all each (T .state)
@@ -41,29 +42,29 @@ module _ {bytes : List ℕ} {t : Body} {s₀ : Lent} {answers : List StepSaid} {
       status-over (T .state .control v)
       (sym (follows-status s (T .state) v (T .follows) lt) ∙ all v (subst (λ (n : ℕ). v < n) (sym (T .follows .made-is)) lt)))
       in
-      omega (arith, z, T .steps-are, steps-run t (length bytes - 1) (T .runs), steps-formula t)
+      omega (arith, z, T .steps-are, steps-run t (settingOf ed bytes) (T .runs), steps-formula ed t)
 
-  full-finished : s .steps ≡ stepFormula (counts t) → AllFinished s
+  full-finished : s .steps ≡ stepFormula ed (counts t) → AllFinished s
   unfolding statusOf
   full-finished h v lt =
-      let z : total each (T .state) ≡ 0 = omega (arith, h, T .steps-are, steps-run t (length bytes - 1) (T .runs), steps-formula t) in
+      let z : total each (T .state) ≡ 0 = omega (arith, h, T .steps-are, steps-run t (settingOf ed bytes) (T .runs), steps-formula ed t) in
       let l : v < T .state .count = subst (λ (n : ℕ). v < n) (T .follows .made-is) lt in
       follows-status s (T .state) v (T .follows) l ∙ ap statusOf (all-over (T .state) z v l)
 
 -- A run ends done at the full count, or spent before it.
-pub data Ends (t : Body) (s : Lent) (o : RunOutcome) : Type 0 where
-  ends-done : o .ending ≡ done → o .after .steps ≡ stepFormula (counts t) → o .after .steps ≡ s .steps + o .taken → Ends t s o
+pub data Ends (ed : Edition) (t : Body) (s : Lent) (o : RunOutcome) : Type 0 where
+  ends-done : o .ending ≡ done → o .after .steps ≡ stepFormula ed (counts t) → o .after .steps ≡ s .steps + o .taken → Ends ed t s o
   ends-spent :
-      o .ending ≡ spent → (o .after .steps ≡ stepFormula (counts t) → ⊥) → o .after .steps ≡ s .steps + o .taken → Ends t s o
+      o .ending ≡ spent → (o .after .steps ≡ stepFormula ed (counts t) → ⊥) → o .after .steps ≡ s .steps + o .taken → Ends ed t s o
 
 pub run-ends :
-    {bytes : List ℕ} {t : Body} {s₀ s : Lent} {answers : List StepSaid} {budget : ℕ} (o : RunOutcome) → steppable s ≡ true
-    → OnlySuchSteps bytes s budget o → Tracked bytes t s₀ answers (o .after)
-    → (((v : ℕ) → canStep bytes (o .after) v ≡ false) → o .after .steps ≡ stepFormula (counts t)) → Ends t s o
+    {ed : Edition} {bytes : List ℕ} {t : Body} {s₀ s : Lent} {answers : List StepSaid} {budget : ℕ} (o : RunOutcome) → steppable s ≡ true
+    → OnlySuchSteps ed bytes s budget o → Tracked ed bytes t s₀ answers (o .after)
+    → (((v : ℕ) → canStep ed bytes (o .after) v ≡ false) → o .after .steps ≡ stepFormula ed (counts t)) → Ends ed t s o
 run-ends o fit (run-refused h e) T live = true-false fit h
-run-ends {bytes} {t} {s = s} {budget = budget} o fit (run-steps h stepsTaken le looks counts-up) T live = go (o .ending) refl looks
+run-ends {ed} {bytes} {t} {s = s} {budget = budget} o fit (run-steps h stepsTaken le looks counts-up) T live = go (o .ending) refl looks
   where
-    go : (e : Ending) → o .ending ≡ e → Looks bytes budget (o .taken) (o .after) e → Ends t s o
+    go : (e : Ending) → o .ending ≡ e → Looks ed bytes budget (o .taken) (o .after) e → Ends ed t s o
     go done p l = ends-done p (finished-full T l) counts-up
     go stuck p l = absurd (l .0 (full-finished T (live (l .1))))
     go spent p l = ends-spent p (λ f. l .0 (full-finished T f)) counts-up

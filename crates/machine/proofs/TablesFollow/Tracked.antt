@@ -14,7 +14,9 @@ use Rattle.graph.specs.Answers.{Outcome}
 use Rattle.graph.specs.InCounts.{CountsTrue}
 use Rattle.program.specs.Limits.{numberBytes, programBytes, vertexLimit}
 use Rattle.program.specs.Trees.{jobs, forces, Body, end, job, async, finish, fork, future, force, total, same, counts}
-use Rattle.program.specs.Encodings.{verticesMade, edgeRowsNeeded, stepsTaken, firstEdition}
+use Rattle.program.specs.declared.Edition.{Edition}
+use Rattle.program.specs.declared.Edition.the-variants.{First, Second}
+use Rattle.program.specs.Encodings.{verticesMade, edgeRowsNeeded, stepsTaken, forkVertices, forkSteps}
 use Rattle.program.specs.Reader.{reading, program}
 use Rattle.program.specs.Bytes.{topBit, encodeNumber, groupBytes, encode, size}
 use Rattle.program.specs.Located.{located, startOf, job-at}
@@ -40,8 +42,9 @@ use Rattle.machine.proofs.GhostMachine.InvariantKept.{Inv, inv-beginnin
 use Rattle.machine.proofs.Counting.Weights.{spent, news, links, jobAt}
 use Rattle.machine.proofs.Counting.Conservation.{Runs, no-move, and-then}
 use Rattle.machine.proofs.Counting.CountLaws.{move-count, steps-bound, vertices-bound, edges-bound}
-use Rattle.machine.proofs.TablesFollow.Follows.{Follows, Refuses, absent, blocked, is-new, is-over, Answers, says-start, says-new, says-edge}
-use Rattle.machine.proofs.TablesFollow.Follows.{says-release, says-transfer, says-job, says-stop, Tallied, Followed, refused, moved}
+use Rattle.machine.proofs.TablesFollow.Follows.{settingOf, Follows, Refuses, absent, blocked, is-new, is-over, Answers, says-start, says-new}
+use Rattle.machine.proofs.TablesFollow.Follows.{says-edge, says-release, says-transfer, says-job, says-stop, says-yield, Tallied, Followed}
+use Rattle.machine.proofs.TablesFollow.Follows.{refused, moved}
 use Rattle.machine.proofs.TablesFollow.StepFollows.{step-follows}
 use Rattle.machine.proofs.TablesFollow.LoadFollows.{load-follows, last-byte}
 
@@ -66,12 +69,12 @@ answered-snoc {a} {b} (c ∷ answers) (later i) = more (answered-snoc answers i)
     more (inr e) = inr e
 
 -- The state and the events of the ghost machine that what was reached follows. The words that start reads are true there.
-pub record Tracked (bytes : List ℕ) (t : Body) (s₀ : Lent) (answers : List StepSaid) (s : Lent) : Type 0 where
+pub record Tracked (ed : Edition) (bytes : List ℕ) (t : Body) (s₀ : Lent) (answers : List StepSaid) (s : Lent) : Type 0 where
   pub state : State
   pub events : List Event
-  pub runs : Runs (beginning (located t) (length bytes - 1)) events state
+  pub runs : Runs (beginning (located t) (settingOf ed bytes)) events state
   pub inv : Inv (located t) state
-  pub follows : Follows (located t) (length bytes - 1) s state
+  pub follows : Follows (located t) (settingOf ed bytes) s state
   pub counts-true : CountsTrue s
   pub steps-are : s .steps ≡ length events
   pub accepted-are : acceptedIn answers ≡ length events
@@ -83,22 +86,22 @@ pub record Tracked (bytes : List ℕ) (t : Body) (s₀ : Lent) (answers : List S
   pub only-written : (n o : ℕ) → Answered (said.job n o) answers → Written t o n
 
 -- each force of a program has its future
-pub opens-located : (bytes : List ℕ) (t : Body) → reading bytes ≡ program t → Opens [] (located t)
+pub opens-located : (ed : Edition) (bytes : List ℕ) (t : Body) → reading ed bytes ≡ program t → Opens [] (located t)
 unfolding located
-opens-located bytes t r = opens-locate [] 0 t (reading-sound bytes t r .1 .forced)
+opens-located ed bytes t r = opens-locate [] 0 t (reading-sound ed bytes t r .1 .forced)
 
 -- After loading.
 pub tracked-begun :
-    (bytes : List ℕ) (t : Body) (s₀ : Lent) → reading bytes ≡ program t → isLoaded (load bytes s₀ .answer) ≡ true
-    → Tracked bytes t s₀ [] (load bytes s₀ .after)
+    (ed : Edition) (bytes : List ℕ) (t : Body) (s₀ : Lent) → reading ed bytes ≡ program t → isLoaded (load ed bytes s₀ .answer) ≡ true
+    → Tracked ed bytes t s₀ [] (load ed bytes s₀ .after)
 unfolding acceptedIn ranIn spent
-tracked-begun bytes t s₀ r h =
-    let (f, b) = load-follows bytes s₀ t r h in
+tracked-begun ed bytes t s₀ r h =
+    let (f, b) = load-follows ed bytes s₀ t r h in
     record {
-      state = beginning (located t) (length bytes - 1);
+      state = beginning (located t) (settingOf ed bytes);
       events = [];
       runs = no-move;
-      inv = inv-beginning t (length bytes - 1) (last-byte bytes t r) (opens-located bytes t r);
+      inv = inv-beginning t (settingOf ed bytes) (last-byte ed bytes t r) (opens-located ed bytes t r);
       follows = f;
       counts-true = b .counts-true;
       steps-are = b .steps-none;
@@ -124,6 +127,7 @@ module _ {S : State} {v : ℕ} where
   answers-accepted (says-transfer h) = refl
   answers-accepted (says-job at) = refl
   answers-accepted says-stop = refl
+  answers-accepted says-yield = refl
 
   answers-jobs : {e : Event} {a : StepSaid} → Answers S v e a → (o : ℕ) → answersJob o a ≡ jobAt o e
   unfolding answersJob jobAt
@@ -134,6 +138,7 @@ module _ {S : State} {v : ℕ} where
   answers-jobs (says-transfer h) o = refl
   answers-jobs (says-job at) o = refl
   answers-jobs says-stop o = refl
+  answers-jobs says-yield o = refl
 
   answers-written : {t : Body} {e : Event} {a : StepSaid} {n o : ℕ} → Coded (located t) S → Answers S v e a → said.job n o ≡ a → Written t o n
   unfolding codeOf startOf
@@ -147,6 +152,7 @@ module _ {S : State} {v : ℕ} where
       let found = coded v (job-at o' n' r) (ap codeOf at) in
       subst (λ (x : ℕ). Written t o x) (sym (same .0)) (subst (λ (x : ℕ). Written t x n') (sym (same .1)) (written r found))
   answers-written coded says-stop h = clash cc
+  answers-written coded says-yield h = clash cc
 
 -- a refusal that the ghost machine knows is the host's choice
 by-choice : {S : State} {v n : ℕ} → Refuses S v n → ByChoice n
@@ -181,14 +187,20 @@ numbers-short (fork b c r) =
 numbers-short (future b r) = omega (arith, numbers-short b, numbers-short r, length-append (encode b) (encode r))
 numbers-short (force n r) = omega (arith, numbers-short r, number-some n, length-append (encodeNumber n) (encode r))
 
--- a program takes fewer steps than the tally may count
-few-steps : (t : Body) → Loadable t → stepsTaken firstEdition t < stepLimit
+-- a program takes fewer steps than the tally may count: a fork's are at most six for each vertex that it makes
+fork-few : (ed : Edition) (n : ℕ) → forkSteps ed * n ≤ 6 * (forkVertices ed * n)
+unfolding forkSteps forkVertices
+fork-few First n = omega arith
+fork-few Second n = omega arith
+
+few-steps : (ed : Edition) (t : Body) → Loadable ed t → stepsTaken ed t < stepLimit
 unfolding counts
-few-steps t h =
+few-steps ed t h =
     let w = numbers-short t in
     let z : size t ≤ programBytes = h .bytes in
-    let v : verticesMade firstEdition t ≤ vertexLimit = h .made in
-    omega (arith, w, z, v, vertices-formula t, steps-formula t)
+    let v : verticesMade ed t ≤ vertexLimit = h .made in
+    let f : forkSteps ed * counts t .k ≤ 6 * (forkVertices ed * counts t .k) = fork-few ed (counts t .k) in
+    omega (arith, w, z, v, f, vertices-formula ed t, steps-formula ed t)
 
 -- The rows lent at loading are lent still.
 vertex-rows-are : (s s₀ : Lent) → length (s .vertices) ≡ length (s₀ .vertices) → vertexRows (s .vertices) ≡ vertexRows (s₀ .vertices)
@@ -198,13 +210,13 @@ edge-rows-are : (s s₀ : Lent) → length (s .edges) ≡ length (s₀ .edges) �
 edge-rows-are s s₀ h = ap (λ (n : ℕ). min usableLimit (n / edgeWords)) h
 
 -- One step more.
-module _ (bytes : List ℕ) (t : Body) (s₀ : Lent) (r : reading bytes ≡ program t) (lends : Lends t s₀) where
-  module _ {answers : List StepSaid} {s : Lent} (T : Tracked bytes t s₀ answers s) (v : ℕ) where
+module _ (ed : Edition) (bytes : List ℕ) (t : Body) (s₀ : Lent) (r : reading ed bytes ≡ program t) (lends : Lends ed t s₀) where
+  module _ {answers : List StepSaid} {s : Lent} (T : Tracked ed bytes t s₀ answers s) (v : ℕ) where
     -- a vertex row is free for a vertex that is due
     room-new : (S' : State) → Move (T .state) v a-new S' → s .made < vertexRows (s .vertices)
     unfolding news
     room-new S' m =
-        let a : S' .count ≤ verticesMade firstEdition t = vertices-bound t (length bytes - 1) (and-then (T .runs) m) in
+        let a : S' .count ≤ verticesMade ed t = vertices-bound t (settingOf ed bytes) (and-then (T .runs) m) in
         let b : S' .count ≡ news a-new + T .state .count = move-count m in
         omega (arith, a, b, T .follows .made-is, lends .vertex-rows, vertex-rows-are s s₀ (T .vertex-length))
 
@@ -212,18 +224,18 @@ module _ (bytes : List ℕ) (t : Body) (s₀ : Lent) (r : reading bytes ≡ prog
     room-edge : (S' : State) → Move (T .state) v an-edge S' → s .held < tables.edgeRows (s .edges)
     unfolding spent links
     room-edge S' m =
-        let a : 1 + spent links (an-edge ∷ T .events) ≤ edgeRowsNeeded firstEdition t =
-        edges-bound t (length bytes - 1) (and-then (T .runs) m)
+        let a : 1 + spent links (an-edge ∷ T .events) ≤ edgeRowsNeeded ed t =
+        edges-bound t (settingOf ed bytes) (and-then (T .runs) m)
         in
         omega (arith, a, T .held-le, lends .edge-rows, edge-rows-are s s₀ (T .edge-length))
 
     -- the tally is not used up
     pub room-steps : s .steps < stepLimit
     room-steps =
-        let a : length (T .events) ≤ stepsTaken firstEdition t = steps-bound t (length bytes - 1) (T .runs) in
-        omega (arith, a, T .steps-are, few-steps t (reading-sound bytes t r .1))
+        let a : length (T .events) ≤ stepsTaken ed t = steps-bound t (settingOf ed bytes) (T .runs) in
+        omega (arith, a, T .steps-are, few-steps ed t (reading-sound ed bytes t r .1))
 
-    refused-tracked : (n : ℕ) → Refuses (T .state) v n → Tracked bytes t s₀ (answers ++ (said.refused n 0 ∷ [])) s
+    refused-tracked : (n : ℕ) → Refuses (T .state) v n → Tracked ed bytes t s₀ (answers ++ (said.refused n 0 ∷ [])) s
     unfolding answersJob
     refused-tracked n h =
         record {
@@ -253,8 +265,8 @@ module _ (bytes : List ℕ) (t : Body) (s₀ : Lent) (r : reading bytes ≡ prog
 
     moved-tracked :
         {e : Event} {S' : State} {a : StepSaid} {s' : Lent} → Move (T .state) v e S'
-        → Follows (located t) (length bytes - 1) s' S' → CountsTrue s' → Answers (T .state) v e a → Tallied e s s'
-        → Tracked bytes t s₀ (answers ++ (a ∷ [])) s'
+        → Follows (located t) (settingOf ed bytes) s' S' → CountsTrue s' → Answers (T .state) v e a → Tallied e s s'
+        → Tracked ed bytes t s₀ (answers ++ (a ∷ [])) s'
     unfolding spent
     moved-tracked {e} {S'} {a} {s'} m f true-after says tally =
         record {
@@ -289,33 +301,33 @@ module _ (bytes : List ℕ) (t : Body) (s₀ : Lent) (r : reading bytes ≡ prog
         wrote k o (inr q) = answers-written (T .inv .coded) says q
 
     -- what the step is of the ghost machine
-    pub stepped-as : Followed (located t) (length bytes - 1) s (T .state) v (step bytes s v)
+    pub stepped-as : Followed (located t) (settingOf ed bytes) s (T .state) v (step ed bytes s v)
     stepped-as =
         let inv = T .inv in
-        step-follows bytes t s (T .state) v r (inv .shape) (inv .ranks) (inv .roads) (inv .opened) (inv .coded) (inv .unsplit) (T .follows)
+        step-follows ed bytes t s (T .state) v r (inv .shape) (inv .ranks) (inv .scopes) (inv .opened) (inv .coded) (inv .unsplit) (T .follows)
         (T .counts-true)
         room-steps
         room-new room-edge
 
-    pub tracked-stepped : Tracked bytes t s₀ (answers ++ (step bytes s v .answer ∷ [])) (step bytes s v .after)
-    tracked-stepped = go (step bytes s v) (step-true bytes s v (T .counts-true)) stepped-as
+    pub tracked-stepped : Tracked ed bytes t s₀ (answers ++ (step ed bytes s v .answer ∷ [])) (step ed bytes s v .after)
+    tracked-stepped = go (step ed bytes s v) (step-true ed bytes s v (T .counts-true)) stepped-as
       where
         go :
-            (o : Outcome StepSaid) → CountsTrue (o .after) → Followed (located t) (length bytes - 1) s (T .state) v o
-            → Tracked bytes t s₀ (answers ++ (o .answer ∷ [])) (o .after)
+            (o : Outcome StepSaid) → CountsTrue (o .after) → Followed (located t) (settingOf ed bytes) s (T .state) v o
+            → Tracked ed bytes t s₀ (answers ++ (o .answer ∷ [])) (o .after)
         go o true-after (refused n h e) = rw e (refused-tracked n h)
         go o true-after (moved e S' m f says tally) = moved-tracked m f true-after says tally
 
 -- The rows that the program needs were lent.
 pub rows-lent :
-    (bytes : List ℕ) (t : Body) {s₀ : Lent} {answers : List StepSaid} {s : Lent} → reading bytes ≡ program t → Reached bytes s₀ answers s
-    → Lends t s₀
-rows-lent bytes t {s₀} r (begun h) = load-accepted bytes s₀ t r h .0
-rows-lent bytes t r (stepped q v) = rows-lent bytes t r q
+    (ed : Edition) (bytes : List ℕ) (t : Body) {s₀ : Lent} {answers : List StepSaid} {s : Lent} → reading ed bytes ≡ program t
+    → Reached ed bytes s₀ answers s → Lends ed t s₀
+rows-lent ed bytes t {s₀} r (begun h) = load-accepted ed bytes s₀ t r h .0
+rows-lent ed bytes t r (stepped q v) = rows-lent ed bytes t r q
 
 -- Whatever is reached is tracked.
 pub tracked :
-    (bytes : List ℕ) (t : Body) {s₀ : Lent} {answers : List StepSaid} {s : Lent} → reading bytes ≡ program t → Reached bytes s₀ answers s
-    → Tracked bytes t s₀ answers s
-tracked bytes t {s₀} r (begun h) = tracked-begun bytes t s₀ r h
-tracked bytes t {s₀} r (stepped q v) = tracked-stepped bytes t s₀ r (rows-lent bytes t r q) (tracked bytes t r q) v
+    (ed : Edition) (bytes : List ℕ) (t : Body) {s₀ : Lent} {answers : List StepSaid} {s : Lent} → reading ed bytes ≡ program t
+    → Reached ed bytes s₀ answers s → Tracked ed bytes t s₀ answers s
+tracked ed bytes t {s₀} r (begun h) = tracked-begun ed bytes t s₀ r h
+tracked ed bytes t {s₀} r (stepped q v) = tracked-stepped ed bytes t s₀ r (rows-lent ed bytes t r q) (tracked ed bytes t r q) v
