@@ -12,6 +12,7 @@ use Rattle.graph.specs.Sound.{sound}
 use Rattle.graph.specs.Answers.{Outcome}
 use Rattle.graph.proofs.TestLaws.{both-left, both-right}
 use Rattle.graph.proofs.SoundLaws.{sound-tally}
+use Rattle.program.specs.declared.Edition.{Edition}
 use Rattle.machine.specs.Answers.{accepted, StepSaid}
 use Rattle.machine.specs.Stepping.{stepLimit, startDue, Due, refusal-due, job-due, command-due, due}
 use Rattle.machine.specs.Running.{canStep}
@@ -33,11 +34,11 @@ may-due s k known few lt p q = start-due s k (sound-tally s known) few lt (may-r
 
 -- so it can step
 pub start-can :
-    (bytes : List ℕ) (s : Lent) (k : ℕ) {r : Bool} → sound s ≡ true → s .steps < stepLimit → k < s .made → r ≡ mayStart (s .vertices) k → r ≡ true
-    → canStep bytes s k ≡ true
+    (ed : Edition) (bytes : List ℕ) (s : Lent) (k : ℕ) {r : Bool} → sound s ≡ true → s .steps < stepLimit → k < s .made
+    → r ≡ mayStart (s .vertices) k → r ≡ true → canStep ed bytes s k ≡ true
 unfolding mayStart
-start-can bytes s k known few lt p q =
-    ap accepted (released-step bytes s k (sound-tally s known) few lt (may-released (s .vertices) k p q))
+start-can ed bytes s k known few lt p q =
+    ap accepted (released-step ed bytes s k (sound-tally s known) few lt (may-released (s .vertices) k p q))
     ∙ rw (both-right _ _ (sym p ∙ q)) refl
 
 both-fails : (a b : Bool) → both a b ≡ false → (a ≡ false) ⊎ (b ≡ false)
@@ -47,23 +48,23 @@ both-fails false b h = inl refl
 
 -- another one that does not execute cannot
 pub barred :
-    (bytes : List ℕ) (s : Lent) (k : ℕ) {r : Bool} → sound s ≡ true → k < s .made → r ≡ mayStart (s .vertices) k → r ≡ false
-    → (status (s .vertices) k ≡ EXECUTING → ⊥) → canStep bytes s k ≡ false
+    (ed : Edition) (bytes : List ℕ) (s : Lent) (k : ℕ) {r : Bool} → sound s ≡ true → k < s .made → r ≡ mayStart (s .vertices) k → r ≡ false
+    → (status (s .vertices) k ≡ EXECUTING → ⊥) → canStep ed bytes s k ≡ false
 unfolding mayStart
-barred bytes s k known lt p q idle =
-    idle-cannot bytes s k known lt idle
+barred ed bytes s k known lt p q idle =
+    idle-cannot ed bytes s k known lt idle
     (⊎-elim (λ h. inl (eqb-false (status (s .vertices) k) RELEASED h)) (λ h. inr (eqb-false (inCount (s .vertices) k) 0 h))
     (both-fails _ _ (sym p ∙ q)))
 
 -- one can step exactly where what is due would be accepted
-can-takes : (bytes : List ℕ) (s : Lent) (k : ℕ) {d : Due} → d ≡ due bytes s k → canStep bytes s k ≡ takes s d
+can-takes : (ed : Edition) (bytes : List ℕ) (s : Lent) (k : ℕ) {d : Due} → d ≡ due ed bytes s k → canStep ed bytes s k ≡ takes s d
 unfolding takes
-can-takes bytes s k {d = refusal-due n} h = ap (λ (o : Outcome StepSaid). accepted (o .answer)) (step-is bytes s k (sym h))
-can-takes bytes s k {d = job-due n o w} h = ap (λ (o : Outcome StepSaid). accepted (o .answer)) (step-is bytes s k (sym h))
-can-takes bytes s k {d = command-due c w} h = command-step bytes s k c w (sym h)
+can-takes ed bytes s k {d = refusal-due n} h = ap (λ (o : Outcome StepSaid). accepted (o .answer)) (step-is ed bytes s k (sym h))
+can-takes ed bytes s k {d = job-due n o w} h = ap (λ (o : Outcome StepSaid). accepted (o .answer)) (step-is ed bytes s k (sym h))
+can-takes ed bytes s k {d = command-due c w} h = command-step ed bytes s k c w (sym h)
 
 -- so one that executes can, exactly where that is seen
 pub executing-can :
-    (bytes : List ℕ) (s : Lent) (k : ℕ) {b : Bool} {d : Due} → sound s ≡ true → s .steps < stepLimit → k < s .made
-    → status (s .vertices) k ≡ EXECUTING → DueThere bytes (s .vertices) (s .made) k d → b ≡ takes s d → canStep bytes s k ≡ b
-executing-can bytes s k known few lt is h r = can-takes bytes s k (due-there bytes s k known few lt is h) ∙ sym r
+    (ed : Edition) (bytes : List ℕ) (s : Lent) (k : ℕ) {b : Bool} {d : Due} → sound s ≡ true → s .steps < stepLimit → k < s .made
+    → status (s .vertices) k ≡ EXECUTING → DueThere ed bytes (s .vertices) (s .made) k d → b ≡ takes s d → canStep ed bytes s k ≡ b
+executing-can ed bytes s k known few lt is h r = can-takes ed bytes s k (due-there ed bytes s k known few lt is h) ∙ sym r

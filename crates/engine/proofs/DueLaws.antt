@@ -13,6 +13,7 @@ use Rattle.graph.specs.Tables.{Lent, NEW, EXECUTING, FINISHED, placeWord, scope
 use Rattle.graph.specs.Sound.{sound}
 use Rattle.graph.proofs.TestLaws.{decide, both-true, both-left, both-false-left, both-false-right, not-of-true, not-of-false}
 use Rattle.graph.proofs.CallLaws.{answered, answered-yes, answered-no}
+use Rattle.program.specs.declared.Edition.{Edition}
 use Rattle.program.specs.Limits.{programBytes}
 use Rattle.program.specs.Answers.{Stands}
 use Rattle.program.specs.Located.{itemAt, startsAt, MarksStarts}
@@ -21,7 +22,7 @@ use Rattle.machine.specs.Stepping.{stepLimit, steppable, startDue, place, task,
 use Rattle.machine.proofs.TablesFollow.StepLaws.{steppable-of, due-executing}
 use Rattle.engine.specs.declared.Own.{Own}
 use Rattle.engine.specs.Answers.{ownWords}
-use Rattle.engine.specs.Internal.Underway.{OwnIn, DueThere, Next, NextIn}
+use Rattle.engine.specs.Internal.Underway.{OwnIn, DueThere, Next, NextAt, NextIn}
 use Rattle.program.proofs.PlaceLaws.{starts-beyond, not-starting}
 
 own-place : (s : Lent) (v : ℕ) (w : Own) → ownOf s v ≡ ownWords w → place s v ≡ w .place
@@ -30,21 +31,28 @@ own-place s v w h = cc
 
 -- what is due at an item is due at the place where it stands
 pub next-item :
-    (bytes t : List ℕ) (v σ : ℕ) (w : Own) (made : ℕ) {item : Stands} {d : Due} → item ≡ itemAt bytes (w .place)
-    → NextIn t (length bytes - 1) v σ (ownWords w) made item d → Next bytes t v σ (ownWords w) made d
-next-item bytes t v σ w made {item} {d} e h s k p q r =
-    h s k p q r ∙ ap (λ (x : Stands). nextAt s v (task (length bytes - 1) x)) (e ∙ ap (itemAt bytes) (sym (own-place s v w p)))
+    (ed : Edition) (bytes t : List ℕ) (v σ : ℕ) (w : Own) (made : ℕ) {item : Stands} {d : Due} → item ≡ itemAt ed bytes (w .place)
+    → NextIn ed t (length bytes - 1) v σ (ownWords w) made item d → Next ed bytes t v σ (ownWords w) made d
+next-item ed bytes t v σ w made {item} {d} e h s k p q r =
+    h s k p q r ∙ ap (λ (x : Stands). nextAt s v (task ed (length bytes - 1) x)) (e ∙ ap (itemAt ed bytes) (sym (own-place s v w p)))
+
+-- a fork's is due in the edition at hand, whichever it is
+pub of-edition :
+    {ed ed' : Edition} (t : List ℕ) (L v σ : ℕ) (w : machine.Own) (made : ℕ) (item : Stands) {d : Due} → ed ≡ ed'
+    → NextAt ed' L v σ w made item d → NextIn ed t L v σ w made item d
+of-edition t L v σ w made item is h s k p q r = h s p q r ∙ ap (λ (x : Edition). nextAt s v (task x L item)) (sym is)
 
 -- where nothing starts
 pub next-nothing :
-    (bytes t : List ℕ) (v σ : ℕ) (w : Own) (made : ℕ) {n q : ℕ} → Stands.refused n q ≡ itemAt bytes (w .place)
-    → Next bytes t v σ (ownWords w) made (refusal-due 13)
+    (ed : Edition) (bytes t : List ℕ) (v σ : ℕ) (w : Own) (made : ℕ) {n q : ℕ} → Stands.refused n q ≡ itemAt ed bytes (w .place)
+    → Next ed bytes t v σ (ownWords w) made (refusal-due 13)
 unfolding task nextAt
-next-nothing bytes t v σ w made e = next-item bytes t v σ w made e (λ s k p q r. refl)
+next-nothing ed bytes t v σ w made e = next-item ed bytes t v σ w made e (λ s k p q r. refl)
 
 pub next-unstarted :
-    (bytes t : List ℕ) (v σ : ℕ) (w : Own) (made : ℕ) → startsAt bytes (w .place) ≡ false → Next bytes t v σ (ownWords w) made (refusal-due 13)
-next-unstarted bytes t v σ w made h = next-nothing bytes t v σ w made (sym (not-starting bytes (w .place) h))
+    (ed : Edition) (bytes t : List ℕ) (v σ : ℕ) (w : Own) (made : ℕ) → startsAt ed bytes (w .place) ≡ false
+    → Next ed bytes t v σ (ownWords w) made (refusal-due 13)
+next-unstarted ed bytes t v σ w made h = next-nothing ed bytes t v σ w made (sym (not-starting ed bytes (w .place) h))
 
 -- what the mark of a place tells; beyond the marks nothing starts
 mark-is : (b : Bool) → eqb (cond b 1 0) 1 ≡ b
@@ -52,14 +60,15 @@ mark-is true = refl
 mark-is false = refl
 
 pub marked-starts :
-    (bytes marks : List ℕ) (p : ℕ) {r : Bool} → MarksStarts bytes marks → length marks ≡ programBytes → r ≡ eqb (getD marks p 0) 1 → r ≡ startsAt bytes p
-marked-starts bytes marks p marked full e =
+    (ed : Edition) (bytes marks : List ℕ) (p : ℕ) {r : Bool} → MarksStarts ed bytes marks → length marks ≡ programBytes
+    → r ≡ eqb (getD marks p 0) 1 → r ≡ startsAt ed bytes p
+marked-starts ed bytes marks p marked full e =
     e
     ∙ ⊎-elim
-    (λ h. ap (λ (x : ℕ). eqb x 1) (marked p (ltb-true p (length marks) h)) ∙ mark-is (startsAt bytes p))
+    (λ h. ap (λ (x : ℕ). eqb x 1) (marked p (ltb-true p (length marks) h)) ∙ mark-is (startsAt ed bytes p))
     (λ h.
     let beyond : length marks ≤ p = ltb-false p (length marks) h in
-    ap (λ (x : ℕ). eqb x 1) (List·getD-eq-default marks 0 beyond) ∙ sym (starts-beyond bytes p (omega arith)))
+    ap (λ (x : ℕ). eqb x 1) (List·getD-eq-default marks 0 beyond) ∙ sym (starts-beyond ed bytes p (omega arith)))
     (decide (ltb p (length marks)))
 
 -- a test that holds leaves the other one
@@ -115,15 +124,15 @@ own-there t k s e = cc
 
 -- what is due at the step of a vertex that executes, by its words
 pub there-next :
-    (bytes t : List ℕ) (made k : ℕ) (w : Own) {d : Due} → OwnIn t k (ownWords w)
-    → Next bytes t k (vertexWord t k scopeWord) (ownWords w) made d → DueThere bytes t made k d
-there-next bytes t made k w own next s e m = next s e (sym (own s e)) (ap (λ (x : List ℕ). vertexWord x k scopeWord) e) m
+    (ed : Edition) (bytes t : List ℕ) (made k : ℕ) (w : Own) {d : Due} → OwnIn t k (ownWords w)
+    → Next ed bytes t k (vertexWord t k scopeWord) (ownWords w) made d → DueThere ed bytes t made k d
+there-next ed bytes t made k w own next s e m = next s e (sym (own s e)) (ap (λ (x : List ℕ). vertexWord x k scopeWord) e) m
 
 -- so that is due where steps are taken
 pub due-there :
-    (bytes : List ℕ) (s : Lent) (k : ℕ) {d : Due} → sound s ≡ true → s .steps < stepLimit → k < s .made
-    → status (s .vertices) k ≡ EXECUTING → DueThere bytes (s .vertices) (s .made) k d → d ≡ due bytes s k
-due-there bytes s k known few lt is h = h s refl refl ∙ sym (due-executing bytes s k (steppable-of s known few) lt is)
+    (ed : Edition) (bytes : List ℕ) (s : Lent) (k : ℕ) {d : Due} → sound s ≡ true → s .steps < stepLimit → k < s .made
+    → status (s .vertices) k ≡ EXECUTING → DueThere ed bytes (s .vertices) (s .made) k d → d ≡ due ed bytes s k
+due-there ed bytes s k known few lt is h = h s refl refl ∙ sym (due-executing ed bytes s k (steppable-of s known few) lt is)
 
 -- tables that take steps are sound
 pub steppable-sound : (s : Lent) → steppable s ≡ true → sound s ≡ true
@@ -132,11 +141,11 @@ steppable-sound s h = both-left _ _ h
 
 -- what the item asks for is due behind all tests
 pub due-item :
-    (bytes : List ℕ) (s : Lent) (k : ℕ) (w : Own) {d : Due} → startDue s k ≡ false → steppable s ≡ true → k < s .made
+    (ed : Edition) (bytes : List ℕ) (s : Lent) (k : ℕ) (w : Own) {d : Due} → startDue s k ≡ false → steppable s ≡ true → k < s .made
     → (status (s .vertices) k ≡ NEW → ⊥) → (status (s .vertices) k ≡ FINISHED → ⊥) → OwnIn (s .vertices) k (ownWords w)
-    → Next bytes (s .vertices) k (vertexWord (s .vertices) k scopeWord) (ownWords w) (s .made) d → d ≡ due bytes s k
+    → Next ed bytes (s .vertices) k (vertexWord (s .vertices) k scopeWord) (ownWords w) (s .made) d → d ≡ due ed bytes s k
 unfolding due
-due-item bytes s k w off ok lt a b own next =
+due-item ed bytes s k w off ok lt a b own next =
     other-of _ off
     (passed _ ok
     (passed _ (lt-ltb _ _ lt)

@@ -11,11 +11,12 @@ use Rattle.graph.specs.Tables.{setVertexWord, setStatus, clear}
 use Rattle.graph.specs.Answers.{openingOutcome, Outcome, OpeningSaid}
 use Rattle.graph.specs.Commands.{openedTables, opening, appended}
 use Rattle.graph.proofs.CallLaws.{opening-opens}
+use Rattle.program.specs.declared.Edition.{Edition}
 use Rattle.program.specs.declared.ItemCounts.{ItemCounts}
 use Rattle.program.specs.Limits.{programBytes}
 use Rattle.program.specs.Trees.{Counts, counts, Body}
 use Rattle.program.specs.Bytes.{encode, size}
-use Rattle.program.specs.Encodings.{firstEdition, vertexFormula, edgeRowFormula}
+use Rattle.program.specs.Encodings.{vertexFormula, edgeRowFormula}
 use Rattle.program.specs.Encodings as needs
 use Rattle.program.specs.Reader.{Reading, program, refusal, reading}
 use Rattle.program.specs.Answers.{loads, told, itemCounts}
@@ -46,37 +47,40 @@ unfolding told
 unread-is (program b) h = absurd (let z : _≡_ {A = ℕ} 0 1 = cc in omega arith)
 unread-is (refusal n p) h = cc
 
-pub record Read (bytes : List ℕ) (c : Counts) : Type 0 where
+pub record Read (ed : Edition) (bytes : List ℕ) (c : Counts) : Type 0 where
   pub tree : Body
-  pub is-read : reading bytes ≡ program tree
+  pub is-read : reading ed bytes ≡ program tree
   pub counted : c ≡ counts tree
 
-pub read-is : (bytes : List ℕ) (r : Reading) {c : Counts} → reading bytes ≡ r → loads c ≡ told r → Read bytes c
+pub read-is : (ed : Edition) (bytes : List ℕ) (r : Reading) {c : Counts} → reading ed bytes ≡ r → loads c ≡ told r → Read ed bytes c
 unfolding told
-read-is bytes (program b) e h = record { tree = b; is-read = e; counted = cc }
-read-is bytes (refusal n p) e h = absurd (let z : _≡_ {A = ℕ} 0 1 = cc in omega arith)
+read-is ed bytes (program b) e h = record { tree = b; is-read = e; counted = cc }
+read-is ed bytes (refusal n p) e h = absurd (let z : _≡_ {A = ℕ} 0 1 = cc in omega arith)
 
 -- a refusal
 refusing :
-    (bytes : List ℕ) (s : Lent) {a : LoadingSaid} {after : Lent} (n p : ℕ) → Unloaded bytes s n p → a ≡ loading-refused n p → after ≡ s → Loaded bytes s a after
-refusing bytes s n p u h k =
-    let o : load bytes s .answer ≡ loading-refused n p = load-refused bytes s n p .1 u in
-    record { says = h ∙ sym o; leaves = k ∙ sym (load-keeps bytes s (ap isLoaded o)) }
+    (ed : Edition) (bytes : List ℕ) (s : Lent) {a : LoadingSaid} {after : Lent} (n p : ℕ) → Unloaded ed bytes s n p → a ≡ loading-refused n p
+    → after ≡ s → Loaded ed bytes s a after
+refusing ed bytes s n p u h k =
+    let o : load ed bytes s .answer ≡ loading-refused n p = load-refused ed bytes s n p .1 u in
+    record { says = h ∙ sym o; leaves = k ∙ sym (load-keeps ed bytes s (ap isLoaded o)) }
 
 refused-lent : (v e : List ℕ) {t t' : Tally} → t' ≡ t → lent v e t' ≡ lent v e t
 refused-lent v e p = ap (lent v e) p
 
 pub load-unread :
-    (bytes v e : List ℕ) (t : Tally) {a : LoadingSaid} {t' : Tally} (n p : ℕ) → of-program.ProgramSaid.refused n p ≡ told (reading bytes)
-    → (a ≡ loading-refused n p) × (t' ≡ t) → Loaded bytes (lent v e t) a (lent v e t')
-load-unread bytes v e t n p is h = refusing bytes (lent v e t) n p (unread (unread-is (reading bytes) is)) (h .0) (refused-lent v e (h .1))
+    (ed : Edition) (bytes v e : List ℕ) (t : Tally) {a : LoadingSaid} {t' : Tally} (n p : ℕ)
+    → of-program.ProgramSaid.refused n p ≡ told (reading ed bytes)
+    → (a ≡ loading-refused n p) × (t' ≡ t) → Loaded ed bytes (lent v e t) a (lent v e t')
+load-unread ed bytes v e t n p is h =
+    refusing ed bytes (lent v e t) n p (unread (unread-is (reading ed bytes) is)) (h .0) (refused-lent v e (h .1))
 
 -- the rows that a program needs, as the code counts them
-needs-vertices : (b : Body) {c : Counts} {n : ℕ} → c ≡ counts b → n ≡ vertexFormula c → n ≡ needs.verticesMade firstEdition b
-needs-vertices b p q = q ∙ ap vertexFormula p ∙ sym (vertices-formula b)
+needs-vertices : (ed : Edition) (b : Body) {c : Counts} {n : ℕ} → c ≡ counts b → n ≡ vertexFormula ed c → n ≡ needs.verticesMade ed b
+needs-vertices ed b p q = q ∙ ap (vertexFormula ed) p ∙ sym (vertices-formula ed b)
 
-needs-edges : (b : Body) {c : Counts} {n : ℕ} → c ≡ counts b → n ≡ edgeRowFormula c → n ≡ needs.edgeRowsNeeded firstEdition b
-needs-edges b p q = q ∙ ap edgeRowFormula p ∙ sym (edgeRows-formula b)
+needs-edges : (ed : Edition) (b : Body) {c : Counts} {n : ℕ} → c ≡ counts b → n ≡ edgeRowFormula c → n ≡ needs.edgeRowsNeeded ed b
+needs-edges ed b p q = q ∙ ap edgeRowFormula p ∙ sym (edgeRows-formula ed b)
 
 below : {r r' n n' : ℕ} → r ≡ r' → n ≡ n' → r < n → r' < n'
 below p q h = omega arith
@@ -99,25 +103,27 @@ placed-again : (x : List ℕ) (k p : ℕ) → placed (setStatus x k RELEASED) k 
 placed-again x k p =
     ap (λ (y : List ℕ). setVertexWord (setVertexWord y k placeWord p) k scopeWord 1) (set-set x (vertexWords * k + statusWord) RELEASED RELEASED)
 
-module _ (bytes v e : List ℕ) (t : Tally) (c : ItemCounts) (is : loads (itemCounts c) ≡ told (reading bytes)) {vr vn : ℕ} (rows : vr ≡ vertexRows v)
-    (need : vn ≡ vertexFormula (itemCounts c)) where
-  found : Read bytes (itemCounts c)
-  found = read-is bytes (reading bytes) refl is
+module _ (ed : Edition) (bytes v e : List ℕ) (t : Tally) (c : ItemCounts) (is : loads (itemCounts c) ≡ told (reading ed bytes)) {vr vn : ℕ}
+    (rows : vr ≡ vertexRows v) (need : vn ≡ vertexFormula ed (itemCounts c)) where
+  found : Read ed bytes (itemCounts c)
+  found = read-is ed bytes (reading ed bytes) refl is
 
-  pub load-few-vertices : {a : LoadingSaid} {t' : Tally} → vr < vn → (a ≡ loading-refused 10 0) × (t' ≡ t) → Loaded bytes (lent v e t) a (lent v e t')
+  pub load-few-vertices :
+      {a : LoadingSaid} {t' : Tally} → vr < vn → (a ≡ loading-refused 10 0) × (t' ≡ t) → Loaded ed bytes (lent v e t) a (lent v e t')
   load-few-vertices lt h =
-      refusing bytes (lent v e t) 10 0
-      (few-vertex-rows (found .tree) (found .is-read) (below rows (needs-vertices (found .tree) (found .counted) need) lt)) (h .0) (refused-lent v e (h .1))
+      refusing ed bytes (lent v e t) 10 0
+      (few-vertex-rows (found .tree) (found .is-read) (below rows (needs-vertices ed (found .tree) (found .counted) need) lt)) (h .0)
+      (refused-lent v e (h .1))
 
-  there : vn ≤ vr → needs.verticesMade firstEdition (found .tree) ≤ vertexRows v
-  there le = enough rows (needs-vertices (found .tree) (found .counted) need) le
+  there : vn ≤ vr → needs.verticesMade ed (found .tree) ≤ vertexRows v
+  there le = enough rows (needs-vertices ed (found .tree) (found .counted) need) le
 
   pub load-few-edges :
       {a : LoadingSaid} {t' : Tally} {er en : ℕ} → vn ≤ vr → er ≡ edgeRows e → en ≡ edgeRowFormula (itemCounts c) → er < en
-      → (a ≡ loading-refused 11 0) × (t' ≡ t) → Loaded bytes (lent v e t) a (lent v e t')
+      → (a ≡ loading-refused 11 0) × (t' ≡ t) → Loaded ed bytes (lent v e t) a (lent v e t')
   load-few-edges le erows eneed lt h =
-      refusing bytes (lent v e t) 11 0
-      (few-edge-rows (found .tree) (found .is-read) (there le) (below erows (needs-edges (found .tree) (found .counted) eneed) lt)) (h .0)
+      refusing ed bytes (lent v e t) 11 0
+      (few-edge-rows (found .tree) (found .is-read) (there le) (below erows (needs-edges ed (found .tree) (found .counted) eneed) lt)) (h .0)
       (refused-lent v e (h .1))
 
   two-rows : vn ≤ vr → 2 ≤ vertexRows v
@@ -125,7 +131,7 @@ module _ (bytes v e : List ℕ) (t : Tally) (c : ItemCounts) (is : loads (itemCo
 
   pub loaded-length : (1 ≤ length bytes) × (length bytes ≤ programBytes)
   unfolding size
-  loaded-length = let (p, q) = reading-sound bytes (found .tree) (found .is-read) in within (found .tree) p (q .bytes)
+  loaded-length = let (p, q) = reading-sound ed bytes (found .tree) (found .is-read) in within (found .tree) p (q .bytes)
     where
       within : (b : Body) → bytes ≡ encode b → size b ≤ programBytes → (1 ≤ length bytes) × (length bytes ≤ programBytes)
       within b p q = rw p (encode-positive b, q)
@@ -168,9 +174,9 @@ module _ (bytes v e : List ℕ) (t : Tally) (c : ItemCounts) (is : loads (itemCo
 
       pub load-accepted :
           {v'' : List ℕ} → v'' ≡ setVertexWord (placed (placed v' 0 0) 1 (length bytes - 1)) 1 inCountWord 1
-          → Loaded bytes (lent v e t) loaded (record { vertices = v''; edges = set (set e' 0 0) 1 1; made = 2; held = 1; steps = 0 })
+          → Loaded ed bytes (lent v e t) loaded (record { vertices = v''; edges = set (set e' 0 0) 1 1; made = 2; held = 1; steps = 0 })
       load-accepted placing =
           let o =
-          load-taken bytes (lent v e t) (found .tree) (found .is-read)
-          (record { vertex-rows = there le; edge-rows = enough erows (needs-edges (found .tree) (found .counted) eneed) enough-edges }) in
+          load-taken ed bytes (lent v e t) (found .tree) (found .is-read)
+          (record { vertex-rows = there le; edge-rows = enough erows (needs-edges ed (found .tree) (found .counted) eneed) enough-edges }) in
           record { says = ap (λ (x : Outcome LoadingSaid). x .answer) (sym o); leaves = tables placing ∙ ap (λ (x : Outcome LoadingSaid). x .after) (sym o) }

@@ -14,6 +14,7 @@ use Rattle.graph.specs.Answers.{CommandSaid, accepted, decided}
 use Rattle.graph.specs.Commands.{command}
 use Rattle.graph.proofs.TestLaws.{below-suc}
 use Rattle.refusal.specs.Refusals.{unsound-tables}
+use Rattle.program.specs.declared.Edition.{Edition}
 use Rattle.machine.specs.Stepping.{stepLimit, steppable}
 use Rattle.machine.specs.Running.{canStep, lowest, chosen, choice, Choice, choose, no-choice, choice-refused}
 use Rattle.machine.proofs.LookLaws.{lowest-none, lowest-is, late-none}
@@ -38,36 +39,43 @@ takes-case s p h = h ∙ ap (λ (x : of-code.Due). takes s (dueOf x)) (sym p)
 
 -- THE LOOK
 -- the vertices below n cannot step
-abbrev pub CannotBelow : List ℕ → Lent → ℕ → Type 0
-CannotBelow bytes s n = (u : ℕ) → u < n → canStep bytes s u ≡ false
+abbrev pub CannotBelow : Edition → List ℕ → Lent → ℕ → Type 0
+CannotBelow ed bytes s n = (u : ℕ) → u < n → canStep ed bytes s u ≡ false
 
 -- nor can one more
-pub none-more : (bytes : List ℕ) (s : Lent) (k : ℕ) → CannotBelow bytes s k → canStep bytes s k ≡ false → CannotBelow bytes s (k + 1)
-none-more bytes s k h q =
+pub none-more :
+    (ed : Edition) (bytes : List ℕ) (s : Lent) (k : ℕ) → CannotBelow ed bytes s k → canStep ed bytes s k ≡ false
+    → CannotBelow ed bytes s (k + 1)
+none-more ed bytes s k h q =
     rw (add-one k)
-    (λ u lt. ⊎-elim (λ e. subst (λ (x : ℕ). canStep bytes s x ≡ false) (sym e) q) (λ l. h u l) (below-suc lt))
+    (λ u lt. ⊎-elim (λ e. subst (λ (x : ℕ). canStep ed bytes s x ≡ false) (sym e) q) (λ l. h u l) (below-suc lt))
 
 -- the steps are used up
-pub chosen-late : (bytes : List ℕ) (s : Lent) → stepLimit ≤ s .steps → no-choice ≡ chosen (lowest bytes s)
+pub chosen-late : (ed : Edition) (bytes : List ℕ) (s : Lent) → stepLimit ≤ s .steps → no-choice ≡ chosen (lowest ed bytes s)
 unfolding chosen
-chosen-late bytes s late = rw (late-none bytes s late) refl
+chosen-late ed bytes s late = rw (late-none ed bytes s late) refl
 
 -- this one can, and none below it
-pub chosen-this : (bytes : List ℕ) (s : Lent) (k : ℕ) → k < s .made → CannotBelow bytes s k → canStep bytes s k ≡ true → choose k ≡ chosen (lowest bytes s)
+pub chosen-this :
+    (ed : Edition) (bytes : List ℕ) (s : Lent) (k : ℕ) → k < s .made → CannotBelow ed bytes s k → canStep ed bytes s k ≡ true
+    → choose k ≡ chosen (lowest ed bytes s)
 unfolding chosen
-chosen-this bytes s k lt h can = rw (lowest-is bytes s k lt can h) refl
+chosen-this ed bytes s k lt h can = rw (lowest-is ed bytes s k lt can h) refl
 
 -- none can
-pub chosen-none : (bytes : List ℕ) (s : Lent) (k : ℕ) → s .made ≤ k → CannotBelow bytes s k → no-choice ≡ chosen (lowest bytes s)
+pub chosen-none :
+    (ed : Edition) (bytes : List ℕ) (s : Lent) (k : ℕ) → s .made ≤ k → CannotBelow ed bytes s k → no-choice ≡ chosen (lowest ed bytes s)
 unfolding chosen
-chosen-none bytes s k le h = rw (lowest-none bytes s (λ u lt. h u (omega arith))) refl
+chosen-none ed bytes s k le h = rw (lowest-none ed bytes s (λ u lt. h u (omega arith))) refl
 
 -- tables that take no step
-pub choice-turned : (bytes : List ℕ) (s : Lent) {x : Choice} → steppable s ≡ false → x ≡ choice-refused unsound-tables 0 → x ≡ choice bytes s
+pub choice-turned :
+    (ed : Edition) (bytes : List ℕ) (s : Lent) {x : Choice} → steppable s ≡ false → x ≡ choice-refused unsound-tables 0 → x ≡ choice ed bytes s
 unfolding choice
-choice-turned bytes s h p = rw h p
+choice-turned ed bytes s h p = rw h p
 
 -- others
-pub choice-looks : (bytes : List ℕ) (s : Lent) {x : Choice} → steppable s ≡ true → x ≡ chosen (lowest bytes s) → x ≡ choice bytes s
+pub choice-looks :
+    (ed : Edition) (bytes : List ℕ) (s : Lent) {x : Choice} → steppable s ≡ true → x ≡ chosen (lowest ed bytes s) → x ≡ choice ed bytes s
 unfolding choice
-choice-looks bytes s h p = rw h p
+choice-looks ed bytes s h p = rw h p

@@ -1,6 +1,11 @@
--- The types of what the cores return, for the law of thin entries (crate graph, proofs/Thin). The tally is graph's.
+-- The types of what the cores return and of editions, for the law of thin entries (crate graph, proofs/Thin). The tally is graph's, editions are
+-- program's.
 use mathlib.Core.Path.{refl}
+use denote.Enum.Laws as EL
 use Rattle.graph.proofs.Thin.Results.{Results, resultsOf}
+use Rattle.graph.proofs.Thin.Passing.{Plain}
+use Rattle.program.proofs.Edition as E
+use Rattle.program.proofs.Edition.Laws as E′
 use Rattle.engine.proofs.Loading as L
 use Rattle.engine.proofs.Loading.Laws as L′
 use Rattle.engine.proofs.LoadDone as LD
@@ -28,3 +33,13 @@ abbrev pub run-results : Results
 run-results =
     resultsOf R.the-field R′.the-field-laws R′.the-field-plain R′.mir refl (RD.struct .name) (λ r. r .answer) (λ r. r .tally)
     (RD.the-type .to-one)
+
+-- the type of editions
+abbrev pub editions : Plain
+editions = record {
+  row = E.the-row;
+  type = E′.mir;
+  word = EL.val E.the-type E′.the-laws;
+  tells = EL.tells E.the-type E′.the-laws;
+  typed = λ 𝓤 H at W x is. EL.lawful E.the-type E′.the-laws 𝓤 H at W tt .typed x _ is;
+}

@@ -25,6 +25,7 @@ use Rattle.graph.specs.Tables.{Lent, lent, EXECUTING, FINISHED, vertexWords, st
 use Rattle.graph.specs.Sound.{sound}
 use Rattle.graph.proofs.TestLaws.{at-end}
 use Rattle.graph.proofs.SoundChecks.{sound-rows}
+use Rattle.program.specs.declared.Edition.{Edition}
 use Rattle.machine.specs.Answers.{StepSaid, accepted}
 use Rattle.machine.specs.Stepping.{stepLimit, steppable, startDue, Due, due, step}
 use Rattle.machine.specs.Running.{canStep, lowest, chosen, choose, no-choice, choice-refused, Ending, spent, allFinished}
@@ -56,14 +57,14 @@ same-lent t p q = cc
 
 -- a vertex that can step, where none below it can, is the lowest
 lowest-step :
-    (bytes v₀ e₀ v e v' e' : List ℕ) (t t' : Tally) (k : ℕ) (answer : StepSaid) → v ≡ v₀ → e ≡ e₀ → k < t .made
-    → Stepped bytes (lent v e t) k answer (lent v' e' t') → canStep bytes (lent v e t) k ≡ true → CannotBelow bytes (lent v₀ e₀ t) k
-    → (u : ℕ) × (lowest bytes (lent v₀ e₀ t) ≡ some u) × Stepped bytes (lent v₀ e₀ t) u answer (lent v' e' t')
-lowest-step bytes v₀ e₀ v e v' e' t t' k answer p q made stepped can lower =
+    (ed : Edition) (bytes v₀ e₀ v e v' e' : List ℕ) (t t' : Tally) (k : ℕ) (answer : StepSaid) → v ≡ v₀ → e ≡ e₀ → k < t .made
+    → Stepped ed bytes (lent v e t) k answer (lent v' e' t') → canStep ed bytes (lent v e t) k ≡ true → CannotBelow ed bytes (lent v₀ e₀ t) k
+    → (u : ℕ) × (lowest ed bytes (lent v₀ e₀ t) ≡ some u) × Stepped ed bytes (lent v₀ e₀ t) u answer (lent v' e' t')
+lowest-step ed bytes v₀ e₀ v e v' e' t t' k answer p q made stepped can lower =
     let same : lent v e t ≡ lent v₀ e₀ t = same-lent t p q in (
       k,
-      lowest-is bytes (lent v₀ e₀ t) k made (subst (λ (s : Lent). canStep bytes s k ≡ true) same can) lower,
-      subst (λ (s : Lent). Stepped bytes s k answer (lent v' e' t')) same stepped,
+      lowest-is ed bytes (lent v₀ e₀ t) k made (subst (λ (s : Lent). canStep ed bytes s k ≡ true) same can) lower,
+      subst (λ (s : Lent). Stepped ed bytes s k answer (lent v' e' t')) same stepped,
     )
 
 -- at a vertex that may start a start is due
@@ -74,59 +75,60 @@ start-here v₀ e₀ v e t k known p q early made may is = may-due (lent v e t) 
 
 -- and taken
 pub started-up :
-    (bytes v₀ e₀ v e v' e' : List ℕ) (t t' : Tally) (k : ℕ) {r : Bool} (answer : StepSaid) → sound (lent v₀ e₀ t) ≡ true → v ≡ v₀ → e ≡ e₀
+    (ed : Edition) (bytes v₀ e₀ v e v' e' : List ℕ) (t t' : Tally) (k : ℕ) {r : Bool} (answer : StepSaid) → sound (lent v₀ e₀ t) ≡ true
+    → v ≡ v₀ → e ≡ e₀
     → t .steps < stepLimit → k < t .made → r ≡ mayStart v k → r ≡ true → Starts (lent v e t) k answer (lent v' e' t')
-    → CannotBelow bytes (lent v₀ e₀ t) k
-    → (u : ℕ) × (lowest bytes (lent v₀ e₀ t) ≡ some u) × Stepped bytes (lent v₀ e₀ t) u answer (lent v' e' t')
-started-up bytes v₀ e₀ v e v' e' t t' k answer known p q early made may is starts lower =
-    lowest-step bytes v₀ e₀ v e v' e' t t' k answer p q made (starts bytes)
-    (start-can bytes (lent v e t) k (ap sound (same-lent t p q) ∙ known) early made may is) lower
+    → CannotBelow ed bytes (lent v₀ e₀ t) k
+    → (u : ℕ) × (lowest ed bytes (lent v₀ e₀ t) ≡ some u) × Stepped ed bytes (lent v₀ e₀ t) u answer (lent v' e' t')
+started-up ed bytes v₀ e₀ v e v' e' t t' k answer known p q early made may is starts lower =
+    lowest-step ed bytes v₀ e₀ v e v' e' t t' k answer p q made (starts ed bytes)
+    (start-can ed bytes (lent v e t) k (ap sound (same-lent t p q) ∙ known) early made may is) lower
 
 -- another one that does not execute is passed by
 pub passed-by :
-    (bytes v₀ e₀ v : List ℕ) (t : Tally) (k : ℕ) {r : Bool} → sound (lent v₀ e₀ t) ≡ true → v ≡ v₀ → k < t .made → r ≡ mayStart v k
-    → r ≡ false → (status v k ≡ EXECUTING → ⊥) → CannotBelow bytes (lent v₀ e₀ t) k → CannotBelow bytes (lent v₀ e₀ t) (k + 1)
-passed-by bytes v₀ e₀ v t k {r} known same made may not-may idle lower =
-    none-more bytes (lent v₀ e₀ t) k lower
-    (barred bytes (lent v₀ e₀ t) k known made (subst (λ (x : List ℕ). r ≡ mayStart x k) same may) not-may
+    (ed : Edition) (bytes v₀ e₀ v : List ℕ) (t : Tally) (k : ℕ) {r : Bool} → sound (lent v₀ e₀ t) ≡ true → v ≡ v₀ → k < t .made → r ≡ mayStart v k
+    → r ≡ false → (status v k ≡ EXECUTING → ⊥) → CannotBelow ed bytes (lent v₀ e₀ t) k → CannotBelow ed bytes (lent v₀ e₀ t) (k + 1)
+passed-by ed bytes v₀ e₀ v t k {r} known same made may not-may idle lower =
+    none-more ed bytes (lent v₀ e₀ t) k lower
+    (barred ed bytes (lent v₀ e₀ t) k known made (subst (λ (x : List ℕ). r ≡ mayStart x k) same may) not-may
     (subst (λ (x : List ℕ). status x k ≡ EXECUTING → ⊥) same idle))
 
 -- at one that executes this is due
 pub due-here :
-    (bytes v₀ e₀ v e : List ℕ) (t : Tally) (k : ℕ) {d : Due} → sound (lent v₀ e₀ t) ≡ true → v ≡ v₀ → e ≡ e₀ → t .steps < stepLimit
-    → k < t .made → status v k ≡ EXECUTING → DueThere bytes v (t .made) k d → d ≡ due bytes (lent v e t) k
-due-here bytes v₀ e₀ v e t k known p q early made is there =
-    due-there bytes (lent v e t) k (ap sound (same-lent t p q) ∙ known) early made is there
+    (ed : Edition) (bytes v₀ e₀ v e : List ℕ) (t : Tally) (k : ℕ) {d : Due} → sound (lent v₀ e₀ t) ≡ true → v ≡ v₀ → e ≡ e₀ → t .steps < stepLimit
+    → k < t .made → status v k ≡ EXECUTING → DueThere ed bytes v (t .made) k d → d ≡ due ed bytes (lent v e t) k
+due-here ed bytes v₀ e₀ v e t k known p q early made is there =
+    due-there ed bytes (lent v e t) k (ap sound (same-lent t p q) ∙ known) early made is there
 
 -- a step that is refused leaves the tables, and its vertex cannot step
 pub turned-down :
-    (bytes v₀ e₀ v e v' e' : List ℕ) (t t' : Tally) (k : ℕ) {r : Bool} (answer : StepSaid) → v ≡ v₀ → e ≡ e₀
-    → Stepped bytes (lent v e t) k answer (lent v' e' t') → r ≡ not (accepted answer) → not r ≡ false → CannotBelow bytes (lent v₀ e₀ t) k
-    → (v' ≡ v₀) × (e' ≡ e₀) × CannotBelow bytes (lent v₀ e₀ t) (k + 1)
-turned-down bytes v₀ e₀ v e v' e' t t' k answer p q stepped refuses is-refused lower =
+    (ed : Edition) (bytes v₀ e₀ v e v' e' : List ℕ) (t t' : Tally) (k : ℕ) {r : Bool} (answer : StepSaid) → v ≡ v₀ → e ≡ e₀
+    → Stepped ed bytes (lent v e t) k answer (lent v' e' t') → r ≡ not (accepted answer) → not r ≡ false → CannotBelow ed bytes (lent v₀ e₀ t) k
+    → (v' ≡ v₀) × (e' ≡ e₀) × CannotBelow ed bytes (lent v₀ e₀ t) (k + 1)
+turned-down ed bytes v₀ e₀ v e v' e' t t' k answer p q stepped refuses is-refused lower =
     let same : lent v e t ≡ lent v₀ e₀ t = same-lent t p q in
     let not-accepted : accepted answer ≡ false = not-true _ (sym refuses ∙ not-false _ is-refused) in
-    let cannot : canStep bytes (lent v e t) k ≡ false = sym (ap accepted (stepped .says)) ∙ not-accepted in
-    let kept : lent v' e' t' ≡ lent v e t = stepped .leaves ∙ step-keeps bytes (lent v e t) k cannot in (
+    let cannot : canStep ed bytes (lent v e t) k ≡ false = sym (ap accepted (stepped .says)) ∙ not-accepted in
+    let kept : lent v' e' t' ≡ lent v e t = stepped .leaves ∙ step-keeps ed bytes (lent v e t) k cannot in (
       ap (λ (s : Lent). s .vertices) kept ∙ p,
       ap (λ (s : Lent). s .edges) kept ∙ q,
-      none-more bytes (lent v₀ e₀ t) k lower (subst (λ (s : Lent). canStep bytes s k ≡ false) same cannot),
+      none-more ed bytes (lent v₀ e₀ t) k lower (subst (λ (s : Lent). canStep ed bytes s k ≡ false) same cannot),
     )
 
 -- a step that is accepted is the lowest vertex's
 pub taken-up :
-    (bytes v₀ e₀ v e v' e' : List ℕ) (t t' : Tally) (k : ℕ) {r : Bool} (answer : StepSaid) → v ≡ v₀ → e ≡ e₀ → k < t .made
-    → Stepped bytes (lent v e t) k answer (lent v' e' t') → r ≡ not (accepted answer) → not r ≡ true → CannotBelow bytes (lent v₀ e₀ t) k
-    → (u : ℕ) × (lowest bytes (lent v₀ e₀ t) ≡ some u) × Stepped bytes (lent v₀ e₀ t) u answer (lent v' e' t')
-taken-up bytes v₀ e₀ v e v' e' t t' k answer p q made stepped refuses not-refused lower =
-    lowest-step bytes v₀ e₀ v e v' e' t t' k answer p q made stepped
+    (ed : Edition) (bytes v₀ e₀ v e v' e' : List ℕ) (t t' : Tally) (k : ℕ) {r : Bool} (answer : StepSaid) → v ≡ v₀ → e ≡ e₀ → k < t .made
+    → Stepped ed bytes (lent v e t) k answer (lent v' e' t') → r ≡ not (accepted answer) → not r ≡ true → CannotBelow ed bytes (lent v₀ e₀ t) k
+    → (u : ℕ) × (lowest ed bytes (lent v₀ e₀ t) ≡ some u) × Stepped ed bytes (lent v₀ e₀ t) u answer (lent v' e' t')
+taken-up ed bytes v₀ e₀ v e v' e' t t' k answer p q made stepped refuses not-refused lower =
+    lowest-step ed bytes v₀ e₀ v e v' e' t t' k answer p q made stepped
     (sym (ap accepted (stepped .says)) ∙ not-false _ (sym refuses ∙ not-true _ not-refused)) lower
 
 -- no vertex can step once all are looked at
 pub none-left :
-    (bytes v₀ e₀ : List ℕ) (t : Tally) (k : ℕ) → k ≤ t .made → t .made ≤ k → CannotBelow bytes (lent v₀ e₀ t) k
-    → lowest bytes (lent v₀ e₀ t) ≡ none
-none-left bytes v₀ e₀ t k p q h = lowest-none bytes (lent v₀ e₀ t) (λ u lt. h u (omega arith))
+    (ed : Edition) (bytes v₀ e₀ : List ℕ) (t : Tally) (k : ℕ) → k ≤ t .made → t .made ≤ k → CannotBelow ed bytes (lent v₀ e₀ t) k
+    → lowest ed bytes (lent v₀ e₀ t) ≡ none
+none-left ed bytes v₀ e₀ t k p q h = lowest-none ed bytes (lent v₀ e₀ t) (λ u lt. h u (omega arith))
 
 -- a run whose budget is used, by what the look finds: a vertex,
 pub used-found :
@@ -157,15 +159,17 @@ left-all : (budget : ℕ) → budget ≡ budget - 0
 left-all budget = omega arith
 
 -- a run at its start
-pub run-starts : (bytes : List ℕ) (s : Lent) (budget : ℕ) → steppable s ≡ true → run bytes s budget ≡ runOn bytes (budget - 0) s none 0
-run-starts bytes s budget h = run-goes bytes s budget h ∙ ap (λ (n : ℕ). runOn bytes n s none 0) (left-all budget)
+pub run-starts :
+    (ed : Edition) (bytes : List ℕ) (s : Lent) (budget : ℕ) → steppable s ≡ true → run ed bytes s budget ≡ runOn ed bytes (budget - 0) s none 0
+run-starts ed bytes s budget h = run-goes ed bytes s budget h ∙ ap (λ (n : ℕ). runOn ed bytes n s none 0) (left-all budget)
 
 -- a run goes on behind a step
 on-step :
-    (bytes : List ℕ) (s : Lent) (n m : ℕ) (last : Option StepSaid) (taken v : ℕ) {answer : StepSaid} {s' : Lent} → n ≡ suc m → lowest bytes s ≡ some v
-    → answer ≡ step bytes s v .answer → s' ≡ step bytes s v .after
-    → runOn bytes n s last taken ≡ runOn bytes m s' (some answer) (taken + 1)
-on-step bytes s n m last taken v e low says leaves = rw (e, says, leaves, add-one taken) (goes-on bytes m s last taken v low)
+    (ed : Edition) (bytes : List ℕ) (s : Lent) (n m : ℕ) (last : Option StepSaid) (taken v : ℕ) {answer : StepSaid} {s' : Lent} → n ≡ suc m
+    → lowest ed bytes s ≡ some v
+    → answer ≡ step ed bytes s v .answer → s' ≡ step ed bytes s v .after
+    → runOn ed bytes n s last taken ≡ runOn ed bytes m s' (some answer) (taken + 1)
+on-step ed bytes s n m last taken v e low says leaves = rw (e, says, leaves, add-one taken) (goes-on ed bytes m s last taken v low)
 
 -- all of it is used
 left-none : (budget taken : ℕ) → budget ≤ taken → budget - taken ≡ 0
@@ -173,30 +177,32 @@ left-none budget taken le = omega arith
 
 -- and the run ends
 on-used :
-    (bytes : List ℕ) (s : Lent) (last : Option StepSaid) (taken : ℕ) (o : Option ℕ) → lowest bytes s ≡ o
-    → runOn bytes 0 s last taken ≡ ended (endsWith o (allFinished s)) last taken s
+    (ed : Edition) (bytes : List ℕ) (s : Lent) (last : Option StepSaid) (taken : ℕ) (o : Option ℕ) → lowest ed bytes s ≡ o
+    → runOn ed bytes 0 s last taken ≡ ended (endsWith o (allFinished s)) last taken s
 unfolding endsWith
-on-used bytes s last taken none low = rests bytes 0 s last taken low
-on-used bytes s last taken (some v) low = used-up bytes s last taken v low
+on-used ed bytes s last taken none low = rests ed bytes 0 s last taken low
+on-used ed bytes s last taken (some v) low = used-up ed bytes s last taken v low
 
 -- a turn that takes a step
 pub run-turn :
-    (bytes : List ℕ) (s : Lent) (budget taken : ℕ) (last : Option StepSaid) {o : RunOutcome} {a : Attempt} {d : Done} (vs es : List ℕ)
-    → taken < budget → sound s ≡ true → o ≡ runOn bytes (budget - taken) s last taken → Attempted bytes s a vs es → a ≡ of-attempt.Taken d
+    (ed : Edition) (bytes : List ℕ) (s : Lent) (budget taken : ℕ) (last : Option StepSaid) {o : RunOutcome} {a : Attempt} {d : Done}
+    (vs es : List ℕ)
+    → taken < budget → sound s ≡ true → o ≡ runOn ed bytes (budget - taken) s last taken → Attempted ed bytes s a vs es → a ≡ of-attempt.Taken d
     → (sound (lent vs es (d .tally)) ≡ true)
-    × (o ≡ runOn bytes (budget - (taken + 1)) (lent vs es (d .tally)) (some (said (d .answer))) (taken + 1))
-run-turn bytes s budget taken last {o} {a} {d} vs es lt known so attempted is =
-    let (v, low, stepped) = subst (λ (x : Attempt). Attempted bytes s x vs es) is attempted in (
-      ap sound (stepped .leaves) ∙ step-sound bytes s v known,
-      so ∙ on-step bytes s (budget - taken) (budget - (taken + 1)) last taken v (omega arith) low (stepped .says) (stepped .leaves),
+    × (o ≡ runOn ed bytes (budget - (taken + 1)) (lent vs es (d .tally)) (some (said (d .answer))) (taken + 1))
+run-turn ed bytes s budget taken last {o} {a} {d} vs es lt known so attempted is =
+    let (v, low, stepped) = subst (λ (x : Attempt). Attempted ed bytes s x vs es) is attempted in (
+      ap sound (stepped .leaves) ∙ step-sound ed bytes s v known,
+      so ∙ on-step ed bytes s (budget - taken) (budget - (taken + 1)) last taken v (omega arith) low (stepped .says) (stepped .leaves),
     )
 
 -- the statuses can be read where a turn takes no step
 pub rest-rows :
-    (bytes v₀ e₀ : List ℕ) (t : Tally) {a : Attempt} (vs es : List ℕ) → sound (lent v₀ e₀ t) ≡ true → Attempted bytes (lent v₀ e₀ t) a vs es
+    (ed : Edition) (bytes v₀ e₀ : List ℕ) (t : Tally) {a : Attempt} (vs es : List ℕ) → sound (lent v₀ e₀ t) ≡ true
+    → Attempted ed bytes (lent v₀ e₀ t) a vs es
     → a ≡ of-attempt.NoStep → vertexWords * t .made ≤ length vs
-rest-rows bytes v₀ e₀ t vs es known attempted is =
-    let (low, p, q) = subst (λ (x : Attempt). Attempted bytes (lent v₀ e₀ t) x vs es) is attempted in
+rest-rows ed bytes v₀ e₀ t vs es known attempted is =
+    let (low, p, q) = subst (λ (x : Attempt). Attempted ed bytes (lent v₀ e₀ t) x vs es) is attempted in
     sound-rows (lent vs es t) (ap sound (same-lent t p q) ∙ known) .0
 
 -- all vertices are finished, or not
@@ -207,30 +213,31 @@ rest-is s h = sym h
 
 -- a turn that takes none
 pub run-rests :
-    (bytes v₀ e₀ : List ℕ) (t : Tally) (left taken : ℕ) (last : Option StepSaid) {o : RunOutcome} {a : Attempt} {e : Ending} (vs es : List ℕ)
-    → o ≡ runOn bytes left (lent v₀ e₀ t) last taken → Attempted bytes (lent v₀ e₀ t) a vs es → a ≡ of-attempt.NoStep
+    (ed : Edition) (bytes v₀ e₀ : List ℕ) (t : Tally) (left taken : ℕ) (last : Option StepSaid) {o : RunOutcome} {a : Attempt} {e : Ending}
+    (vs es : List ℕ)
+    → o ≡ runOn ed bytes left (lent v₀ e₀ t) last taken → Attempted ed bytes (lent v₀ e₀ t) a vs es → a ≡ of-attempt.NoStep
     → e ≡ atRest (every (λ k. eqb (status vs k) FINISHED) (t .made)) → o ≡ ended e last taken (lent vs es t)
-run-rests bytes v₀ e₀ t left taken last {o} {a} {e} vs es so attempted is rest =
-    let (low, p, q) = subst (λ (x : Attempt). Attempted bytes (lent v₀ e₀ t) x vs es) is attempted in
+run-rests ed bytes v₀ e₀ t left taken last {o} {a} {e} vs es so attempted is rest =
+    let (low, p, q) = subst (λ (x : Attempt). Attempted ed bytes (lent v₀ e₀ t) x vs es) is attempted in
     let same : lent v₀ e₀ t ≡ lent vs es t = sym (same-lent t p q) in
-    so ∙ ap (λ (s : Lent). runOn bytes left s last taken) same
-    ∙ rests bytes left (lent vs es t) last taken (subst (λ (s : Lent). lowest bytes s ≡ none) same low)
+    so ∙ ap (λ (s : Lent). runOn ed bytes left s last taken) same
+    ∙ rests ed bytes left (lent vs es t) last taken (subst (λ (s : Lent). lowest ed bytes s ≡ none) same low)
     ∙ ap (λ (x : Ending). ended x last taken (lent vs es t)) (rest-is (lent vs es t) rest)
 
 -- a run whose budget is used
 pub run-used :
-    (bytes : List ℕ) (s : Lent) (budget taken : ℕ) (last : Option StepSaid) {o : RunOutcome} {e : Ending} → budget ≤ taken
-    → o ≡ runOn bytes (budget - taken) s last taken → e ≡ whenUsed bytes s → o ≡ ended e last taken s
-run-used bytes s budget taken last le so is =
-    so ∙ ap (λ (n : ℕ). runOn bytes n s last taken) (left-none budget taken le) ∙ on-used bytes s last taken (lowest bytes s) refl
+    (ed : Edition) (bytes : List ℕ) (s : Lent) (budget taken : ℕ) (last : Option StepSaid) {o : RunOutcome} {e : Ending} → budget ≤ taken
+    → o ≡ runOn ed bytes (budget - taken) s last taken → e ≡ whenUsed ed bytes s → o ≡ ended e last taken s
+run-used ed bytes s budget taken last le so is =
+    so ∙ ap (λ (n : ℕ). runOn ed bytes n s last taken) (left-none budget taken le) ∙ on-used ed bytes s last taken (lowest ed bytes s) refl
     ∙ ap (λ (x : Ending). ended x last taken s) (sym is)
 
 -- so this is what a run answers and leaves
 pub ran :
-    (bytes : List ℕ) (s : Lent) (budget : ℕ) {e e' : Ending} {l l' : Option StepSaid} {n n' : ℕ} (vs es : List ℕ) {t t' : Tally}
-    → run bytes s budget ≡ ended e' l' n' (lent vs es t') → e ≡ e' → l ≡ l' → n ≡ n' → t ≡ t'
-    → Ran bytes s budget e l n (lent vs es t)
-ran bytes s budget vs es h p q r u =
+    (ed : Edition) (bytes : List ℕ) (s : Lent) (budget : ℕ) {e e' : Ending} {l l' : Option StepSaid} {n n' : ℕ} (vs es : List ℕ) {t t' : Tally}
+    → run ed bytes s budget ≡ ended e' l' n' (lent vs es t') → e ≡ e' → l ≡ l' → n ≡ n' → t ≡ t'
+    → Ran ed bytes s budget e l n (lent vs es t)
+ran ed bytes s budget vs es h p q r u =
     record {
       ends = p ∙ sym (ap (λ (o : RunOutcome). o .ending) h);
       last-is = q ∙ sym (ap (λ (o : RunOutcome). o .last) h);

@@ -28,6 +28,8 @@ use Rattle.graph.specs.Answers.{Outcome}
 use Rattle.graph.proofs.TakenLaws.{not-refused, after-is}
 use Rattle.graph.proofs.TakenLaws as of-taken
 use Rattle.graph.proofs.Demand2.{refused-keeps, words-stay}
+use Rattle.program.specs.declared.Edition.{Edition}
+use Rattle.program.specs.declared.Edition.the-variants.{First}
 use Rattle.machine.specs.Answers.{StepSaid, oneStep, saidAs}
 use Rattle.machine.specs.Stepping as machine
 use Rattle.machine.specs.Stepping.{stepLimit, startDue, ownOf, Due, due, stored, withOwn, doDue}
@@ -43,12 +45,12 @@ use Rattle.engine.specs.Internal.Underway.{IsDue, is-due, DoesDue, Start
 
 -- a step is what is due, done
 stepped :
-    (bytes : List ℕ) (s : Lent) (k : ℕ) {d : Due} {a : StepSaid} {after : Lent} → due bytes s k ≡ d → a ≡ doDue s k d .answer
-    → after ≡ doDue s k d .after → Stepped bytes s k a after
-stepped bytes s k e p q =
+    (ed : Edition) (bytes : List ℕ) (s : Lent) (k : ℕ) {d : Due} {a : StepSaid} {after : Lent} → due ed bytes s k ≡ d → a ≡ doDue s k d .answer
+    → after ≡ doDue s k d .after → Stepped ed bytes s k a after
+stepped ed bytes s k e p q =
     record {
-      says = p ∙ sym (ap (λ (o : Outcome StepSaid). o .answer) (step-is bytes s k e));
-      leaves = q ∙ sym (ap (λ (o : Outcome StepSaid). o .after) (step-is bytes s k e));
+      says = p ∙ sym (ap (λ (o : Outcome StepSaid). o .answer) (step-is ed bytes s k e));
+      leaves = q ∙ sym (ap (λ (o : Outcome StepSaid). o .after) (step-is ed bytes s k e));
     }
 
 -- own words stored, and a step counted
@@ -60,11 +62,11 @@ stored-counted v e t t' v' k w h c =
 
 -- where something is due
 ready-is : {s : Lent} {v : ℕ} {d : Due} → IsDue s v d → ReadyFor s v d
-ready-is {s} {v} {d} (is-due bytes same) = subst (λ (x : Due). ReadyFor s v x) (sym same) (ready-due bytes s v)
+ready-is {s} {v} {d} (is-due ed bytes same) = subst (λ (x : Due). ReadyFor s v x) (sym same) (ready-due ed bytes s v)
 
 -- a refusal is due
 pub refused-path : (s : Lent) (k n : ℕ) (d : code.Due) → d ≡ of-due.Refused n → DoesDue s k (dueOf d) (StepSaid.refused n 0) s
-refused-path s k n d is bytes same = stepped bytes s k (sym same ∙ ap dueOf is) refl refl
+refused-path s k n d is ed bytes same = stepped ed bytes s k (sym same ∙ ap dueOf is) refl refl
 
 -- a job is due
 module _ (v e : List ℕ) (t : Tally) (k n p : ℕ) (w : Own) (d : code.Due) (is : d ≡ of-due.Job n p w) where
@@ -76,8 +78,8 @@ module _ (v e : List ℕ) (t : Tally) (k n p : ℕ) (w : Own) (d : code.Due) (is
       (v' : List ℕ) (t' : Tally) → v' ≡ stored v k (ownWords w)
       → (t' .made ≡ t .made) × (t' .held ≡ t .held) × (t' .steps ≡ t .steps + 1)
       → DoesDue (lent v e t) k (dueOf d) (StepSaid.job n p) (lent v' e t')
-  job-path v' t' words counted bytes same =
-      stepped bytes (lent v e t) k (sym same ∙ ap dueOf is) refl (stored-counted v e t t' v' k (ownWords w) words counted)
+  job-path v' t' words counted ed bytes same =
+      stepped ed bytes (lent v e t) k (sym same ∙ ap dueOf is) refl (stored-counted v e t t' v' k (ownWords w) words counted)
 
 -- a command is due
 module _ (v e : List ℕ) (t : Tally) (k : ℕ) (c : Command) (w : Own) (d : code.Due) (is : d ≡ of-due.Command c w) where
@@ -107,20 +109,20 @@ module _ (v e : List ℕ) (t : Tally) (k : ℕ) (c : Command) (v' e' : List ℕ)
   taken h = ap of-graph.accepted (sym says) ∙ not-false _ (sym told ∙ h)
 
   -- it was due, and refused or taken
-  module _ (bytes : List ℕ) {w : machine.Own} (due-here : due bytes (lent v e t) k ≡ machine.command-due c w) (a : StepSaid)
+  module _ (ed : Edition) (bytes : List ℕ) {w : machine.Own} (due-here : due ed bytes (lent v e t) k ≡ machine.command-due c w) (a : StepSaid)
       (q : a ≡ saidAs (of-graph.said (done .answer))) where
-    turned-step : b ≡ true → Stepped bytes (lent v e t) k a (lent v' e' (done .tally))
+    turned-step : b ≡ true → Stepped ed bytes (lent v e t) k a (lent v' e' (done .tally))
     turned-step h =
         let no : of-graph.accepted (command c (lent v e t) .answer) ≡ false =
         ap of-graph.accepted (sym says) ∙ not-true _ (sym told ∙ h) in
-        stepped bytes (lent v e t) k due-here (q ∙ ap saidAs says) (rw no (leaves ∙ refused-keeps c (lent v e t) no))
+        stepped ed bytes (lent v e t) k due-here (q ∙ ap saidAs says) (rw no (leaves ∙ refused-keeps c (lent v e t) no))
 
     taken-step :
         (v'' : List ℕ) (t'' : Tally) → b ≡ false → v'' ≡ stored v' k w
         → (t'' .made ≡ done .tally .made) × (t'' .held ≡ done .tally .held) × (t'' .steps ≡ done .tally .steps + 1)
-        → Stepped bytes (lent v e t) k a (lent v'' e' t'')
+        → Stepped ed bytes (lent v e t) k a (lent v'' e' t'')
     taken-step v'' t'' h words counted =
-        stepped bytes (lent v e t) k due-here (q ∙ ap saidAs says)
+        stepped ed bytes (lent v e t) k due-here (q ∙ ap saidAs says)
         (rw (taken h)
         (stored-counted v' e' (done .tally) t'' v'' k w words counted ∙ ap (λ (x : Lent). oneStep (withOwn x k w)) leaves))
 
@@ -131,7 +133,7 @@ module _ (v e : List ℕ) (t : Tally) (k : ℕ) (c : Command) (w : Own) (d : cod
   pub turned-path :
       (a : StepSaid) → b ≡ true → a ≡ saidAs (of-graph.said (done .answer))
       → DoesDue (lent v e t) k (dueOf d) a (lent v' e' (done .tally))
-  turned-path a h q bytes same = turned-step v e t k c v' e' done left b told bytes (sym same ∙ ap dueOf is) a q h
+  turned-path a h q ed bytes same = turned-step v e t k c v' e' done left b told ed bytes (sym same ∙ ap dueOf is) a q h
 
   pub taken-ready : IsDue (lent v e t) k (dueOf d) → (k < vertexRows v') × (done .tally .steps < stepLimit)
   taken-ready due-here =
@@ -142,8 +144,8 @@ module _ (v e : List ℕ) (t : Tally) (k : ℕ) (c : Command) (w : Own) (d : cod
       (a : StepSaid) (v'' : List ℕ) (t'' : Tally) → b ≡ false → a ≡ saidAs (of-graph.said (done .answer)) → v'' ≡ stored v' k (ownWords w)
       → (t'' .made ≡ done .tally .made) × (t'' .held ≡ done .tally .held) × (t'' .steps ≡ done .tally .steps + 1)
       → DoesDue (lent v e t) k (dueOf d) a (lent v'' e' t'')
-  taken-path a v'' t'' h q words counted bytes same =
-      taken-step v e t k c v' e' done left b told bytes (sym same ∙ ap dueOf is) a q v'' t'' h words counted
+  taken-path a v'' t'' h q words counted ed bytes same =
+      taken-step v e t k c v' e' done left b told ed bytes (sym same ∙ ap dueOf is) a q v'' t'' h words counted
 
 -- a start is due, and left this
 module _ (v e : List ℕ) (t : Tally) (k : ℕ) (due-here : startDue (lent v e t) k ≡ true) (v' : List ℕ) (done : Done)
@@ -155,7 +157,7 @@ module _ (v e : List ℕ) (t : Tally) (k : ℕ) (due-here : startDue (lent v e t
 
   ready : Ready (lent v e t) k (either (isStart (Start k)) (sound (lent v e t)))
   unfolding ReadyFor
-  ready = ready-is (is-due [] (sym (due-start [] (lent v e t) k due-here)))
+  ready = ready-is (is-due First [] (sym (due-start First [] (lent v e t) k due-here)))
 
   pub start-ready : done .tally .steps < stepLimit
   start-ready = rw (steps-stay v e t k (Start k) v' e done command-left b told) (ready .1)
@@ -173,12 +175,13 @@ module _ (v e : List ℕ) (t : Tally) (k : ℕ) (due-here : startDue (lent v e t
 
   pub start-turned :
       (a : StepSaid) → b ≡ true → a ≡ saidAs (of-graph.said (done .answer)) → Starts (lent v e t) k a (lent v' e (done .tally))
-  start-turned a h q bytes =
-      turned-step v e t k (Start k) v' e done command-left b told bytes (due-start bytes (lent v e t) k due-here) a q h
+  start-turned a h q ed bytes =
+      turned-step v e t k (Start k) v' e done command-left b told ed bytes (due-start ed bytes (lent v e t) k due-here) a q h
 
   pub start-taken :
       (a : StepSaid) (t'' : Tally) → b ≡ false → a ≡ saidAs (of-graph.said (done .answer))
       → (t'' .made ≡ done .tally .made) × (t'' .held ≡ done .tally .held) × (t'' .steps ≡ done .tally .steps + 1)
       → Starts (lent v e t) k a (lent v' e t'')
-  start-taken a t'' h q counted bytes =
-      taken-step v e t k (Start k) v' e done command-left b told bytes (due-start bytes (lent v e t) k due-here) a q v' t'' h (own-stands h) counted
+  start-taken a t'' h q counted ed bytes =
+      taken-step v e t k (Start k) v' e done command-left b told ed bytes (due-start ed bytes (lent v e t) k due-here) a q v' t'' h
+      (own-stands h) counted

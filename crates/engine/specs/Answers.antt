@@ -33,6 +33,7 @@ said (of-answer.Release v) = StepSaid.release v
 said (of-answer.Transfer v) = StepSaid.transfer v
 said (of-answer.Job n o) = StepSaid.job n o
 said of-answer.Stop = StepSaid.stop
+said of-answer.Yield = StepSaid.yield
 said (of-answer.Refused r) = StepSaid.refused (r .number) (r .place)
 
 -- how a run ends

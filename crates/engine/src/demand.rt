@@ -1,9 +1,10 @@
-// Demand 3 as the promise of a function: a loading, and then a list of steps.
+// Demand 3 as the promise of a function: a loading, and then a list of steps, all of one edition.
 use crate::ListDone;
 use crate::load::load_by_value;
 use crate::load::loading_refused;
 use crate::steps::step_by_value;
 use graph::Tally;
+use program::Edition;
 ghost use Rattle.graph.specs.Tables.{lent};
 ghost use Rattle.engine.specs.Answers.{loadingSaid};
 ghost use Rattle.engine.specs.Promise.{Promised};
@@ -14,11 +15,12 @@ pub fn load_and_step(
     vertices: &mut [u32],
     edges: &mut [u32],
     tally: Tally,
+    edition: Edition,
     named: &[u32],
 ) -> ListDone
-    ensures { λ r. ⌜ Promised (now (program .entry)) (lent (now (vertices .entry)) (now (edges .entry)) tally) (now (named .entry)) (loadingSaid (r .loading)) (r .accepted) (lent (now (vertices .exit)) (now (edges .exit)) (r .tally)) ⌝ }
+    ensures { λ r. ⌜ Promised edition (now (program .entry)) (lent (now (vertices .entry)) (now (edges .entry)) tally) (now (named .entry)) (loadingSaid (r .loading)) (r .accepted) (lent (now (vertices .exit)) (now (edges .exit)) (r .tally)) ⌝ }
 {
-    let loaded = load_by_value(program, vertices, edges, tally);
+    let loaded = load_by_value(program, vertices, edges, tally, edition);
     let loading = loaded.answer;
     let mut after = loaded.tally;
     if loading_refused(loading) {
@@ -29,7 +31,7 @@ pub fn load_and_step(
         };
     }
     for i in 0..named.len() {
-        let done = step_by_value(program, vertices, edges, after, named[i]);
+        let done = step_by_value(program, vertices, edges, after, edition, named[i]);
         after = done.tally;
     }
     ListDone {

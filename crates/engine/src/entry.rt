@@ -6,15 +6,22 @@ use crate::load::load_by_value;
 use crate::runs::run_by_value;
 use crate::steps::step_by_value;
 use graph::Tally;
+use program::Edition;
 ghost use Rattle.graph.specs.Tables.{lent};
 ghost use Rattle.machine.specs.Traces.{Loaded, Stepped, Ran};
 ghost use Rattle.engine.specs.Answers.{loadingSaid, said, endingOf, lastOf};
 
-pub fn load(program: &[u8], vertices: &mut [u32], edges: &mut [u32], tally: &mut Tally) -> Loading
-    ensures { λ r. ⌜ Loaded (now (program .entry)) (lent (now (vertices .entry)) (now (edges .entry)) (now (tally .entry))) (loadingSaid r) (lent (now (vertices .exit)) (now (edges .exit)) (now (tally .exit))) ⌝ }
+pub fn load(
+    program: &[u8],
+    vertices: &mut [u32],
+    edges: &mut [u32],
+    tally: &mut Tally,
+    edition: Edition,
+) -> Loading
+    ensures { λ r. ⌜ Loaded edition (now (program .entry)) (lent (now (vertices .entry)) (now (edges .entry)) (now (tally .entry))) (loadingSaid r) (lent (now (vertices .exit)) (now (edges .exit)) (now (tally .exit))) ⌝ }
 {
     let before = *tally;
-    let done = load_by_value(program, vertices, edges, before);
+    let done = load_by_value(program, vertices, edges, before, edition);
     *tally = done.tally;
     done.answer
 }
@@ -24,12 +31,13 @@ pub fn step(
     vertices: &mut [u32],
     edges: &mut [u32],
     tally: &mut Tally,
+    edition: Edition,
     vertex: u32,
 ) -> Answer
-    ensures { λ r. ⌜ Stepped (now (program .entry)) (lent (now (vertices .entry)) (now (edges .entry)) (now (tally .entry))) vertex (said r) (lent (now (vertices .exit)) (now (edges .exit)) (now (tally .exit))) ⌝ }
+    ensures { λ r. ⌜ Stepped edition (now (program .entry)) (lent (now (vertices .entry)) (now (edges .entry)) (now (tally .entry))) vertex (said r) (lent (now (vertices .exit)) (now (edges .exit)) (now (tally .exit))) ⌝ }
 {
     let before = *tally;
-    let done = step_by_value(program, vertices, edges, before, vertex);
+    let done = step_by_value(program, vertices, edges, before, edition, vertex);
     *tally = done.tally;
     done.answer
 }
@@ -39,12 +47,13 @@ pub fn run(
     vertices: &mut [u32],
     edges: &mut [u32],
     tally: &mut Tally,
+    edition: Edition,
     budget: u32,
 ) -> RunAnswer
-    ensures { λ r. ⌜ Ran (now (program .entry)) (lent (now (vertices .entry)) (now (edges .entry)) (now (tally .entry))) budget (endingOf (r .ending)) (lastOf (r .last)) (r .taken) (lent (now (vertices .exit)) (now (edges .exit)) (now (tally .exit))) ⌝ }
+    ensures { λ r. ⌜ Ran edition (now (program .entry)) (lent (now (vertices .entry)) (now (edges .entry)) (now (tally .entry))) budget (endingOf (r .ending)) (lastOf (r .last)) (r .taken) (lent (now (vertices .exit)) (now (edges .exit)) (now (tally .exit))) ⌝ }
 {
     let before = *tally;
-    let done = run_by_value(program, vertices, edges, before, budget);
+    let done = run_by_value(program, vertices, edges, before, edition, budget);
     *tally = done.tally;
     done.answer
 }

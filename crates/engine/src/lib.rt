@@ -1,5 +1,5 @@
-// The engine: loading, steps and runs of a program on lent tables. Each call is proved equal to the plain machine's definition of it
-// (crate `machine`), so demand 3 speaks of the engine.
+// The engine: loading, steps and runs of a program on lent tables, each of an edition. Each call is proved equal to the plain machine's
+// definition of it (crate `machine`), so demand 3 speaks of the engine.
 pub mod demand;
 pub mod entry;
 pub mod load;
@@ -24,7 +24,7 @@ pub struct LoadDone {
     pub tally: Tally,
 }
 
-// What a step answers: one of the seven things that an accepted step says, or the refusal.
+// What a step answers: one of the eight things that an accepted step says, or the refusal.
 pub enum Answer {
     Start,
     New(u32),
@@ -33,6 +33,7 @@ pub enum Answer {
     Transfer(u32),
     Job { number: u32, offset: u32 },
     Stop,
+    Yield,
     Refused(Refusal),
 }
 

@@ -11,6 +11,7 @@ use graph::rows::STATUS;
 use graph::rows::VERTEX_WORDS;
 use graph::rows::edge_rows;
 use graph::rows::vertex_rows;
+use program::Edition;
 use program::ProgramRead;
 use program::reading::read;
 use refusal::Refusal;
@@ -32,14 +33,15 @@ pub fn load_by_value(
     vertices: &mut [u32],
     edges: &mut [u32],
     tally: Tally,
+    edition: Edition,
 ) -> LoadDone
-    ensures { λ r. ⌜ Loaded (now (program .entry)) (lent (now (vertices .entry)) (now (edges .entry)) tally) (loadingSaid (r .answer)) (lent (now (vertices .exit)) (now (edges .exit)) (r .tally)) ⌝ }
+    ensures { λ r. ⌜ Loaded edition (now (program .entry)) (lent (now (vertices .entry)) (now (edges .entry)) tally) (loadingSaid (r .answer)) (lent (now (vertices .exit)) (now (edges .exit)) (r .tally)) ⌝ }
 {
-    let reading = read(program);
+    let reading = read(program, edition);
     match reading {
         ProgramRead::Refused(refusal) => refused(refusal.number, refusal.place, tally),
         ProgramRead::Program(items) => {
-            if (vertex_rows(vertices) as u64) < program::reading::vertices(items) {
+            if (vertex_rows(vertices) as u64) < program::reading::vertices(items, edition) {
                 return refused(TOO_FEW_VERTEX_ROWS, 0, tally);
             }
             if (edge_rows(edges) as u64) < program::reading::edge_rows(items) {

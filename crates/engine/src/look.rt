@@ -13,11 +13,13 @@ use graph::refusals::release_refusal;
 use graph::refusals::start_refusal;
 use graph::refusals::stop_refusal;
 use graph::refusals::transfer_refusal;
+use graph::refusals::yield_refusal;
 use graph::rows::EXECUTING;
 use graph::rows::IN_COUNT;
 use graph::rows::RELEASED;
 use graph::rows::STATUS;
 use graph::rows::VERTEX_WORDS;
+use program::Edition;
 use program::format::PROGRAM_BYTES;
 use program::starts::mark_starts;
 use refusal::Refusal;
@@ -39,15 +41,21 @@ ghost use Rattle.engine.specs.Answers.{dueOf, choiceOf};
 ghost use Rattle.engine.specs.Internal.Underway.{mayStart, takes};
 
 // The lowest vertex whose step would be accepted.
-pub fn lowest_vertex(program: &[u8], vertices: &[u32], edges: &[u32], tally: Tally) -> Lowest
-    ensures { λ r. ⌜ choiceOf r ≡ choice (now (program .entry)) (lent (now (vertices .entry)) (now (edges .entry)) tally) ⌝ }
+pub fn lowest_vertex(
+    program: &[u8],
+    vertices: &[u32],
+    edges: &[u32],
+    tally: Tally,
+    edition: Edition,
+) -> Lowest
+    ensures { λ r. ⌜ choiceOf r ≡ choice edition (now (program .entry)) (lent (now (vertices .entry)) (now (edges .entry)) tally) ⌝ }
 {
     if !is_steppable(vertices, edges, tally) {
         return refused();
     }
     let mut marks = [0u8; PROGRAM_BYTES];
-    mark_starts(program, &mut marks);
-    lowest_marked(program, &marks, vertices, edges, tally)
+    mark_starts(program, edition, &mut marks);
+    lowest_marked(program, &marks, vertices, edges, tally, edition)
 }
 
 fn refused() -> Lowest
@@ -66,9 +74,10 @@ pub(crate) fn lowest_marked(
     vertices: &[u32],
     edges: &[u32],
     tally: Tally,
+    edition: Edition,
 ) -> Lowest
-    requires { ⌜ MarksStarts (now program) (now marks) × (length (now marks) ≡ programBytes) × (sound (lent (now vertices) (now edges) tally) ≡ true) ⌝ }
-    ensures { λ r. ⌜ choiceOf r ≡ chosen (lowest (now (program .entry)) (lent (now (vertices .entry)) (now (edges .entry)) tally)) ⌝ }
+    requires { ⌜ MarksStarts edition (now program) (now marks) × (length (now marks) ≡ programBytes) × (sound (lent (now vertices) (now edges) tally) ≡ true) ⌝ }
+    ensures { λ r. ⌜ choiceOf r ≡ chosen (lowest edition (now (program .entry)) (lent (now (vertices .entry)) (now (edges .entry)) tally)) ⌝ }
 {
     if STEP_LIMIT <= tally.steps {
         return Lowest::NoVertex;
@@ -80,7 +89,7 @@ pub(crate) fn lowest_marked(
         if vertices[VERTEX_WORDS * (v as usize) + STATUS] != EXECUTING {
             continue;
         }
-        let next = marked_due(program, marks, vertices, tally.made, v);
+        let next = marked_due(program, marks, vertices, tally.made, edition, v);
         if would_take(vertices, edges, tally, next) {
             return Lowest::Vertex(v);
         }
@@ -139,5 +148,6 @@ fn refusal(vertices: &[u32], edges: &[u32], tally: Tally, given: Command) -> u32
         }
         Command::Start { vertex } => start_refusal(vertices, edges, tally, vertex),
         Command::Stop { caller } => stop_refusal(vertices, edges, tally, caller),
+        Command::Yield { caller } => yield_refusal(vertices, edges, tally, caller),
     }
 }

@@ -15,6 +15,7 @@ use graph::rows::STATUS;
 use graph::rows::VERTEX_WORDS;
 use graph::sound::is_sound;
 use graph::sound::tally_fits;
+use program::Edition;
 use program::ItemRead;
 use program::Reader;
 use program::starts::starts_at;
@@ -31,13 +32,14 @@ ghost use lib.ListN.{length, getD};
 ghost use Rattle.graph.specs.Tables.{lent, vertexWords};
 ghost use Rattle.graph.specs.declared.Command.the-variants.{NewTd, NewEdge, Release, Transfer};
 ghost use Rattle.program.specs.Limits.{programBytes};
+ghost use Rattle.program.specs.declared.Edition.the-variants.{First, Second};
 ghost use Rattle.program.specs.Answers.{Stands};
 ghost use Rattle.program.specs.Located.{startsAt, MarksStarts};
 ghost use Rattle.machine.specs.Stepping as machine;
 ghost use Rattle.machine.specs.Stepping.{steppable, startDue, due};
 ghost use Rattle.engine.specs.Answers.{ownWords, dueOf};
 ghost use Rattle.engine.specs.Internal.Underway.{DueThere, OwnIn, Next, NextAt, EndNext, JobNext, AsyncNext, ForkNext, ForkLast};
-ghost use Rattle.engine.specs.Internal.Underway.{NextIn, FollowsTo};
+ghost use Rattle.engine.specs.Internal.Underway.{AlikeAt, AlikeIn, FollowsTo};
 
 // The words of the vertices that the item at hand made.
 pub const FIRST: usize = MADE;
@@ -58,10 +60,11 @@ pub(crate) fn next_due(
     vertices: &[u32],
     edges: &[u32],
     tally: Tally,
+    edition: Edition,
     vertex: u32,
 ) -> Due
     requires { ⌜ startDue (lent (now vertices) (now edges) tally) vertex ≡ false ⌝ }
-    ensures { λ r. ⌜ dueOf r ≡ due (now (program .entry)) (lent (now (vertices .entry)) (now (edges .entry)) tally) vertex ⌝ }
+    ensures { λ r. ⌜ dueOf r ≡ due edition (now (program .entry)) (lent (now (vertices .entry)) (now (edges .entry)) tally) vertex ⌝ }
 {
     if !is_steppable(vertices, edges, tally) {
         return Due::Refused(UNSOUND_TABLES);
@@ -79,8 +82,9 @@ pub(crate) fn next_due(
     let own = own_words(vertices, vertex as usize);
     executing(
         program,
-        starts_at(program, own.place),
+        starts_at(program, edition, own.place),
         vertices,
+        edition,
         vertex,
         vertices[at + SCOPE],
         own,
@@ -120,16 +124,18 @@ pub(crate) fn marked_due(
     marks: &[u8],
     vertices: &[u32],
     made: u32,
+    edition: Edition,
     vertex: u32,
 ) -> Due
-    requires { ⌜ MarksStarts (now program) (now marks) × (length (now marks) ≡ programBytes) × (vertex < made) × (vertexWords * made ≤ length (now vertices)) ⌝ }
-    ensures { λ r. ⌜ DueThere (now (program .entry)) (now (vertices .entry)) made vertex (dueOf r) ⌝ }
+    requires { ⌜ MarksStarts edition (now program) (now marks) × (length (now marks) ≡ programBytes) × (vertex < made) × (vertexWords * made ≤ length (now vertices)) ⌝ }
+    ensures { λ r. ⌜ DueThere edition (now (program .entry)) (now (vertices .entry)) made vertex (dueOf r) ⌝ }
 {
     let own = own_words(vertices, vertex as usize);
     executing(
         program,
         is_marked(marks, own.place),
         vertices,
+        edition,
         vertex,
         vertices[VERTEX_WORDS * (vertex as usize) + SCOPE],
         own,
@@ -168,13 +174,14 @@ fn executing(
     program: &[u8],
     starts: bool,
     vertices: &[u32],
+    edition: Edition,
     vertex: u32,
     scope: u32,
     own: Own,
     made: u32,
 ) -> Due
-    requires { ⌜ (starts ≡ startsAt (now program) (own .place)) × (vertexWords * made ≤ length (now vertices)) ⌝ }
-    ensures { λ r. ⌜ Next (now (program .entry)) (now (vertices .entry)) vertex scope (ownWords own) made (dueOf r) ⌝ }
+    requires { ⌜ (starts ≡ startsAt edition (now program) (own .place)) × (vertexWords * made ≤ length (now vertices)) ⌝ }
+    ensures { λ r. ⌜ Next edition (now (program .entry)) (now (vertices .entry)) vertex scope (ownWords own) made (dueOf r) ⌝ }
 {
     if !starts {
         return Due::Refused(NOTHING_STARTS);
@@ -190,9 +197,18 @@ fn executing(
         ItemRead::Finish { body, past } => {
             finish_next(vertex, scope, own, made, body, past.place, last)
         }
-        ItemRead::Fork { left, right, past } => {
-            fork_next(vertex, scope, own, made, left, right, past.place, last)
-        }
+        ItemRead::Fork { left, right, past } => match edition {
+            Edition::First => fork_next(vertex, scope, own, made, left, right, past.place, last),
+            Edition::Second => yielding_fork_next(
+                vertex,
+                scope,
+                own,
+                made,
+                left,
+                right,
+                past.place,
+            ),
+        },
         ItemRead::Future { body, past } => {
             future_next(vertex, scope, own, made, body, past.place, last)
         }
@@ -249,7 +265,7 @@ fn async_next(vertex: u32, scope: u32, own: Own, made: u32, body: u32, past: u32
 // A finish: newTd m1 (past the item, own scope); newTd m2 (its body, scope m1); newEdge m2 to m1; transfer to m1; release m1; release
 // m2; then the last byte.
 fn finish_next(vertex: u32, scope: u32, own: Own, made: u32, body: u32, past: u32, last: u32) -> Due
-    ensures { λ r. ⌜ NextAt last vertex scope (ownWords own) made (Stands.finish body past) (dueOf r) ⌝ }
+    ensures { λ r. ⌜ AlikeAt last vertex scope (ownWords own) made (Stands.finish body past) (dueOf r) ⌝ }
 {
     let phase = own.phase;
     if phase == 0 {
@@ -273,8 +289,8 @@ fn finish_next(vertex: u32, scope: u32, own: Own, made: u32, body: u32, past: u3
     Due::Refused(NOTHING_STARTS)
 }
 
-// A fork: newTd m1 (left), m2 (right), m3 (past the item), all with own scope; newEdge m1 to m3; newEdge m2 to m3; transfer to m3;
-// release m3, m1, m2; then the last byte.
+// A fork of the first edition: newTd m1 (left), m2 (right), m3 (past the item), all with own scope; newEdge m1 to m3; newEdge m2 to m3;
+// transfer to m3; release m3, m1, m2; then the last byte.
 fn fork_next(
     vertex: u32,
     scope: u32,
@@ -285,7 +301,7 @@ fn fork_next(
     past: u32,
     last: u32,
 ) -> Due
-    ensures { λ r. ⌜ NextAt last vertex scope (ownWords own) made (Stands.fork left right past) (dueOf r) ⌝ }
+    ensures { λ r. ⌜ NextAt First last vertex scope (ownWords own) made (Stands.fork left right past) (dueOf r) ⌝ }
 {
     let phase = own.phase;
     if phase < 3 {
@@ -303,10 +319,10 @@ fn fork_next(
     fork_releases(vertex, own, last)
 }
 
-// A fork's first three commands.
+// Its first three commands.
 fn fork_makes(vertex: u32, scope: u32, own: Own, made: u32, left: u32, right: u32, past: u32) -> Due
     requires { ⌜ own .phase < 3 ⌝ }
-    ensures { λ r. ⌜ ForkNext vertex scope (ownWords own) made left right past (dueOf r) ⌝ }
+    ensures { λ r. ⌜ ForkNext First vertex scope (ownWords own) made left right past (dueOf r) ⌝ }
 {
     let phase = own.phase;
     if phase == 0 {
@@ -318,7 +334,7 @@ fn fork_makes(vertex: u32, scope: u32, own: Own, made: u32, left: u32, right: u3
     new_td(vertex, past, scope, keeping(own, 2, made))
 }
 
-// A fork's last three commands.
+// Its last three commands.
 fn fork_releases(vertex: u32, own: Own, last: u32) -> Due
     requires { ⌜ 6 ≤ own .phase ⌝ }
     ensures { λ r. ⌜ ForkLast last vertex (ownWords own) (dueOf r) ⌝ }
@@ -336,10 +352,50 @@ fn fork_releases(vertex: u32, own: Own, last: u32) -> Due
     Due::Refused(NOTHING_STARTS)
 }
 
+// A fork of the second edition: newTd m1 (left), m2 (right), both with own scope; newEdge m1 to the vertex itself; newEdge m2 to it;
+// release m1, m2; yield; then past the item.
+fn yielding_fork_next(
+    vertex: u32,
+    scope: u32,
+    own: Own,
+    made: u32,
+    left: u32,
+    right: u32,
+    past: u32,
+) -> Due
+    ensures { λ r. ⌜ ForkNext Second vertex scope (ownWords own) made left right past (dueOf r) ⌝ }
+{
+    if own.phase == 0 {
+        return new_td(vertex, left, scope, keeping(own, 0, made));
+    }
+    if own.phase == 1 {
+        return new_td(vertex, right, scope, keeping(own, 1, made));
+    }
+    if own.phase == 2 {
+        return new_edge(vertex, own.first, vertex, onward(own));
+    }
+    if own.phase == 3 {
+        return new_edge(vertex, own.second, vertex, onward(own));
+    }
+    if own.phase == 4 {
+        return release(vertex, own.first, onward(own));
+    }
+    if own.phase == 5 {
+        return release(vertex, own.second, onward(own));
+    }
+    if own.phase == 6 {
+        return Due::Command {
+            command: Command::Yield { caller: vertex },
+            own: idle(past, own.latest),
+        };
+    }
+    Due::Refused(NOTHING_STARTS)
+}
+
 // A future: newTd m1 (the last byte, own scope); newTd m2 (its body, scope m1); newEdge m2 to m1; release m1; release m2; then past the
 // item, and m1 is the latest open future.
 fn future_next(vertex: u32, scope: u32, own: Own, made: u32, body: u32, past: u32, last: u32) -> Due
-    ensures { λ r. ⌜ NextAt last vertex scope (ownWords own) made (Stands.future body past) (dueOf r) ⌝ }
+    ensures { λ r. ⌜ AlikeAt last vertex scope (ownWords own) made (Stands.future body past) (dueOf r) ⌝ }
 {
     let phase = own.phase;
     if phase == 0 {
@@ -373,7 +429,7 @@ fn force_next(
     last: u32,
 ) -> Due
     requires { ⌜ vertexWords * made ≤ length (now vertices) ⌝ }
-    ensures { λ r. ⌜ NextIn (now (vertices .entry)) last vertex scope (ownWords own) made (Stands.force number past) (dueOf r) ⌝ }
+    ensures { λ r. ⌜ AlikeIn (now (vertices .entry)) last vertex scope (ownWords own) made (Stands.force number past) (dueOf r) ⌝ }
 {
     let phase = own.phase;
     if phase == 0 {

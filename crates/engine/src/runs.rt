@@ -18,6 +18,7 @@ use graph::rows::EXECUTING;
 use graph::rows::FINISHED;
 use graph::rows::STATUS;
 use graph::rows::VERTEX_WORDS;
+use program::Edition;
 use program::format::PROGRAM_BYTES;
 use program::starts::mark_starts;
 use refusal::Refusal;
@@ -46,20 +47,21 @@ pub fn run_by_value(
     vertices: &mut [u32],
     edges: &mut [u32],
     tally: Tally,
+    edition: Edition,
     budget: u32,
 ) -> RunDone
-    ensures { λ r. ⌜ Ran (now (program .entry)) (lent (now (vertices .entry)) (now (edges .entry)) tally) budget (endingOf (r .answer .ending)) (lastOf (r .answer .last)) (r .answer .taken) (lent (now (vertices .exit)) (now (edges .exit)) (r .tally)) ⌝ }
+    ensures { λ r. ⌜ Ran edition (now (program .entry)) (lent (now (vertices .entry)) (now (edges .entry)) tally) budget (endingOf (r .answer .ending)) (lastOf (r .answer .last)) (r .answer .taken) (lent (now (vertices .exit)) (now (edges .exit)) (r .tally)) ⌝ }
 {
     if !is_steppable(vertices, edges, tally) {
         return refused(tally);
     }
     let mut marks = [0u8; PROGRAM_BYTES];
-    mark_starts(program, &mut marks);
+    mark_starts(program, edition, &mut marks);
     let mut after = tally;
     let mut last = LastStep::NoStep;
     let mut taken: u32 = 0;
     while taken < budget {
-        let attempt = take_lowest(program, &marks, vertices, edges, after);
+        let attempt = take_lowest(program, &marks, vertices, edges, after, edition);
         match attempt {
             Attempt::NoStep => {
                 return ended(at_rest(vertices, after.made as usize), last, taken, after);
@@ -73,7 +75,7 @@ pub fn run_by_value(
         }
     }
     ended(
-        when_used(program, &marks, vertices, edges, after),
+        when_used(program, &marks, vertices, edges, after, edition),
         last,
         taken,
         after,
@@ -114,9 +116,10 @@ fn take_lowest(
     vertices: &mut [u32],
     edges: &mut [u32],
     tally: Tally,
+    edition: Edition,
 ) -> Attempt
-    requires { ⌜ MarksStarts (now program) (now marks) × (length (now marks) ≡ programBytes) × (sound (lent (now vertices) (now edges) tally) ≡ true) ⌝ }
-    ensures { λ r. ⌜ Attempted (now (program .entry)) (lent (now (vertices .entry)) (now (edges .entry)) tally) r (now (vertices .exit)) (now (edges .exit)) ⌝ }
+    requires { ⌜ MarksStarts edition (now program) (now marks) × (length (now marks) ≡ programBytes) × (sound (lent (now vertices) (now edges) tally) ≡ true) ⌝ }
+    ensures { λ r. ⌜ Attempted edition (now (program .entry)) (lent (now (vertices .entry)) (now (edges .entry)) tally) r (now (vertices .exit)) (now (edges .exit)) ⌝ }
 {
     if STEP_LIMIT <= tally.steps {
         return Attempt::NoStep;
@@ -128,7 +131,7 @@ fn take_lowest(
         if vertices[VERTEX_WORDS * (v as usize) + STATUS] != EXECUTING {
             continue;
         }
-        let next = marked_due(program, marks, vertices, tally.made, v);
+        let next = marked_due(program, marks, vertices, tally.made, edition, v);
         let done = do_due(vertices, edges, tally, v, next);
         let answer = done.answer;
         if !step_refused(answer) {
@@ -150,15 +153,23 @@ pub(crate) fn step_refused(answer: Answer) -> bool
         Answer::Transfer(v) => false,
         Answer::Job { number, offset } => false,
         Answer::Stop => false,
+        Answer::Yield => false,
     }
 }
 
 // How a run ends whose budget is used.
-fn when_used(program: &[u8], marks: &[u8], vertices: &[u32], edges: &[u32], tally: Tally) -> Ending
-    requires { ⌜ MarksStarts (now program) (now marks) × (length (now marks) ≡ programBytes) × (sound (lent (now vertices) (now edges) tally) ≡ true) ⌝ }
-    ensures { λ r. ⌜ endingOf r ≡ whenUsed (now (program .entry)) (lent (now (vertices .entry)) (now (edges .entry)) tally) ⌝ }
+fn when_used(
+    program: &[u8],
+    marks: &[u8],
+    vertices: &[u32],
+    edges: &[u32],
+    tally: Tally,
+    edition: Edition,
+) -> Ending
+    requires { ⌜ MarksStarts edition (now program) (now marks) × (length (now marks) ≡ programBytes) × (sound (lent (now vertices) (now edges) tally) ≡ true) ⌝ }
+    ensures { λ r. ⌜ endingOf r ≡ whenUsed edition (now (program .entry)) (lent (now (vertices .entry)) (now (edges .entry)) tally) ⌝ }
 {
-    let found = lowest_marked(program, marks, vertices, edges, tally);
+    let found = lowest_marked(program, marks, vertices, edges, tally, edition);
     let rest = at_rest(vertices, tally.made as usize);
     match found {
         Lowest::Vertex(v) => Ending::Spent,

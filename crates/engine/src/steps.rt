@@ -15,6 +15,7 @@ use graph::rows::FUTURE;
 use graph::rows::PHASE;
 use graph::rows::PLACE;
 use graph::rows::VERTEX_WORDS;
+use program::Edition;
 use refusal::Refusal;
 ghost use mathlib.Core.Path.{_≡_};
 ghost use Prim.Native.Nat.{_+_, _<_};
@@ -33,14 +34,15 @@ pub fn step_by_value(
     vertices: &mut [u32],
     edges: &mut [u32],
     tally: Tally,
+    edition: Edition,
     vertex: u32,
 ) -> Done
-    ensures { λ r. ⌜ Stepped (now (program .entry)) (lent (now (vertices .entry)) (now (edges .entry)) tally) vertex (said (r .answer)) (lent (now (vertices .exit)) (now (edges .exit)) (r .tally)) ⌝ }
+    ensures { λ r. ⌜ Stepped edition (now (program .entry)) (lent (now (vertices .entry)) (now (edges .entry)) tally) vertex (said (r .answer)) (lent (now (vertices .exit)) (now (edges .exit)) (r .tally)) ⌝ }
 {
     if start_due(vertices, edges, tally, vertex) {
         return start_step(vertices, edges, tally, vertex);
     }
-    let next = next_due(program, vertices, edges, tally, vertex);
+    let next = next_due(program, vertices, edges, tally, edition, vertex);
     do_due(vertices, edges, tally, vertex, next)
 }
 
@@ -147,6 +149,7 @@ fn command_refused(answer: graph::Answer) -> bool
         graph::Answer::Release(v) => false,
         graph::Answer::Transfer(v) => false,
         graph::Answer::Stop => false,
+        graph::Answer::Yield => false,
     }
 }
 
@@ -161,6 +164,7 @@ fn as_step(answer: graph::Answer) -> Answer
         graph::Answer::Release(v) => Answer::Release(v),
         graph::Answer::Transfer(v) => Answer::Transfer(v),
         graph::Answer::Stop => Answer::Stop,
+        graph::Answer::Yield => Answer::Yield,
         graph::Answer::Refused(refusal) => Answer::Refused(refusal),
     }
 }

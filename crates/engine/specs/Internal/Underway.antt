@@ -10,6 +10,8 @@ use Rattle.graph.specs.Tests.{both}
 use Rattle.graph.specs.Tables.{Lent, lent, RELEASED, status, inCount}
 use Rattle.graph.specs.Answers as of-graph
 use Rattle.graph.specs.Commands.{command}
+use Rattle.program.specs.declared.Edition.{Edition}
+use Rattle.program.specs.declared.Edition.the-variants.{First}
 use Rattle.program.specs.Answers.{Stands}
 use Rattle.program.specs.Located.{itemAt}
 use Rattle.machine.specs.Answers.{StepSaid}
@@ -21,21 +23,28 @@ use Rattle.engine.specs.declared.Attempt.{Attempt}
 use Rattle.engine.specs.declared.Attempt.the-variants as of-attempt
 use Rattle.engine.specs.Answers.{said}
 
--- d is due at the step of the executing vertex v with the scope σ and these own words, where so many vertices are made, the program's
--- last byte is at L, and this stands at v's place
-abbrev pub NextAt : ℕ → ℕ → ℕ → Own → ℕ → Stands → Due → Type 0
-NextAt L v σ w made item d = (s : Lent) → ownOf s v ≡ w → scope s v ≡ σ → s .made ≡ made → d ≡ nextAt s v (task L item)
+-- in an edition, d is due at the step of the executing vertex v with the scope σ and these own words, where so many vertices are made, the
+-- program's last byte is at L, and this stands at v's place
+abbrev pub NextAt : Edition → ℕ → ℕ → ℕ → Own → ℕ → Stands → Due → Type 0
+NextAt ed L v σ w made item d = (s : Lent) → ownOf s v ≡ w → scope s v ≡ σ → s .made ≡ made → d ≡ nextAt s v (task ed L item)
 
 -- the same where t are the vertex rows: a force follows words of other vertices
-abbrev pub NextIn : List ℕ → ℕ → ℕ → ℕ → Own → ℕ → Stands → Due → Type 0
-NextIn t L v σ w made item d =
-    (s : Lent) → s .vertices ≡ t → ownOf s v ≡ w → scope s v ≡ σ → s .made ≡ made → d ≡ nextAt s v (task L item)
+abbrev pub NextIn : Edition → List ℕ → ℕ → ℕ → ℕ → Own → ℕ → Stands → Due → Type 0
+NextIn ed t L v σ w made item d =
+    (s : Lent) → s .vertices ≡ t → ownOf s v ≡ w → scope s v ≡ σ → s .made ≡ made → d ≡ nextAt s v (task ed L item)
 
 -- and of a program
-abbrev pub Next : List ℕ → List ℕ → ℕ → ℕ → Own → ℕ → Due → Type 0
-Next bytes t v σ w made d =
+abbrev pub Next : Edition → List ℕ → List ℕ → ℕ → ℕ → Own → ℕ → Due → Type 0
+Next ed bytes t v σ w made d =
     (s : Lent) → s .vertices ≡ t → ownOf s v ≡ w → scope s v ≡ σ → s .made ≡ made
-    → d ≡ nextAt s v (task (length bytes - 1) (itemAt bytes (place s v)))
+    → d ≡ nextAt s v (task ed (length bytes - 1) (itemAt ed bytes (place s v)))
+
+-- all items but a fork are alike in both editions
+abbrev pub AlikeAt : ℕ → ℕ → ℕ → Own → ℕ → Stands → Due → Type 0
+AlikeAt L v σ w made item d = (ed : Edition) → NextAt ed L v σ w made item d
+
+abbrev pub AlikeIn : List ℕ → ℕ → ℕ → ℕ → Own → ℕ → Stands → Due → Type 0
+AlikeIn t L v σ w made item d = (ed : Edition) → NextIn ed t L v σ w made item d
 
 -- the future that a word names, or so many futures further out
 unfoldable pub outwards : Lent → ℕ → ℕ → Option ℕ
@@ -56,21 +65,21 @@ abbrev pub OwnIn : List ℕ → ℕ → Own → Type 0
 OwnIn t k w = (s : Lent) → s .vertices ≡ t → w ≡ ownOf s k
 
 -- d is due at the step of the executing vertex v, where these are the vertex rows and so many are made
-abbrev pub DueThere : List ℕ → List ℕ → ℕ → ℕ → Due → Type 0
-DueThere bytes t made v d =
-    (s : Lent) → s .vertices ≡ t → s .made ≡ made → d ≡ nextAt s v (task (length bytes - 1) (itemAt bytes (place s v)))
+abbrev pub DueThere : Edition → List ℕ → List ℕ → ℕ → ℕ → Due → Type 0
+DueThere ed bytes t made v d =
+    (s : Lent) → s .vertices ≡ t → s .made ≡ made → d ≡ nextAt s v (task ed (length bytes - 1) (itemAt ed bytes (place s v)))
 
--- d is due at the step of v, in some program
+-- d is due at the step of v, in some edition and program
 pub data IsDue (s : Lent) (v : ℕ) (d : Due) : Type 0 where
-  is-due : (bytes : List ℕ) → d ≡ due bytes s v → IsDue s v d
+  is-due : (ed : Edition) (bytes : List ℕ) → d ≡ due ed bytes s v → IsDue s v d
 
--- what is due was done: this is the step, in every program where d is due
+-- what is due was done: this is the step, in every edition and program where d is due
 abbrev pub DoesDue : Lent → ℕ → Due → StepSaid → Lent → Type 0
-DoesDue s v d answer after = (bytes : List ℕ) → d ≡ due bytes s v → Stepped bytes s v answer after
+DoesDue s v d answer after = (ed : Edition) (bytes : List ℕ) → d ≡ due ed bytes s v → Stepped ed bytes s v answer after
 
--- a start was due and done: this is the step, in every program
+-- a start was due and done: this is the step, in every edition and program
 abbrev pub Starts : Lent → ℕ → StepSaid → Lent → Type 0
-Starts s v answer after = (bytes : List ℕ) → Stepped bytes s v answer after
+Starts s v answer after = (ed : Edition) (bytes : List ℕ) → Stepped ed bytes s v answer after
 
 -- what is due would be accepted
 unfoldable pub takes : Lent → Due → Bool
@@ -83,10 +92,10 @@ unfoldable pub mayStart : List ℕ → ℕ → Bool
 mayStart t k = both (eqb (status t k) RELEASED) (eqb (inCount t k) 0)
 
 -- a step of the lowest vertex whose step would be accepted, if there is one
-abbrev pub Attempted : List ℕ → Lent → Attempt → List ℕ → List ℕ → Type 0
-Attempted bytes s of-attempt.NoStep vs es = (lowest bytes s ≡ none) × (vs ≡ s .vertices) × (es ≡ s .edges)
-Attempted bytes s (of-attempt.Taken d) vs es =
-    (v : ℕ) × (lowest bytes s ≡ some v) × Stepped bytes s v (said (d .answer)) (lent vs es (d .tally))
+abbrev pub Attempted : Edition → List ℕ → Lent → Attempt → List ℕ → List ℕ → Type 0
+Attempted ed bytes s of-attempt.NoStep vs es = (lowest ed bytes s ≡ none) × (vs ≡ s .vertices) × (es ≡ s .edges)
+Attempted ed bytes s (of-attempt.Taken d) vs es =
+    (v : ℕ) × (lowest ed bytes s ≡ some v) × Stepped ed bytes s v (said (d .answer)) (lent vs es (d .tally))
 
 -- how a run ends where no step would be accepted: all vertices are finished, or not
 abbrev pub atRest : Bool → Ending
@@ -97,21 +106,21 @@ unfoldable pub endsWith : Option ℕ → Bool → Ending
 endsWith (some v) finished = spent
 endsWith none finished = atRest finished
 
-abbrev pub whenUsed : List ℕ → Lent → Ending
-whenUsed bytes s = endsWith (lowest bytes s) (allFinished s)
+abbrev pub whenUsed : Edition → List ℕ → Lent → Ending
+whenUsed ed bytes s = endsWith (lowest ed bytes s) (allFinished s)
 
 -- by the kind of item; what does not matter there is left open
 abbrev pub EndNext : ℕ → Own → Due → Type 0
-EndNext v w d = (L σ made : ℕ) → NextAt L v σ w made Stands.end d
+EndNext v w d = (L σ made : ℕ) → AlikeAt L v σ w made Stands.end d
 
 abbrev pub JobNext : ℕ → Own → ℕ → ℕ → Due → Type 0
-JobNext v w n past d = (L σ made : ℕ) → NextAt L v σ w made (Stands.job n past) d
+JobNext v w n past d = (L σ made : ℕ) → AlikeAt L v σ w made (Stands.job n past) d
 
 abbrev pub AsyncNext : ℕ → ℕ → Own → ℕ → ℕ → ℕ → Due → Type 0
-AsyncNext v σ w made body past d = (L : ℕ) → NextAt L v σ w made (Stands.async body past) d
+AsyncNext v σ w made body past d = (L : ℕ) → AlikeAt L v σ w made (Stands.async body past) d
 
-abbrev pub ForkNext : ℕ → ℕ → Own → ℕ → ℕ → ℕ → ℕ → Due → Type 0
-ForkNext v σ w made left right past d = (L : ℕ) → NextAt L v σ w made (Stands.fork left right past) d
+abbrev pub ForkNext : Edition → ℕ → ℕ → Own → ℕ → ℕ → ℕ → ℕ → Due → Type 0
+ForkNext ed v σ w made left right past d = (L : ℕ) → NextAt ed L v σ w made (Stands.fork left right past) d
 
 abbrev pub ForkLast : ℕ → ℕ → Own → Due → Type 0
-ForkLast L v w d = (σ made left right past : ℕ) → NextAt L v σ w made (Stands.fork left right past) d
+ForkLast L v w d = (σ made left right past : ℕ) → NextAt First L v σ w made (Stands.fork left right past) d

@@ -10,14 +10,14 @@ use Rattle.engine.proofs.demand.load_and_step.Statement.{statement}
 use Rattle.engine.proofs.demand.load_and_step.Tie as tie
 
 abbrev Inv-loop : tie.InvT-loop
-Inv-loop program vertices₀ edges₀ named loading after₀ i₀ i-end vertices edges after i =
+Inv-loop program vertices₀ edges₀ edition named loading after₀ i₀ i-end vertices edges after i =
     (i ≤ length named)
-    × Onward program (lent vertices₀ edges₀ after₀) named i (lent vertices edges after)
+    × Onward edition program (lent vertices₀ edges₀ after₀) named i (lent vertices edges after)
     × (length vertices ≡ length vertices₀)
     × (length edges ≡ length edges₀)
 
 abbrev μ-loop : tie.MeasureT-loop
-μ-loop program vertices₀ edges₀ named loading after₀ i₀ i-end vertices edges after i = length named - i
+μ-loop program vertices₀ edges₀ edition named loading after₀ i₀ i-end vertices edges after i = length named - i
 
 -- the loading is refused
 returns : tie.Need-returns Inv-loop μ-loop
@@ -26,7 +26,7 @@ returns c =
     (c .if1 .taken)
 
 loop-holds : tie.Need-loop-holds Inv-loop μ-loop
-loop-holds c = (omega arith, onward-none _ _ _, refl, refl)
+loop-holds c = (omega arith, onward-none _ _ _ _, refl, refl)
 
 -- the place of the named vertex, and so the number of the next turn, is in range
 mul-step-by-value : tie.Need-mul-step-by-value Inv-loop μ-loop

@@ -8,7 +8,7 @@ use Rattle.engine.proofs.load.load_by_value.Tie as tie
 
 returns : tie.Need-returns
 returns c =
-    load-few-vertices (c .before .before .before .before .before .before .before .before .before .before .before .before .args .program .now)
+    load-few-vertices _ (c .before .before .before .before .before .before .before .before .before .before .before .before .args .program .now)
     (c .before .before .before .before .before .before .before .before .before .before .before .before .args .vertices .now)
     (c .before .before .before .before .before .before .before .before .before .before .before .before .args .edges .now)
     (c .before .before .before .before .before .before .before .before .before .before .before .before .args .tally) _
@@ -18,7 +18,7 @@ returns c =
 
 returns-2 : tie.Need-returns-2
 returns-2 c =
-    load-few-edges
+    load-few-edges _
     (c .before .before .before .before .before .before .before .before .before .before .before .before .before .before .before .before .args .program .now)
     (c .before .before .before .before .before .before .before .before .before .before .before .before .before .before .before .before .args .vertices .now)
     (c .before .before .before .before .before .before .before .before .before .before .before .before .before .before .before .before .args .edges .now)
@@ -31,7 +31,7 @@ returns-2 c =
 
 place-first-requires : tie.Need-place-first-requires
 place-first-requires c κs =
-    first-two
+    first-two _
     (c .before .before .before .before .before .before .before .before .before .before .before .before .before .before .before .before .before
     .before .before .before .before .before .before .args .program .now)
     (c .before .before .before .before .before .before .before .before .before .before .before .before .before .before .before .before .before
@@ -54,7 +54,7 @@ place-first-requires c κs =
 
 slice-write-edges-2 : tie.Need-slice-write-edges-2
 slice-write-edges-2 c =
-    edge-there
+    edge-there _
     (c .before .before .before .before .before .before .before .before .before .before .before .before .before .before .before .before .before
     .before .before .before .before .before .before .before .before .before .args .program .now)
     (c .before .before .before .before .before .before .before .before .before .before .before .before .before .before .before .before .before
@@ -82,7 +82,7 @@ slice-write-edges-2 c =
 
 returns-3 : tie.Need-returns-3
 returns-3 c =
-    load-unread (c .before .before .before .before .before .before .before .before .args .program .now)
+    load-unread _ (c .before .before .before .before .before .before .before .before .args .program .now)
     (c .before .before .before .before .before .before .before .before .args .vertices .now)
     (c .before .before .before .before .before .before .before .before .args .edges .now)
     (c .before .before .before .before .before .before .before .before .args .tally) _ _
@@ -90,7 +90,7 @@ returns-3 c =
 
 returns-4 : tie.Need-returns-4
 returns-4 c =
-    load-accepted
+    load-accepted _
     (c .before .before .before .before .before .before .before .before .before .before .before .before .before .before .before .before .before
     .before .before .before .before .before .before .before .before .before .args .program .now)
     (c .before .before .before .before .before .before .before .before .before .before .before .before .before .before .before .before .before

@@ -17,10 +17,10 @@ use Rattle.engine.proofs.look.lowest_marked.Statement.{statement}
 use Rattle.engine.proofs.look.lowest_marked.Tie as tie
 
 abbrev Inv-loop : tie.InvT-loop
-Inv-loop program marks vertices edges tally v₀ v-end v = (v ≤ tally .made) × CannotBelow program (lent vertices edges tally) v
+Inv-loop program marks vertices edges tally edition v₀ v-end v = (v ≤ tally .made) × CannotBelow edition program (lent vertices edges tally) v
 
 abbrev μ-loop : tie.MeasureT-loop
-μ-loop program marks vertices edges tally v₀ v-end v = tally .made - v
+μ-loop program marks vertices edges tally edition v₀ v-end v = tally .made - v
 
 -- at a turn
 module _ (c : tie.In-loop Inv-loop μ-loop) where
@@ -45,34 +45,34 @@ module _ (c : tie.In-loop Inv-loop μ-loop) where
 -- one that executes can as was seen
 seen :
     (c : tie.After-would-take Inv-loop μ-loop)
-    → canStep (start (c .before .before .before .before .before .before) .args .program .now) (tables (c .before .before .before .before .before .before)) (vertex (c .before .before .before .before .before .before)) ≡ c .would-take .result
+    → canStep (start (c .before .before .before .before .before .before) .args .edition) (start (c .before .before .before .before .before .before) .args .program .now) (tables (c .before .before .before .before .before .before)) (vertex (c .before .before .before .before .before .before)) ≡ c .would-take .result
 seen c =
     let turn = c .before .before .before .before .before .before in
-    executing-can _ _ _ (known turn) (few turn) (turn .loop-test .taken) (c .before .before .if3 .left) (c .before .marked-due .ensures) (c .would-take .ensures)
+    executing-can _ _ _ _ (known turn) (few turn) (turn .loop-test .taken) (c .before .before .if3 .left) (c .before .marked-due .ensures) (c .would-take .ensures)
 
 returns-2 : tie.Need-returns-2 Inv-loop μ-loop
 returns-2 c =
     let turn = c .before .before in
-    chosen-this _ _ _ (turn .loop-test .taken) (turn .before .loop .inv .1)
-    (start-can _ _ _ (known turn) (few turn) (turn .loop-test .taken) (c .before .may-start .ensures) (c .if2 .taken))
+    chosen-this _ _ _ _ (turn .loop-test .taken) (turn .before .loop .inv .1)
+    (start-can _ _ _ _ (known turn) (few turn) (turn .loop-test .taken) (c .before .may-start .ensures) (c .if2 .taken))
 
 loop-again : tie.Need-loop-again Inv-loop μ-loop
 loop-again c =
     let turn = c .before .before .before .before in (
       omega (arith, turn .loop-test .taken),
-      none-more _ _ _ (turn .before .loop .inv .1)
-          (barred _ _ _ (known turn) (turn .loop-test .taken) (c .before .before .before .may-start .ensures) (c .before .before .if2 .left) (c .if3 .taken)),
+      none-more _ _ _ _ (turn .before .loop .inv .1)
+          (barred _ _ _ _ (known turn) (turn .loop-test .taken) (c .before .before .before .may-start .ensures) (c .before .before .if2 .left) (c .if3 .taken)),
     )
 
 returns-3 : tie.Need-returns-3 Inv-loop μ-loop
 returns-3 c =
     let turn = c .before .before .before .before .before .before .before in
-    chosen-this _ _ _ (turn .loop-test .taken) (turn .before .loop .inv .1) (seen (c .before) ∙ c .if4 .taken)
+    chosen-this _ _ _ _ (turn .loop-test .taken) (turn .before .loop .inv .1) (seen (c .before) ∙ c .if4 .taken)
 
 loop-again-2 : tie.Need-loop-again-2 Inv-loop μ-loop
 loop-again-2 c =
     let turn = c .before .before .before .before .before .before .before in
-    (omega (arith, turn .loop-test .taken), none-more _ _ _ (turn .before .loop .inv .1) (seen (c .before) ∙ c .if4 .left))
+    (omega (arith, turn .loop-test .taken), none-more _ _ _ _ (turn .before .loop .inv .1) (seen (c .before) ∙ c .if4 .left))
 
 pub lowest-marked-spec : {M : Type 1} → statement M
 lowest-marked-spec =
@@ -80,7 +80,7 @@ lowest-marked-spec =
     (tie.spec
     Inv-loop
     μ-loop
-    (λ c. chosen-late _ _ (c .if1 .taken))
+    (λ c. chosen-late _ _ _ (c .if1 .taken))
     (λ c. (omega arith, λ u lt. absurd (omega arith)))
     (λ c. search needs)
     (λ c κs. row c)
@@ -99,4 +99,4 @@ lowest-marked-spec =
     (λ c. omega (arith, row (c .before .before .before .before .before .before .before)))
     (λ c. omega (arith, c .before .before .before .before .before .before .before .loop-test .taken))
     loop-again-2
-    (λ c. chosen-none _ _ _ (c .loop-test .left) (c .before .loop .inv .1)))
+    (λ c. chosen-none _ _ _ _ (c .loop-test .left) (c .before .loop .inv .1)))

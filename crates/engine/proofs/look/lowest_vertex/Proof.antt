@@ -11,7 +11,7 @@ use Rattle.engine.proofs.look.lowest_vertex.Statement.{statement}
 use Rattle.engine.proofs.look.lowest_vertex.Tie as tie
 
 returns : tie.Need-returns
-returns c = choice-turned _ _ (answered-no (c .before .before .is-steppable .ensures) (c .before .if1 .taken)) (c .refused .ensures)
+returns c = choice-turned _ _ _ (answered-no (c .before .before .is-steppable .ensures) (c .before .if1 .taken)) (c .refused .ensures)
 
 lowest-marked-requires : tie.Need-lowest-marked-requires
 lowest-marked-requires c κs = (
@@ -22,7 +22,7 @@ lowest-marked-requires c κs = (
 
 returns-2 : tie.Need-returns-2
 returns-2 c =
-    choice-looks _ _
+    choice-looks _ _ _
     (answered-yes (c .before .before .before .before .before .before .is-steppable .ensures) (c .before .before .before .before .before .if1 .left))
     (c .lowest-marked .ensures)
 

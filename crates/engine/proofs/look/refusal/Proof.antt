@@ -1,7 +1,7 @@
 -- Each case is its command: accepted exactly where the refusal is 0.
 use borrow.Author.Needs.{needs}
 use mathlib.Core.Path.{refl}
-use Rattle.graph.specs.Commands.{command, newTd, newEdge, release, transfer, start, stop}
+use Rattle.graph.specs.Commands.{command, newTd, newEdge, release, transfer, start, stop, yield}
 use Rattle.engine.proofs.LowestLaws.{told, told-case}
 use Rattle.engine.proofs.look.refusal.Statement.{statement}
 use Rattle.engine.proofs.look.refusal.Tie as tie
@@ -30,10 +30,16 @@ returns-6 : tie.Need-returns-6
 unfolding command stop
 returns-6 c = told-case _ (c .before .before .given6 .given .1) (told _ _ _ refl (c .stop-refusal .ensures))
 
+returns-7 : tie.Need-returns-7
+unfolding command yield
+returns-7 c = told-case _ (c .before .before .given7 .given .1) (told _ _ _ refl (c .yield-refusal .ensures))
+
 pub refusal-spec : {M : Type 1} → statement M
 refusal-spec =
     tie.close
     (tie.spec
+    (λ c. search needs)
+    (λ c κs. search needs)
     (λ c. search needs)
     (λ c κs. search needs)
     (λ c. search needs)
@@ -51,4 +57,5 @@ refusal-spec =
     returns-3
     returns-4
     returns-5
-    returns-6)
+    returns-6
+    returns-7)

@@ -51,7 +51,7 @@ returns-4 c = search dues depth 12
 returns-5 : tie.Need-returns-5
 returns-5 c =
     let made = c .before .before .before .before .before .before .before .before in
-    due-item _ _ _ _ (start made .pre) (takes-steps made) (made .if2 .left) (c .before .before .before .before .before .before .if3 .left) (c .before .before .before .before .if4 .left) (c .before .before .before .own-words .ensures)
+    due-item _ _ _ _ _ (start made .pre) (takes-steps made) (made .if2 .left) (c .before .before .before .before .before .before .if3 .left) (c .before .before .before .before .if4 .left) (c .before .before .before .own-words .ensures)
     (c .executing .ensures)
 
 pub next-due-spec : {M : Type 1} → statement M

@@ -17,23 +17,23 @@ use Rattle.engine.proofs.runs.run_by_value.Statement.{statement}
 use Rattle.engine.proofs.runs.run_by_value.Tie as tie
 
 abbrev Inv-loop : tie.InvT-loop
-Inv-loop program vertices₀ edges₀ budget marks after₀ last₀ taken₀ vertices edges after last taken =
+Inv-loop program vertices₀ edges₀ edition budget marks after₀ last₀ taken₀ vertices edges after last taken =
     (taken ≤ budget) × (length vertices ≡ length vertices₀) × (length edges ≡ length edges₀) × (sound (lent vertices edges after) ≡ true)
-    × (run program (lent vertices₀ edges₀ after₀) budget ≡ runOn program (budget - taken) (lent vertices edges after) (lastOf last) taken)
+    × (run edition program (lent vertices₀ edges₀ after₀) budget ≡ runOn edition program (budget - taken) (lent vertices edges after) (lastOf last) taken)
 
 abbrev μ-loop : tie.MeasureT-loop
-μ-loop program vertices₀ edges₀ budget marks after₀ last₀ taken₀ vertices edges after last taken = budget - taken
+μ-loop program vertices₀ edges₀ edition budget marks after₀ last₀ taken₀ vertices edges after last taken = budget - taken
 
 returns : tie.Need-returns Inv-loop μ-loop
 returns c =
     let refused = c .refused .ensures in
-    ran _ _ _ _ _ (run-turned _ _ _ (answered-no (c .before .before .is-steppable .ensures) (c .before .if1 .taken))) (refused .0) (refused .1)
+    ran _ _ _ _ _ _ (run-turned _ _ _ _ (answered-no (c .before .before .is-steppable .ensures) (c .before .if1 .taken))) (refused .0) (refused .1)
     (refused .2) (refused .3)
 
 loop-holds : tie.Need-loop-holds Inv-loop μ-loop
 loop-holds c =
     let takes-steps = answered-yes (c .before .before .before .before .is-steppable .ensures) (c .before .before .before .if1 .left) in
-    (omega arith, refl, refl, steppable-sound _ takes-steps, run-starts _ _ _ takes-steps)
+    (omega arith, refl, refl, steppable-sound _ takes-steps, run-starts _ _ _ _ takes-steps)
 
 take-lowest-requires : tie.Need-take-lowest-requires Inv-loop μ-loop
 take-lowest-requires c κs = (
@@ -44,7 +44,7 @@ take-lowest-requires c κs = (
 
 at-rest-requires : tie.Need-at-rest-requires Inv-loop μ-loop
 at-rest-requires c κs =
-    rest-rows _ _ _ _ _ _ (c .before .before .before .before .before .before .before .before .before .before .before .before .before .loop .inv .3)
+    rest-rows _ _ _ _ _ _ _ (c .before .before .before .before .before .before .before .before .before .before .before .before .before .loop .inv .3)
     (c .before .before .before .before .before .before .before .before .take-lowest .ensures) (c .before .before .enum-told .given .1)
 
 same-length-3 : tie.Need-same-length-3 Inv-loop μ-loop
@@ -60,8 +60,8 @@ same-length-4 c =
 returns-2 : tie.Need-returns-2 Inv-loop μ-loop
 returns-2 c =
     let ended = c .ended .ensures in
-    ran _ _ _ _ _
-    (run-rests _ _ _ _ _ _ _ _ _
+    ran _ _ _ _ _ _
+    (run-rests _ _ _ _ _ _ _ _ _ _
     (c .before .before .before .before .before .before .before .before .before .before .before .before .before .before .before .loop .inv .4)
     (c .before .before .before .before .before .before .before .before .before .before .take-lowest .ensures)
     (c .before .before .before .before .enum-told .given .1) (c .before .at-rest .ensures))
@@ -70,7 +70,7 @@ returns-2 c =
 loop-again : tie.Need-loop-again Inv-loop μ-loop
 loop-again c =
     let turn =
-    run-turn _ _ _ _ _ _ _ (c .before .before .before .before .before .before .before .before .before .before .before .before .loop-test .taken)
+    run-turn _ _ _ _ _ _ _ _ (c .before .before .before .before .before .before .before .before .before .before .before .before .loop-test .taken)
     (c .before .before .before .before .before .before .before .before .before .before .before .before .before .loop .inv .3)
     (c .before .before .before .before .before .before .before .before .before .before .before .before .before .loop .inv .4)
     (c .before .before .before .before .before .before .before .before .take-lowest .ensures) (c .before .before .attempt .given .1)
@@ -100,7 +100,7 @@ same-length-6 c = c .before .before .before .before .before .before .loop .inv .
 returns-3 : tie.Need-returns-3 Inv-loop μ-loop
 returns-3 c =
     let ended = c .ended2 .ensures in
-    ran _ _ _ _ _ (run-used _ _ _ _ _ (c .before .before .before .before .before .loop-test .left)
+    ran _ _ _ _ _ _ (run-used _ _ _ _ _ _ (c .before .before .before .before .before .loop-test .left)
     (c .before .before .before .before .before .before .loop .inv .4) (c .before .when-used .ensures)) (ended .0) (ended .1) (ended .2) (ended .3)
 
 pub run-by-value-spec : {M : Type 1} → statement M

@@ -18,11 +18,11 @@ use Rattle.engine.proofs.runs.take_lowest.Statement.{statement}
 use Rattle.engine.proofs.runs.take_lowest.Tie as tie
 
 abbrev Inv-loop : tie.InvT-loop
-Inv-loop program marks vertices₀ edges₀ tally v₀ v-end vertices edges v =
-    (v ≤ tally .made) × (vertices ≡ vertices₀) × (edges ≡ edges₀) × CannotBelow program (lent vertices₀ edges₀ tally) v
+Inv-loop program marks vertices₀ edges₀ tally edition v₀ v-end vertices edges v =
+    (v ≤ tally .made) × (vertices ≡ vertices₀) × (edges ≡ edges₀) × CannotBelow edition program (lent vertices₀ edges₀ tally) v
 
 abbrev μ-loop : tie.MeasureT-loop
-μ-loop program marks vertices₀ edges₀ tally v₀ v-end vertices edges v = tally .made - v
+μ-loop program marks vertices₀ edges₀ tally edition v₀ v-end vertices edges v = tally .made - v
 
 -- at a turn
 module _ (c : tie.In-loop Inv-loop μ-loop) where
@@ -54,7 +54,7 @@ same-length-2 c = ap length (c .before .before .before .before .before .before .
 returns-2 : tie.Need-returns-2 Inv-loop μ-loop
 returns-2 c =
     let turn = c .before .before .before .before .before .before .before .before in
-    started-up _ _ _ _ _ _ _ _ _ _ _ (known turn) (turn .before .loop .inv .1) (turn .before .loop .inv .2) (few turn) (turn .loop-test .taken)
+    started-up _ _ _ _ _ _ _ _ _ _ _ _ (known turn) (turn .before .loop .inv .1) (turn .before .loop .inv .2) (few turn) (turn .loop-test .taken)
     (c .before .before .before .before .before .before .may-start .ensures) (c .before .before .before .before .before .if2 .taken) (c .before .before .start-step .ensures) (turn .before .loop .inv .3)
 
 -- another one that does not execute
@@ -64,7 +64,7 @@ loop-again c =
       omega (arith, turn .loop-test .taken),
       turn .before .loop .inv .1,
       turn .before .loop .inv .2,
-      passed-by _ _ _ _ _ _ (known turn) (turn .before .loop .inv .1) (turn .loop-test .taken) (c .before .before .before .may-start .ensures) (c .before .before .if2 .left)
+      passed-by _ _ _ _ _ _ _ (known turn) (turn .before .loop .inv .1) (turn .loop-test .taken) (c .before .before .before .may-start .ensures) (c .before .before .if2 .left)
           (c .if3 .taken) (turn .before .loop .inv .3),
     )
 
@@ -72,10 +72,10 @@ loop-again c =
 next :
     (c : tie.After-marked-due Inv-loop μ-loop)
     → dueOf (c .marked-due .result)
-    ≡ due (start (c .before .before .before .before .before .before .before) .args .program .now) (lent (c .before .before .before .before .before .before .before .before .loop .vertices) (c .before .before .before .before .before .before .before .before .loop .edges) (start (c .before .before .before .before .before .before .before) .args .tally)) (c .before .before .before .before .before .before .before .before .loop .v)
+    ≡ due (start (c .before .before .before .before .before .before .before) .args .edition) (start (c .before .before .before .before .before .before .before) .args .program .now) (lent (c .before .before .before .before .before .before .before .before .loop .vertices) (c .before .before .before .before .before .before .before .before .loop .edges) (start (c .before .before .before .before .before .before .before) .args .tally)) (c .before .before .before .before .before .before .before .before .loop .v)
 next c =
     let turn = c .before .before .before .before .before .before .before in
-    due-here _ _ _ _ _ _ _ (known turn) (turn .before .loop .inv .1) (turn .before .loop .inv .2) (few turn) (turn .loop-test .taken)
+    due-here _ _ _ _ _ _ _ _ (known turn) (turn .before .loop .inv .1) (turn .before .loop .inv .2) (few turn) (turn .loop-test .taken)
     (c .before .before .if3 .left) (c .marked-due .ensures)
 
 marked-due-requires : tie.Need-marked-due-requires Inv-loop μ-loop
@@ -90,14 +90,14 @@ same-length-4 c = c .before .before .before .before .before .before .do-due .kep
 returns-3 : tie.Need-returns-3 Inv-loop μ-loop
 returns-3 c =
     let turn = c .before .before .before .before .before .before .before .before .before .before .before .before .before .before .before .before in
-    taken-up _ _ _ _ _ _ _ _ _ _ _ (turn .before .loop .inv .1) (turn .before .loop .inv .2) (turn .loop-test .taken)
-    (c .before .before .before .before .before .before .do-due .ensures _ (next (c .before .before .before .before .before .before .before .before .before))) (c .before .step-refused .ensures) (c .if4 .taken) (turn .before .loop .inv .3)
+    taken-up _ _ _ _ _ _ _ _ _ _ _ _ (turn .before .loop .inv .1) (turn .before .loop .inv .2) (turn .loop-test .taken)
+    (c .before .before .before .before .before .before .do-due .ensures _ _ (next (c .before .before .before .before .before .before .before .before .before))) (c .before .step-refused .ensures) (c .if4 .taken) (turn .before .loop .inv .3)
 
 loop-again-2 : tie.Need-loop-again-2 Inv-loop μ-loop
 loop-again-2 c =
     let turn = c .before .before .before .before .before .before .before .before .before .before .before .before .before .before .before .before in
     let kept =
-    turned-down _ _ _ _ _ _ _ _ _ _ _ (turn .before .loop .inv .1) (turn .before .loop .inv .2) (c .before .before .before .before .before .before .do-due .ensures _ (next (c .before .before .before .before .before .before .before .before .before)))
+    turned-down _ _ _ _ _ _ _ _ _ _ _ _ (turn .before .loop .inv .1) (turn .before .loop .inv .2) (c .before .before .before .before .before .before .do-due .ensures _ _ (next (c .before .before .before .before .before .before .before .before .before)))
     (c .before .step-refused .ensures) (c .if4 .left) (turn .before .loop .inv .3)
     in
     (omega (arith, turn .loop-test .taken), kept .0, kept .1, kept .2)
@@ -105,7 +105,7 @@ loop-again-2 c =
 -- all were looked at
 returns-4 : tie.Need-returns-4 Inv-loop μ-loop
 returns-4 c = (
-  none-left _ _ _ _ _ (c .before .loop .inv .0) (c .loop-test .left) (c .before .loop .inv .3),
+  none-left _ _ _ _ _ _ (c .before .loop .inv .0) (c .loop-test .left) (c .before .loop .inv .3),
   c .before .loop .inv .1,
   c .before .loop .inv .2,
 )
@@ -116,7 +116,7 @@ take-lowest-spec =
     (tie.spec
     Inv-loop
     μ-loop
-    (λ c. (late-none _ _ (c .if1 .taken), refl, refl))
+    (λ c. (late-none _ _ _ (c .if1 .taken), refl, refl))
     (λ c. (omega arith, refl, refl, λ u lt. absurd (omega arith)))
     (λ c. search needs)
     (λ c κs. omega (arith, c .before .loop-test .taken, rows (c .before)))
@@ -133,7 +133,7 @@ take-lowest-spec =
     (λ c. omega (arith, c .before .before .before .before .before .loop-test .taken))
     loop-again
     marked-due-requires
-    (λ c κs. is-due _ (next (c .before .before)))
+    (λ c κs. is-due _ _ (next (c .before .before)))
     (λ c κs. search needs)
     same-length-3
     same-length-4

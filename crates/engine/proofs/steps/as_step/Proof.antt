@@ -22,11 +22,12 @@ returns-4 c = same (c .before .answer3 .given .1)
 returns-5 : tie.Need-returns-5
 returns-5 c = same (c .before .answer4 .given .1)
 
-returns-7 : tie.Need-returns-7
-returns-7 c = same (c .before .answer5 .given .1)
+returns-8 : tie.Need-returns-8
+returns-8 c = same (c .before .answer5 .given .1)
 
 pub as-step-spec : {M : Type 1} → statement M
 as-step-spec = tie.close (tie.spec
+    (λ c. search needs)
     (λ c. search needs)
     (λ c. search needs)
     (λ c. search needs)
@@ -40,4 +41,5 @@ as-step-spec = tie.close (tie.spec
     returns-4
     returns-5
     (λ c. search needs)
-    returns-7)
+    (λ c. search needs)
+    returns-8)
