@@ -1,10 +1,7 @@
-// Lists a program: reads its bytes from standard input and writes the lines of its listing.
-use libc::STDIN_FILENO;
-use listing::out::list;
+// Lists the program that standard input holds, in the first edition.
+use listing::out::list_input;
+use program::Edition;
 
-// One byte more is read than a program may have, so that a longer input is refused.
 fn main() {
-    let mut input = [0u8; 4097];
-    let n = io::read_full(STDIN_FILENO, &mut input);
-    list(&input[..n]);
+    list_input(Edition::First);
 }

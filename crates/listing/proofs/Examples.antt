@@ -23,6 +23,10 @@ an-edge : stepText 0 (StepSaid.edge 1024 409) ≡ codes "0 edge 1024 409\n"
 unfolding stepText answerText numeral numeralBy
 an-edge = refl
 
+a-yield : stepText 0 StepSaid.yield ≡ codes "0 yield\n"
+unfolding stepText answerText numeral numeralBy
+a-yield = refl
+
 a-refusal : refusalText 5 2 ≡ codes "refused 5 2\n"
 unfolding refusalText numeral numeralBy
 a-refusal = refl

@@ -25,8 +25,8 @@ numeralBy (suc turns) n = cond (ltb n 10) (digit n ∷ []) (numeralBy turns (n /
 unfoldable pub numeral : ℕ → List ℕ
 numeral n = numeralBy (suc n) n
 
--- "An accepted step says one of seven things: start, new v, edge a b, release v, transfer v, job (number, offset), stop." Of a job only the
--- number is listed. The last is no accepted step's.
+-- "An accepted step says one of seven things: start, new v, edge a b, release v, transfer v, job (number, offset), stop." "An accepted step may
+-- then also say yield." (note 10) Of a job only the number is listed. The last is no accepted step's.
 unfoldable pub answerText : StepSaid → List ℕ
 answerText StepSaid.start = codes "start"
 answerText (StepSaid.new v) = codes "new " ++ numeral v
@@ -35,6 +35,7 @@ answerText (StepSaid.release v) = codes "release " ++ numeral v
 answerText (StepSaid.transfer v) = codes "transfer " ++ numeral v
 answerText (StepSaid.job n o) = codes "job " ++ numeral n
 answerText StepSaid.stop = codes "stop"
+answerText StepSaid.yield = codes "yield"
 answerText (StepSaid.refused n p) = codes "refused " ++ numeral n ++ codes " " ++ numeral p
 
 -- the line of a step of the vertex v

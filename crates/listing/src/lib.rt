@@ -1,5 +1,5 @@
-// The lister, over lent tables: `first_line` loads a program and `next_line` steps its lowest vertex, and each hands out the line that a
-// program has to write then. specs/Lines.antt tells which lines these are.
+// The lister, over lent tables: `first_line` loads a program and `next_line` steps its lowest vertex, both in the edition named, and each hands
+// out the line that a program has to write then. specs/Lines.antt tells which lines these are.
 pub mod out;
 mod text;
 
@@ -12,6 +12,7 @@ use engine::load::load_by_value;
 use engine::look::lowest_vertex;
 use engine::steps::step_by_value;
 use graph::Tally;
+use program::Edition;
 use program::ProgramRead;
 use program::reading::read;
 use refusal::Refusal;
@@ -35,12 +36,13 @@ pub fn first_line(
     program: &[u8],
     vertices: &mut [u32],
     edges: &mut [u32],
+    edition: Edition,
     line: &mut [u8; LINE_BYTES],
 ) -> Line
     ensures { λ r. ⌜ Counts (lengthOf r) (now (line .exit)) ⌝ }
-    ensures { λ r. ⌜ FirstLine (now (program .entry)) (unused (now (vertices .entry)) (now (edges .entry))) r (take (lengthOf r) (now (line .exit))) (now (vertices .exit)) (now (edges .exit)) ⌝ }
+    ensures { λ r. ⌜ FirstLine edition (now (program .entry)) (unused (now (vertices .entry)) (now (edges .entry))) r (take (lengthOf r) (now (line .exit))) (now (vertices .exit)) (now (edges .exit)) ⌝ }
 {
-    let reading = read(program);
+    let reading = read(program, edition);
     match reading {
         ProgramRead::Refused(refusal) => Line::Last {
             length: refusal_line(
@@ -57,7 +59,7 @@ pub fn first_line(
                 held: 0,
                 steps: 0,
             };
-            let loaded = load_by_value(program, vertices, edges, nothing);
+            let loaded = load_by_value(program, vertices, edges, nothing, edition);
             let answer = loaded.answer;
             let tally = loaded.tally;
             if let Loading::Refused(refusal) = answer {
@@ -66,7 +68,7 @@ pub fn first_line(
                 };
             }
             Line::Text {
-                length: heading(items, line),
+                length: heading(items, edition, line),
                 tally,
             }
         }
@@ -80,15 +82,16 @@ pub fn next_line(
     vertices: &mut [u32],
     edges: &mut [u32],
     tally: Tally,
+    edition: Edition,
     line: &mut [u8; LINE_BYTES],
 ) -> Line
     ensures { λ r. ⌜ Counts (lengthOf r) (now (line .exit)) ⌝ }
-    ensures { λ r. ⌜ NextLine (now (program .entry)) (lent (now (vertices .entry)) (now (edges .entry)) tally) r (take (lengthOf r) (now (line .exit))) (now (vertices .exit)) (now (edges .exit)) ⌝ }
+    ensures { λ r. ⌜ NextLine edition (now (program .entry)) (lent (now (vertices .entry)) (now (edges .entry)) tally) r (take (lengthOf r) (now (line .exit))) (now (vertices .exit)) (now (edges .exit)) ⌝ }
 {
-    let lowest = lowest_vertex(program, vertices, edges, tally);
+    let lowest = lowest_vertex(program, vertices, edges, tally, edition);
     match lowest {
         Lowest::Vertex(vertex) => {
-            let done = step_by_value(program, vertices, edges, tally, vertex);
+            let done = step_by_value(program, vertices, edges, tally, edition, vertex);
             let answer = done.answer;
             let tally = done.tally;
             Line::Text {

@@ -3,6 +3,7 @@
 use crate::LINE_BYTES;
 use engine::Answer;
 use io::decimal;
+use program::Edition;
 use program::ItemCounts;
 use program::reading::steps;
 use program::reading::vertices;
@@ -19,14 +20,14 @@ ghost use Rattle.listing.specs.Text.{numeral, answerText, headingText, s
 ghost use Rattle.listing.specs.Internal.Puts.{Put, pairText, pairRoom, answerRoom};
 
 // The heading of a program with these items.
-pub(crate) fn heading(items: ItemCounts, line: &mut [u8; LINE_BYTES]) -> usize
+pub(crate) fn heading(items: ItemCounts, edition: Edition, line: &mut [u8; LINE_BYTES]) -> usize
     ensures { λ r. ⌜ Counts r (now (line .exit)) ⌝ }
-    ensures { λ r. ⌜ take r (now (line .exit)) ≡ headingText (vertexFormula (itemCounts items)) (items .jobs) (stepFormula (itemCounts items)) ⌝ }
+    ensures { λ r. ⌜ take r (now (line .exit)) ≡ headingText (vertexFormula edition (itemCounts items)) (items .jobs) (stepFormula edition (itemCounts items)) ⌝ }
 {
     let jobs = items.jobs as u64;
-    let mut at = put_named(line, 0, b"vertices ", vertices(items));
+    let mut at = put_named(line, 0, b"vertices ", vertices(items, edition));
     at = put_named(line, at, b" jobs ", jobs);
-    at = put_named(line, at, b" steps ", steps(items));
+    at = put_named(line, at, b" steps ", steps(items, edition));
     put_text(line, at, b"\n")
 }
 
@@ -64,6 +65,7 @@ fn put_answer(line: &mut [u8], at: usize, answer: Answer) -> usize
         Answer::Transfer(v) => put_named(line, at, b"transfer ", v as u64),
         Answer::Job { number, offset: _ } => put_named(line, at, b"job ", number as u64),
         Answer::Stop => put_text(line, at, b"stop"),
+        Answer::Yield => put_text(line, at, b"yield"),
         Answer::Refused(refusal) => put_pair(line, at, b"refused ", refusal.number, refusal.place),
     }
 }

@@ -14,14 +14,14 @@ returns c =
     let load = c .before .before .before .before .before .before .before .before .before .before .load-by-value in
     let line = c .refusal-line2 .ensures in
     let is = ap loadingSaid (c .before .before .before .answer .given .1) in
-    (line .0, refused-line _ _ (c .refusal-line2 .result) (load .result .tally) (load .ensures) is (line .1))
+    (line .0, refused-line _ _ _ (c .refusal-line2 .result) (load .result .tally) (load .ensures) is (line .1))
 
 returns-2 : tie.Need-returns-2
 returns-2 c =
     let read = c .before .before .before .before .before .read in
     let line = c .refusal-line .ensures in
     let is = ap of-program.said (sym (c .before .before .before .reading .given .1)) ∙ read .ensures in
-    (line .0, unread-line _ _ (c .refusal-line .result) is (line .1))
+    (line .0, unread-line _ _ _ (c .refusal-line .result) is (line .1))
 
 returns-3 : tie.Need-returns-3
 returns-3 c =
@@ -30,7 +30,7 @@ returns-3 c =
     let line = c .heading .ensures in
     let is = ap of-program.said (sym (known .reading2 .given .1)) ∙ known .before .before .read .ensures in
     let taken = ap (λ (a : Loading). isLoaded (loadingSaid a)) (c .before .before .enum-told .given .1) in
-    (line .0, heading-line _ _ (c .heading .result) (load .result .tally) _ is (load .ensures) taken (line .1))
+    (line .0, heading-line _ _ _ (c .heading .result) (load .result .tally) _ is (load .ensures) taken (line .1))
 
 pub first-line-spec : {M : Type 1} → statement M
 first-line-spec =

@@ -12,17 +12,17 @@ returns c =
     let step = c .before .before .before .before .before .before .before .step-by-value in
     let look = found .before .before .lowest-vertex in
     let line = c .step-line .ensures in
-    (line .0, stepped-line _ _ (c .step-line .result) (step .result .tally) (look .result) (look .ensures) (found .lowest .given .1) (step .ensures) (line .1))
+    (line .0, stepped-line _ _ _ (c .step-line .result) (step .result .tally) (look .result) (look .ensures) (found .lowest .given .1) (step .ensures) (line .1))
 
 returns-2 : tie.Need-returns-2
 returns-2 c =
     let look = c .before .before .lowest-vertex in
-    ((zero-le, refl), no-line _ _ (look .result) (look .ensures) (c .enum-told .given .1))
+    ((zero-le, refl), no-line _ _ _ (look .result) (look .ensures) (c .enum-told .given .1))
 
 returns-3 : tie.Need-returns-3
 returns-3 c =
     let look = c .before .before .before .lowest-vertex in
-    ((zero-le, refl), unchosen-line _ _ (look .result) _ (look .ensures) (c .before .lowest2 .given .1))
+    ((zero-le, refl), unchosen-line _ _ _ (look .result) _ (look .ensures) (c .before .lowest2 .given .1))
 
 pub next-line-spec : {M : Type 1} → statement M
 next-line-spec =

@@ -14,11 +14,11 @@ use Rattle.listing.proofs.out.list.Statement.{statement}
 use Rattle.listing.proofs.out.list.Tie as tie
 
 abbrev Inv-loop : tie.InvT-loop
-Inv-loop program vertices₀ edges₀ line₀ given₀ turn₀ vertices edges line given turn =
+Inv-loop program edition vertices₀ edges₀ line₀ given₀ turn₀ vertices edges line given turn =
     (turn ≤ stepLimit) × (length vertices ≡ vertexTable) × (length edges ≡ edgeTable) × Counts (lengthOf given) line
 
 abbrev μ-loop : tie.MeasureT-loop
-μ-loop program vertices₀ edges₀ line₀ given₀ turn₀ vertices edges line given turn = stepLimit - turn
+μ-loop program edition vertices₀ edges₀ line₀ given₀ turn₀ vertices edges line given turn = stepLimit - turn
 
 -- the length of a line by its case
 counted : {x y : Line} (line : List ℕ) → x ≡ y → Counts (lengthOf x) line → Counts (lengthOf y) line

@@ -81,6 +81,13 @@ returns-7 c =
 returns-8 : tie.Need-returns-8
 unfolding answerText
 returns-8 c =
+    let told = c .before .before .before .before .before .enum-told3 .given in
+    let put = c .before .before .put-text3 .ensures in
+    answered (told .1) (omega (arith, put .ends)) put
+
+returns-9 : tie.Need-returns-9
+unfolding answerText
+returns-9 c =
     let told = c .before .before .before .before .before .before .answer6 .given in
     let put = c .before .before .put-pair2 .ensures in
     answered (told .1) (omega (arith, put .0)) (put .1)
@@ -118,6 +125,9 @@ put-answer-spec =
     (λ c. search needs)
     (λ c κs. search needs)
     (λ c. search needs)
+    (λ c. search needs)
+    (λ c κs. search needs)
+    (λ c. search needs)
     returns
     (λ c. search needs)
     returns-2
@@ -132,4 +142,6 @@ put-answer-spec =
     (λ c. search needs)
     returns-7
     (λ c. search needs)
-    returns-8)
+    returns-8
+    (λ c. search needs)
+    returns-9)
