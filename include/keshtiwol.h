@@ -8,10 +8,12 @@
  * tally is the one that the engine's definitions give is proved; what this file declares, and that the compiler keeps it, is trusted.
  *
  * The host's part of the bargain:
- *   - lend the same bytes, tables and tally each time, with their true lengths, and let nothing else write to them during a call;
+ *   - lend the same bytes, tables and tally each time, with their true lengths, name the same edition, and let nothing else write to
+ *     them during a call;
  *   - make one call at a time for the same tables (one lock around the engine is enough); only calls that have all of them const may
  *     go at once;
- *   - after a step says KESHTIWOL_JOB, run that job and do not step its vertex again before the job has ended.
+ *   - after a step says KESHTIWOL_JOB, run that job and do not step its vertex again before the job has ended;
+ *   - go on stepping a vertex whose step said KESHTIWOL_YIELD: a step starts it again, like any released one, when no edge leads in.
  * Pointers must not be null, also where a length is 0, and what a call may change must not overlap what else it is lent.
  *
  * A PROGRAM'S BYTES, hexadecimal; two dots give a range, braces mean any number of times, none included:
@@ -46,7 +48,7 @@ extern "C" {
 
 /* THE VERSION of this header. The first number grows where hosts must be compiled anew (a call's parameters, the shape of what is lent, the
  * meaning of an answer), the second where something is added, the third otherwise. */
-#define KESHTIWOL_VERSION_MAJOR 3
+#define KESHTIWOL_VERSION_MAJOR 4
 #define KESHTIWOL_VERSION_MINOR 0
 #define KESHTIWOL_VERSION_PATCH 0
 /* As one number. */
@@ -61,8 +63,9 @@ uint32_t keshtiwol_version(void);
  * ended, and whose own word names the next future out), and the in-count, the number of edges held into it. An edge row: source, target.
  *
  * MAY IT START? A host may read that from the row, between calls: a released vertex with the in-count 0 can start, and no other can. That
- * is so while only the engine writes the tables. A host must not alter in-counts: a start, and the step of a released vertex, believe the
- * word, and for 12 they look at the tally and at that vertex's row only. */
+ * is so while only the engine writes the tables. (Edges may lead into an executing vertex, which waits for them when it has yielded.) A
+ * host must not alter in-counts: a start, and the step of a released vertex, believe the word, and for 12 they look at the tally and at
+ * that vertex's row only. */
 enum {
     KESHTIWOL_VERTEX_WORDS = 9,
     KESHTIWOL_STATUS = 0,
@@ -84,8 +87,21 @@ enum {
     KESHTIWOL_VERTEX_FINISHED = 4
 };
 
+/* THE EDITIONS differ in how a fork is done, and in nothing else: a program's bytes and the order of its jobs are the same in both. In the
+ * first the forking vertex makes a vertex for each branch and a third that goes on behind the fork, and stops. In the second, as in the
+ * article on the dag-calculus, it makes the two alone, with an edge from each onto itself, yields, and starts again when both have
+ * finished.
+ *
+ * A load, a step, a run and the lowest vertex are asked for in an edition, by its number; another number is refused with 98. What is
+ * promised of a program as a whole is for calls of one edition. A call of the other is answered all the same, by what the tables hold. */
+enum {
+    KESHTIWOL_FIRST_EDITION = 1,
+    KESHTIWOL_SECOND_EDITION = 2
+};
+
 /* HOW MUCH TO LEND. A program with a asyncs, f finishes, k forks, u futures and x forces needs 2 + a + 2f + 3k + 2u + x vertex rows and
- * 1 + a + f + 2k + u + x edge rows; with w jobs it takes 4 + w + 5a + 10f + 15k + 9u + 6x steps. These are enough for every program: */
+ * 1 + a + f + 2k + u + x edge rows; with w jobs it takes 4 + w + 5a + 10f + 15k + 9u + 6x steps. In the second edition it is 2k for 3k
+ * and 12k for 15k. These are enough for every program: */
 enum {
     KESHTIWOL_PROGRAM_BYTES = 4096,
     KESHTIWOL_ROWS = 1024,
@@ -131,7 +147,8 @@ enum {
     KESHTIWOL_DONE = 11,    /* all vertices made are finished */
     KESHTIWOL_STUCK = 12,   /* no step would be accepted */
     KESHTIWOL_SPENT = 13,   /* the budget is used */
-    KESHTIWOL_CHAIN = 14    /* first: how many vertices the chain has, which begin the list */
+    KESHTIWOL_CHAIN = 14,   /* first: how many vertices the chain has, which begin the list */
+    KESHTIWOL_YIELD = 15    /* the vertex is released, and starts again by a step when no edge leads in */
 };
 
 /* The numbers of refusals, by who causes them. */
@@ -144,15 +161,15 @@ enum {
     KESHTIWOL_BYTES_RUN_OUT = 5,     /* place: the length */
     KESHTIWOL_BYTES_AFTER_END = 6,   /* place: the first byte after the end */
     KESHTIWOL_JOB_TOO_LARGE = 7,     /* a job's or a force's number above 4,294,967,295; place: its first byte */
-    KESHTIWOL_TOO_MANY_VERTICES = 8, /* more than 1,024 */
+    KESHTIWOL_TOO_MANY_VERTICES = 8, /* more than 1,024, as the edition counts them */
     KESHTIWOL_NO_SUCH_FUTURE = 43,   /* a force with no such future open; place: its number's first byte */
     /* the lender */
     KESHTIWOL_TOO_FEW_VERTEX_ROWS = 10,
     KESHTIWOL_TOO_FEW_EDGE_ROWS = 11,
     KESHTIWOL_UNSOUND_TABLES = 12, /* tally over the rows, too many steps, an unknown status, or an edge's end that is no vertex; a start
                                       and the step of a released vertex look at the tally and that vertex's status only */
-    KESHTIWOL_NOTHING_STARTS = 13, /* at an executing vertex's place no item can be read, its phase is past the item, or the words for
-                                      futures that a force follows lead to 0 or to no vertex */
+    KESHTIWOL_NOTHING_STARTS = 13, /* at an executing vertex's place no item can be read, its phase is past the item, both by the edition,
+                                      or the words for futures that a force follows lead to 0 or to no vertex */
     /* the host, choosing */
     KESHTIWOL_NO_SUCH_VERTEX = 20,
     KESHTIWOL_EDGE_LEADS_IN = 21, /* released, but something must finish first: its in-count is not 0 */
@@ -163,7 +180,7 @@ enum {
     KESHTIWOL_CALLER_NOT_EXECUTING = 30,
     KESHTIWOL_NO_VERTEX_ROW = 31,
     KESHTIWOL_NO_EDGE_ROW = 32,
-    KESHTIWOL_TARGET_NOT_WAITING = 33, /* the edge's target executes or is finished */
+    KESHTIWOL_TARGET_NOT_WAITING = 33, /* the edge's target executes or is finished, and is not the caller */
     /* 34 is not used: an edge that is held already is taken and changes nothing */
     KESHTIWOL_CLOSES_CYCLE = 35,
     KESHTIWOL_RELEASE_NOT_NEW = 36,
@@ -172,8 +189,9 @@ enum {
     /* whoever asks for a chain */
     KESHTIWOL_NO_CHAIN = 41,
     KESHTIWOL_LIST_TOO_SHORT = 42,
-    /* a host that asks for a command by number */
-    KESHTIWOL_NO_SUCH_COMMAND = 99 /* keshtiwol_command: a number that no command has */
+    /* a host that names an edition or a command by number */
+    KESHTIWOL_NO_SUCH_EDITION = 98, /* a number that no edition has */
+    KESHTIWOL_NO_SUCH_COMMAND = 99  /* keshtiwol_command: a number that no command has */
 };
 
 /* A refusal's number in words, for people: a refused reply's first value. It is plain C in this file and no part of what is proved. */
@@ -208,38 +226,40 @@ static inline const char *keshtiwol_refusal_text(uint32_t number)
     case KESHTIWOL_TRANSFER_HAS_EDGE_OUT: return "the vertex that would get the edges has one already";
     case KESHTIWOL_NO_CHAIN: return "no chain of held edges leads from the target back to the source";
     case KESHTIWOL_LIST_TOO_SHORT: return "the chain has more vertices than the list has words";
+    case KESHTIWOL_NO_SUCH_EDITION: return "no edition has this number";
     case KESHTIWOL_NO_SUCH_COMMAND: return "no command has this number";
     default: return "unknown";
     }
 }
 
 /* Loads a program: clears the usable rows and the tally, and sets the first two vertices and the edge between them.
- * Says KESHTIWOL_READY, or refuses: 1; 2 to 7 and 43, the first by place; 8; 10; 11. */
+ * Says KESHTIWOL_READY, or refuses: 98; 1; 2 to 7 and 43, the first by place; 8; 10; 11. Of these 8 and 10 go by the edition. */
 struct keshtiwol_reply keshtiwol_load(const uint8_t *program, size_t program_bytes,
                                       uint32_t *vertices, size_t vertex_words,
                                       uint32_t *edges, size_t edge_words,
-                                      struct keshtiwol_tally *tally);
+                                      struct keshtiwol_tally *tally, uint32_t edition);
 
 /* One step of a vertex: starts a released one; an executing one does the next command of the item at its place.
- * Says one of KESHTIWOL_START to KESHTIWOL_STOP, or refuses: 12, 20, 22, 23, 21, 13, or as its command does. On what only the engine has
- * written since a loading it is refused with 20 to 23 alone. */
+ * Says one of KESHTIWOL_START to KESHTIWOL_STOP or, in the second edition, KESHTIWOL_YIELD; or refuses: 98, 12, 20, 22, 23, 21, 13, or as
+ * its command does. On what only the engine has written since a loading, all in one edition, it is refused with 20 to 23 alone. */
 struct keshtiwol_reply keshtiwol_step(const uint8_t *program, size_t program_bytes,
                                       uint32_t *vertices, size_t vertex_words,
                                       uint32_t *edges, size_t edge_words,
-                                      struct keshtiwol_tally *tally, uint32_t vertex);
+                                      struct keshtiwol_tally *tally, uint32_t edition, uint32_t vertex);
 
 /* Steps the lowest vertex that can step, until all are finished, none can step or the budget is used. Jobs count as run where they are
- * named, so this serves hosts that only want the order. Its ending is KESHTIWOL_DONE, KESHTIWOL_STUCK, KESHTIWOL_SPENT, or the refusal 12. */
+ * named, so this serves hosts that only want the order. Its ending is KESHTIWOL_DONE, KESHTIWOL_STUCK, KESHTIWOL_SPENT, or the refusal 98
+ * or 12. */
 struct keshtiwol_run_reply keshtiwol_run(const uint8_t *program, size_t program_bytes,
                                          uint32_t *vertices, size_t vertex_words,
                                          uint32_t *edges, size_t edge_words,
-                                         struct keshtiwol_tally *tally, uint32_t budget);
+                                         struct keshtiwol_tally *tally, uint32_t edition, uint32_t budget);
 
-/* The lowest vertex that can step. Says KESHTIWOL_VERTEX or KESHTIWOL_NONE, or refuses: 12. Program, tables and tally are only read. */
+/* The lowest vertex that can step. Says KESHTIWOL_VERTEX or KESHTIWOL_NONE, or refuses: 98, 12. Program, tables and tally are only read. */
 struct keshtiwol_reply keshtiwol_lowest(const uint8_t *program, size_t program_bytes,
                                         const uint32_t *vertices, size_t vertex_words,
                                         const uint32_t *edges, size_t edge_words,
-                                        const struct keshtiwol_tally *tally);
+                                        const struct keshtiwol_tally *tally, uint32_t edition);
 
 /* Opens the bare machine: clears the usable rows and the tally, and makes vertex 0, released. Refuses without a vertex row: 10. */
 struct keshtiwol_reply keshtiwol_open(uint32_t *vertices, size_t vertex_words,
@@ -249,11 +269,13 @@ struct keshtiwol_reply keshtiwol_open(uint32_t *vertices, size_t vertex_words,
 /* The commands. What a command does not name is not looked at. */
 enum {
     KESHTIWOL_DO_NEW = 1,      /* caller; first: place; second: scope. Makes the next vertex, with the caller's latest open future. */
-    KESHTIWOL_DO_EDGE = 2,     /* caller; first: source; second: target. From a finished source, or held already, it changes nothing. */
+    KESHTIWOL_DO_EDGE = 2,     /* caller; first: source; second: target, new, released or the caller itself. From a finished source, or
+                                  held already, it changes nothing. */
     KESHTIWOL_DO_RELEASE = 3,  /* caller; first: the vertex */
     KESHTIWOL_DO_TRANSFER = 4, /* caller; first: the vertex that gets the caller's edges out */
     KESHTIWOL_DO_START = 5,    /* caller: the vertex started */
-    KESHTIWOL_DO_STOP = 6      /* caller */
+    KESHTIWOL_DO_STOP = 6,     /* caller. Edges into it stay held. */
+    KESHTIWOL_DO_YIELD = 7     /* caller. It is released, and can start again when no edge leads in. */
 };
 
 /* A single command of the dag-calculus, by one of the numbers above. It leaves the tally's steps alone. */

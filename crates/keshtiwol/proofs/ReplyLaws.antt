@@ -3,6 +3,7 @@
 --     told                                 the case that was found has these numbers, and so has the value that was matched
 --     asked-here, asked-later              the numbers of the commands, one after the other
 --     unknown-command, known-command       what the numbers of a command come to
+--     unknown-edition, known-edition       and the number of an edition
 --     replied-as, commanded-as, ran-as     a core's reply, from what the call did and from the numbers of its answer
 use Prim.Native.Nat.{ℕ}
 use mathlib.Core.Path.{_≡_, refl, sym, _∙_, ap}
@@ -16,30 +17,34 @@ use Rattle.graph.specs.declared.Tally.{Tally}
 use Rattle.graph.specs.Tables.{Lent, lent}
 use Rattle.graph.specs.Answers as of-graph
 use Rattle.graph.specs.Commands.{command}
+use Rattle.program.specs.declared.Edition.{Edition}
 use Rattle.machine.specs.Answers.{saidAs}
-use Rattle.machine.specs.Running.{run}
+use Rattle.machine.specs.Running.{run, RunOutcome}
 use Rattle.machine.specs.Traces.{Ran}
 use Rattle.engine.specs.declared.RunDone.{RunDone}
 use Rattle.engine.specs.Answers.{endingOf, lastOf}
-use Rattle.keshtiwol.specs.declared.Reply.{Reply}
 use Rattle.keshtiwol.specs.declared.ReplyDone.{ReplyDone}
+use Rattle.keshtiwol.specs.declared.RunReplyDone.{RunReplyDone}
 use Rattle.keshtiwol.specs.declared.Asked.{Asked}
 use Rattle.keshtiwol.specs.declared.Asked.the-variants as of-asked
-use Rattle.keshtiwol.specs.Numbers.{Numbers, numbers, replyNumbers, saidNumbers, endingNumbers, lastNumbers, askedOf, ifKnown, Commanded, RunReplied}
+use Rattle.keshtiwol.specs.declared.EditionAsked.{EditionAsked}
+use Rattle.keshtiwol.specs.declared.EditionAsked.the-variants as of-edition
+use Rattle.keshtiwol.specs.Numbers.{Numbers, numbers, replyNumbers, saidNumbers, endingNumbers, lastNumbers, askedOf, ifKnown, editionAskedOf, inEdition, Commanded}
+use Rattle.keshtiwol.specs.Numbers.{RunTold, RunReplied}
 
 -- ANSWERS
 pub told : {A : Type 0} (f : A → Numbers) {a b : A} {n : Numbers} → a ≡ b → n ≡ f b → n ≡ f a
 told f p h = h ∙ sym (ap f p)
 
 -- COMMANDS
-pub asked-here : {b : Bool} (o rest : Option Command) → b ≡ true → o ≡ cond b o rest
+pub asked-here : {A : Type 0} {b : Bool} (o rest : Option A) → b ≡ true → o ≡ cond b o rest
 asked-here o rest p = ap (λ (x : Bool). cond x o rest) (sym p)
 
-pub asked-later : {b : Bool} (other : Option Command) {o rest : Option Command} → b ≡ false → o ≡ rest → o ≡ cond b other rest
+pub asked-later : {A : Type 0} {b : Bool} (other : Option A) {o rest : Option A} → b ≡ false → o ≡ rest → o ≡ cond b other rest
 asked-later other {rest = rest} p q = q ∙ ap (λ (x : Bool). cond x other rest) (sym p)
 
 -- The code asks for the numbers in the definition's order.
-pub ruleset commands = (asked-here, asked-later, eq-eqb, ne-eqb, refl)
+pub ruleset asked = (asked-here, asked-later, eq-eqb, ne-eqb, refl)
 
 pub unknown-command :
     {x : Asked} {o : Option Command} (s : Lent) → x ≡ of-asked.Unknown → askedOf x ≡ o
@@ -52,6 +57,19 @@ unknown-command s p h =
 pub known-command : {x : Asked} {c : Command} {o : Option Command} (s : Lent) → x ≡ of-asked.Known c → askedOf x ≡ o → command c s ≡ ifKnown o s
 unfolding ifKnown
 known-command s p h = ap (λ (o : Option Command). ifKnown o s) (sym (ap askedOf p) ∙ h)
+
+-- EDITIONS
+pub unknown-edition :
+    {A : Type 0} {x : EditionAsked} {o : Option Edition} (refusal : A) (call : Edition → A) → x ≡ of-edition.Unknown → editionAskedOf x ≡ o
+    → refusal ≡ inEdition o refusal call
+unfolding inEdition
+unknown-edition refusal call p h = ap (λ (o : Option Edition). inEdition o refusal call) (sym (ap editionAskedOf p) ∙ h)
+
+pub known-edition :
+    {A : Type 0} {x : EditionAsked} {ed : Edition} {o : Option Edition} (refusal : A) (call : Edition → A) → x ≡ of-edition.Known ed
+    → editionAskedOf x ≡ o → call ed ≡ inEdition o refusal call
+unfolding inEdition
+known-edition refusal call p h = ap (λ (o : Option Edition). inEdition o refusal call) (sym (ap editionAskedOf p) ∙ h)
 
 -- CALLS
 pub replied-as :
@@ -69,8 +87,12 @@ commanded-as d r v e p h =
     (ap (λ (o : of-graph.Outcome of-graph.CommandSaid). o .after) p) h
 
 pub ran-as :
-    (d : RunDone) (ending last : Reply) (v e : List ℕ) (bytes : List ℕ) (s : Lent) (budget : ℕ)
-    → Ran bytes s budget (endingOf (d .answer .ending)) (lastOf (d .answer .last)) (d .answer .taken) (lent v e (d .tally))
-    → replyNumbers ending ≡ endingNumbers (endingOf (d .answer .ending)) → replyNumbers last ≡ lastNumbers (lastOf (d .answer .last))
-    → RunReplied (run bytes s budget) (record { ending = ending; last = last; taken = d .answer .taken }) (lent v e (d .tally))
-ran-as d ending last v e bytes s budget ran p q = (p ∙ ap endingNumbers (ran .ends), q ∙ ap lastNumbers (ran .last-is), ran .takes, ran .leaves)
+    (d : RunDone) (r : RunReplyDone) (v e : List ℕ) {o : RunOutcome} (ed : Edition) (bytes : List ℕ) (s : Lent) (budget : ℕ)
+    → Ran ed bytes s budget (endingOf (d .answer .ending)) (lastOf (d .answer .last)) (d .answer .taken) (lent v e (d .tally))
+    → run ed bytes s budget ≡ o → RunTold d r → RunReplied o (r .answer) (lent v e (r .tally))
+ran-as d r v e ed bytes s budget ran is (p, q, n, t) = (
+  p ∙ ap endingNumbers (ran .ends ∙ ap (λ (o : RunOutcome). o .ending) is),
+  q ∙ ap lastNumbers (ran .last-is ∙ ap (λ (o : RunOutcome). o .last) is),
+  n ∙ ran .takes ∙ ap (λ (o : RunOutcome). o .taken) is,
+  ap (λ (t : Tally). lent v e t) t ∙ ran .leaves ∙ ap (λ (o : RunOutcome). o .after) is,
+)

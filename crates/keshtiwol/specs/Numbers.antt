@@ -1,4 +1,4 @@
--- Which numbers stand for which answer and for which command where hosts are told, what a call's reply tells, and the library's version. The
+-- Which numbers stand for which answer, command and edition where hosts are told, what a call's reply tells, and the library's version. The
 -- declarations in include/keshtiwol.h have the same numbers.
 use Prim.Native.Nat.{ℕ}
 use mathlib.Core.Path.{_≡_}
@@ -7,18 +7,28 @@ use mathlib.Core.List.{List}
 use mathlib.Core.Option.{Option, none, some}
 use lib.Dec.{eqb}
 use Rattle.graph.specs.declared.Command.{Command}
-use Rattle.graph.specs.declared.Command.the-variants.{NewTd, NewEdge, Release, Transfer, Start, Stop}
+use Rattle.graph.specs.declared.Command.the-variants.{NewTd, NewEdge, Release, Transfer, Start, Stop, Yield}
 use Rattle.graph.specs.Tables.{Lent}
 use Rattle.graph.specs.Answers as of-graph
 use Rattle.graph.specs.Commands.{command}
 use Rattle.graph.specs.Answers.{Outcome}
-use Rattle.machine.specs.Answers.{StepSaid, saidAs, LoadingSaid, loaded, loading-refused}
-use Rattle.machine.specs.Running.{Ending, done, stuck, spent, refused, RunOutcome, Choice, choose, no-choice, choice-refused}
+use Rattle.program.specs.declared.Edition.{Edition}
+use Rattle.program.specs.declared.Edition.the-variants.{First, Second}
+use Rattle.refusal.specs.Refusals.{no-such-edition, no-such-command}
+use Rattle.machine.specs.Answers.{StepSaid, saidAs, refuse, LoadingSaid, loaded, loading-refused, refuseLoading}
+use Rattle.machine.specs.Loading.{load}
+use Rattle.machine.specs.Stepping.{step}
+use Rattle.machine.specs.Running.{Ending, done, stuck, spent, refused, RunOutcome, ended, run, Choice, choose, no-choice, choice-refused, choice}
+use Rattle.engine.specs.declared.RunDone.{RunDone}
+use Rattle.engine.specs.Answers.{endingOf, lastOf}
 use Rattle.chains.specs.Showing.{ChainSaid, vertices, chain-refused, ChainOutcome}
 use Rattle.keshtiwol.specs.declared.Reply.{Reply}
 use Rattle.keshtiwol.specs.declared.RunReply.{RunReply}
+use Rattle.keshtiwol.specs.declared.RunReplyDone.{RunReplyDone}
 use Rattle.keshtiwol.specs.declared.Asked.{Asked}
 use Rattle.keshtiwol.specs.declared.Asked.the-variants as of-asked
+use Rattle.keshtiwol.specs.declared.EditionAsked.{EditionAsked}
+use Rattle.keshtiwol.specs.declared.EditionAsked.the-variants as of-edition
 
 -- ANSWERS
 -- what was said, and two values
@@ -48,6 +58,7 @@ saidNumbers (StepSaid.release v) = numbers 5 v 0
 saidNumbers (StepSaid.transfer v) = numbers 6 v 0
 saidNumbers (StepSaid.job n o) = numbers 7 n o
 saidNumbers StepSaid.stop = numbers 8 0 0
+saidNumbers StepSaid.yield = numbers 15 0 0
 
 -- a run's last step
 unfoldable pub lastNumbers : Option StepSaid → Numbers
@@ -81,19 +92,45 @@ commandOf k t a b =
     (cond (eqb k 4) (some (Transfer t a))
     (cond (eqb k 5) (some (Start t))
     (cond (eqb k 6) (some (Stop t))
-    none)))))
+    (cond (eqb k 7) (some (Yield t))
+    none))))))
 
 abbrev pub askedOf : Asked → Option Command
 askedOf (of-asked.Known c) = some c
 askedOf of-asked.Unknown = none
 
--- "99 no such command", this crate's own refusal
+-- this crate's own refusal
 unfoldable pub ifKnown : Option Command → Lent → Outcome of-graph.CommandSaid
 ifKnown (some c) s = command c s
-ifKnown none s = record { answer = of-graph.refused 99 0; after = s }
+ifKnown none s = record { answer = of-graph.refused no-such-command 0; after = s }
 
 abbrev pub byNumbers : ℕ → ℕ → ℕ → ℕ → Lent → Outcome of-graph.CommandSaid
 byNumbers k t a b s = ifKnown (commandOf k t a b) s
+
+-- EDITIONS
+unfoldable pub editionOf : ℕ → Option Edition
+editionOf k = cond (eqb k 1) (some First) (cond (eqb k 2) (some Second) none)
+
+abbrev pub editionAskedOf : EditionAsked → Option Edition
+editionAskedOf (of-edition.Known ed) = some ed
+editionAskedOf of-edition.Unknown = none
+
+-- A call of an edition. A number that no edition has is this crate's own refusal, before any other.
+unfoldable pub inEdition : {A : Type 0} → Option Edition → A → (Edition → A) → A
+inEdition none refusal call = refusal
+inEdition (some ed) refusal call = call ed
+
+abbrev pub loadIn : Option Edition → List ℕ → Lent → Outcome LoadingSaid
+loadIn o bytes s = inEdition o (refuseLoading s no-such-edition 0) (λ ed. load ed bytes s)
+
+abbrev pub stepIn : Option Edition → List ℕ → Lent → ℕ → Outcome StepSaid
+stepIn o bytes s v = inEdition o (refuse s no-such-edition 0) (λ ed. step ed bytes s v)
+
+abbrev pub runIn : Option Edition → List ℕ → Lent → ℕ → RunOutcome
+runIn o bytes s budget = inEdition o (ended (refused no-such-edition 0) none 0 s) (λ ed. run ed bytes s budget)
+
+abbrev pub choiceIn : Option Edition → List ℕ → Lent → Choice
+choiceIn o bytes s = inEdition o (choice-refused no-such-edition 0) (λ ed. choice ed bytes s)
 
 -- CALLS
 -- the reply tells what the definition answers, and what is lent afterwards is what it leaves
@@ -114,6 +151,14 @@ RunReplied o r after =
     (replyNumbers (r .ending) ≡ endingNumbers (o .ending)) × (replyNumbers (r .last) ≡ lastNumbers (o .last)) × (r .taken ≡ o .taken)
     × (after ≡ o .after)
 
+-- the same of what the engine's run returned: the reply has its numbers, and the tally is handed on
+abbrev pub RunTold : RunDone → RunReplyDone → Type 0
+RunTold d r =
+    (replyNumbers (r .answer .ending) ≡ endingNumbers (endingOf (d .answer .ending)))
+    × (replyNumbers (r .answer .last) ≡ lastNumbers (lastOf (d .answer .last)))
+    × (r .answer .taken ≡ d .answer .taken)
+    × (r .tally ≡ d .tally)
+
 -- program, tables and tally are only read
 abbrev pub LowestReplied : Choice → Reply → Type 0
 LowestReplied c r = replyNumbers r ≡ choiceNumbers c
@@ -123,6 +168,6 @@ abbrev pub ChainReplied : ChainOutcome → Reply → List ℕ → Type 0
 ChainReplied o r list = (replyNumbers r ≡ chainNumbers (o .answer)) × (list ≡ o .list)
 
 -- VERSION
--- 3.0.0: 10,000 times the first number, 100 times the second, and the third
+-- 4.0.0: 10,000 times the first number, 100 times the second, and the third
 unfoldable pub version : ℕ
-version = 30000
+version = 40000

@@ -1,10 +1,12 @@
 // The calls with the tally by value and an answer of plain numbers.
 use crate::Asked;
+use crate::EditionAsked;
 use crate::Reply;
 use crate::ReplyDone;
 use crate::RunReply;
 use crate::RunReplyDone;
 use crate::replies::REFUSED;
+use crate::replies::no_such_edition;
 use crate::replies::of_answer;
 use crate::replies::of_chain;
 use crate::replies::of_command;
@@ -15,7 +17,9 @@ use crate::replies::of_lowest;
 use crate::replies::of_opening;
 use chains::showing::chain_by_value;
 use engine::Done;
+use engine::LastStep;
 use engine::LoadDone;
+use engine::RunDone;
 use engine::load::load_by_value;
 use engine::look::lowest_vertex;
 use engine::runs::run_by_value;
@@ -25,6 +29,7 @@ use graph::OpenDone;
 use graph::Tally;
 use graph::commands::command_by_value;
 use graph::commands::open_by_value;
+use program::Edition;
 use refusal::NO_SUCH_COMMAND;
 ghost use mathlib.Core.Path.{_≡_};
 ghost use Rattle.graph.specs.Tables.{lent};
@@ -32,11 +37,9 @@ ghost use Rattle.graph.specs.Answers as of-graph;
 ghost use Rattle.graph.specs.Commands.{opening};
 ghost use Rattle.chains.specs.Showing.{showChain};
 ghost use Rattle.machine.specs.Answers.{saidAs};
-ghost use Rattle.machine.specs.Loading.{load};
-ghost use Rattle.machine.specs.Stepping.{step};
-ghost use Rattle.machine.specs.Running.{run, choice};
 ghost use Rattle.engine.specs.Answers.{loadingSaid, said};
-ghost use Rattle.keshtiwol.specs.Numbers.{OpenReplied, Commanded, LoadReplied, Replied, RunReplied, LowestReplied, ChainReplied, byNumbers, replyNumbers, openingNumbers, loadingNumbers, saidNumbers, commandOf, askedOf};
+ghost use Rattle.keshtiwol.specs.Numbers.{OpenReplied, Commanded, LoadReplied, Replied, RunReplied, LowestReplied, ChainReplied, byNumbers, replyNumbers, openingNumbers, loadingNumbers, saidNumbers};
+ghost use Rattle.keshtiwol.specs.Numbers.{RunTold, commandOf, askedOf, editionOf, editionAskedOf, loadIn, stepIn, runIn, choiceIn};
 
 // The numbers of the commands.
 pub const NEW_TD: u32 = 1;
@@ -50,6 +53,13 @@ pub const TRANSFER: u32 = 4;
 pub const START: u32 = 5;
 
 pub const STOP: u32 = 6;
+
+pub const YIELD: u32 = 7;
+
+// The numbers of the editions.
+pub const FIRST_EDITION: u32 = 1;
+
+pub const SECOND_EDITION: u32 = 2;
 
 pub(crate) fn open_to_numbers(vertices: &mut [u32], edges: &mut [u32], tally: Tally) -> ReplyDone
     ensures { λ r. ⌜ OpenReplied (opening (lent (now (vertices .entry)) (now (edges .entry)) tally)) (r .answer) (lent (now (vertices .exit)) (now (edges .exit)) (r .tally)) ⌝ }
@@ -108,7 +118,7 @@ pub(crate) fn command_by_numbers(
     }
 }
 
-// The command that these numbers ask for. Start's vertex and stop's are the caller; what a command does not name is not looked at.
+// The command that these numbers ask for. Start's vertex, stop's and yield's are the caller; what a command does not name is not looked at.
 fn asked(command: u32, caller: u32, first: u32, second: u32) -> Asked
     ensures { λ r. ⌜ askedOf r ≡ commandOf command caller first second ⌝ }
 {
@@ -144,7 +154,23 @@ fn asked(command: u32, caller: u32, first: u32, second: u32) -> Asked
     if command == STOP {
         return Asked::Known(Command::Stop { caller });
     }
+    if command == YIELD {
+        return Asked::Known(Command::Yield { caller });
+    }
     Asked::Unknown
+}
+
+// The edition with this number.
+fn asked_edition(edition: u32) -> EditionAsked
+    ensures { λ r. ⌜ editionAskedOf r ≡ editionOf edition ⌝ }
+{
+    if edition == FIRST_EDITION {
+        return EditionAsked::Known(Edition::First);
+    }
+    if edition == SECOND_EDITION {
+        return EditionAsked::Known(Edition::Second);
+    }
+    EditionAsked::Unknown
 }
 
 pub(crate) fn load_to_numbers(
@@ -152,11 +178,21 @@ pub(crate) fn load_to_numbers(
     vertices: &mut [u32],
     edges: &mut [u32],
     tally: Tally,
+    edition: u32,
 ) -> ReplyDone
-    ensures { λ r. ⌜ LoadReplied (load (now (program .entry)) (lent (now (vertices .entry)) (now (edges .entry)) tally)) (r .answer) (lent (now (vertices .exit)) (now (edges .exit)) (r .tally)) ⌝ }
+    ensures { λ r. ⌜ LoadReplied (loadIn (editionOf edition) (now (program .entry)) (lent (now (vertices .entry)) (now (edges .entry)) tally)) (r .answer) (lent (now (vertices .exit)) (now (edges .exit)) (r .tally)) ⌝ }
 {
-    let done = load_by_value(program, vertices, edges, tally);
-    loaded(done)
+    let asked = asked_edition(edition);
+    match asked {
+        EditionAsked::Unknown => ReplyDone {
+            answer: no_such_edition(),
+            tally,
+        },
+        EditionAsked::Known(known) => {
+            let done = load_by_value(program, vertices, edges, tally, known);
+            loaded(done)
+        }
+    }
 }
 
 fn loaded(done: LoadDone) -> ReplyDone
@@ -175,12 +211,22 @@ pub(crate) fn step_to_numbers(
     vertices: &mut [u32],
     edges: &mut [u32],
     tally: Tally,
+    edition: u32,
     vertex: u32,
 ) -> ReplyDone
-    ensures { λ r. ⌜ Replied (step (now (program .entry)) (lent (now (vertices .entry)) (now (edges .entry)) tally) vertex) (r .answer) (lent (now (vertices .exit)) (now (edges .exit)) (r .tally)) ⌝ }
+    ensures { λ r. ⌜ Replied (stepIn (editionOf edition) (now (program .entry)) (lent (now (vertices .entry)) (now (edges .entry)) tally) vertex) (r .answer) (lent (now (vertices .exit)) (now (edges .exit)) (r .tally)) ⌝ }
 {
-    let done = step_by_value(program, vertices, edges, tally, vertex);
-    replied(done)
+    let asked = asked_edition(edition);
+    match asked {
+        EditionAsked::Unknown => ReplyDone {
+            answer: no_such_edition(),
+            tally,
+        },
+        EditionAsked::Known(known) => {
+            let done = step_by_value(program, vertices, edges, tally, known, vertex);
+            replied(done)
+        }
+    }
 }
 
 fn replied(done: Done) -> ReplyDone
@@ -199,11 +245,31 @@ pub(crate) fn run_to_numbers(
     vertices: &mut [u32],
     edges: &mut [u32],
     tally: Tally,
+    edition: u32,
     budget: u32,
 ) -> RunReplyDone
-    ensures { λ r. ⌜ RunReplied (run (now (program .entry)) (lent (now (vertices .entry)) (now (edges .entry)) tally) budget) (r .answer) (lent (now (vertices .exit)) (now (edges .exit)) (r .tally)) ⌝ }
+    ensures { λ r. ⌜ RunReplied (runIn (editionOf edition) (now (program .entry)) (lent (now (vertices .entry)) (now (edges .entry)) tally) budget) (r .answer) (lent (now (vertices .exit)) (now (edges .exit)) (r .tally)) ⌝ }
 {
-    let done = run_by_value(program, vertices, edges, tally, budget);
+    let asked = asked_edition(edition);
+    match asked {
+        EditionAsked::Unknown => RunReplyDone {
+            answer: RunReply {
+                ending: no_such_edition(),
+                last: of_last(LastStep::NoStep),
+                taken: 0,
+            },
+            tally,
+        },
+        EditionAsked::Known(known) => {
+            let done = run_by_value(program, vertices, edges, tally, known, budget);
+            ran(done)
+        }
+    }
+}
+
+fn ran(done: RunDone) -> RunReplyDone
+    ensures { λ r. ⌜ RunTold done r ⌝ }
+{
     let answer = done.answer;
     let after = done.tally;
     let ending = answer.ending;
@@ -223,11 +289,18 @@ pub(crate) fn lowest_to_numbers(
     vertices: &[u32],
     edges: &[u32],
     tally: Tally,
+    edition: u32,
 ) -> Reply
-    ensures { λ r. ⌜ LowestReplied (choice (now (program .entry)) (lent (now (vertices .entry)) (now (edges .entry)) tally)) r ⌝ }
+    ensures { λ r. ⌜ LowestReplied (choiceIn (editionOf edition) (now (program .entry)) (lent (now (vertices .entry)) (now (edges .entry)) tally)) r ⌝ }
 {
-    let lowest = lowest_vertex(program, vertices, edges, tally);
-    of_lowest(lowest)
+    let asked = asked_edition(edition);
+    match asked {
+        EditionAsked::Unknown => no_such_edition(),
+        EditionAsked::Known(known) => {
+            let lowest = lowest_vertex(program, vertices, edges, tally, known);
+            of_lowest(lowest)
+        }
+    }
 }
 
 pub(crate) fn chain_to_numbers(

@@ -12,17 +12,15 @@ use crate::cores::run_to_numbers;
 use crate::cores::step_to_numbers;
 use graph::Command;
 use graph::Tally;
+use program::Edition;
 ghost use mathlib.Core.Path.{_≡_};
 ghost use Rattle.graph.specs.Tables.{lent};
 ghost use Rattle.graph.specs.Commands.{opening};
 ghost use Rattle.chains.specs.Showing.{showChain};
-ghost use Rattle.machine.specs.Loading.{load};
-ghost use Rattle.machine.specs.Stepping.{step};
-ghost use Rattle.machine.specs.Running.{run, choice};
-ghost use Rattle.keshtiwol.specs.Numbers.{OpenReplied, Commanded, LoadReplied, Replied, RunReplied, LowestReplied, ChainReplied, byNumbers, version};
+ghost use Rattle.keshtiwol.specs.Numbers.{OpenReplied, Commanded, LoadReplied, Replied, RunReplied, LowestReplied, ChainReplied, byNumbers, editionOf, loadIn, stepIn, runIn, choiceIn, version};
 
 // 10,000 times the major number, 100 times the minor one, and the patch's.
-pub const VERSION: u32 = 30_000;
+pub const VERSION: u32 = 40_000;
 
 // What was said, and its values: vertices, a job's number and offset, or a refusal's number and place. `replies` has the numbers.
 #[repr(C)]
@@ -54,6 +52,12 @@ pub struct RunReplyDone {
 // A single command, if there is one.
 pub enum Asked {
     Known(Command),
+    Unknown,
+}
+
+// An edition, if there is one.
+pub enum EditionAsked {
+    Known(Edition),
     Unknown,
 }
 
@@ -99,18 +103,19 @@ pub extern "C" fn keshtiwol_command(
     done.answer
 }
 
-// Loads a program.
+// Loads a program, in the edition with this number.
 #[no_mangle]
 pub extern "C" fn keshtiwol_load(
     program: &[u8],
     vertices: &mut [u32],
     edges: &mut [u32],
     tally: &mut Tally,
+    edition: u32,
 ) -> Reply
-    ensures { λ r. ⌜ LoadReplied (load (now (program .entry)) (lent (now (vertices .entry)) (now (edges .entry)) (now (tally .entry)))) r (lent (now (vertices .exit)) (now (edges .exit)) (now (tally .exit))) ⌝ }
+    ensures { λ r. ⌜ LoadReplied (loadIn (editionOf edition) (now (program .entry)) (lent (now (vertices .entry)) (now (edges .entry)) (now (tally .entry)))) r (lent (now (vertices .exit)) (now (edges .exit)) (now (tally .exit))) ⌝ }
 {
     let before = *tally;
-    let done = load_to_numbers(program, vertices, edges, before);
+    let done = load_to_numbers(program, vertices, edges, before, edition);
     *tally = done.tally;
     done.answer
 }
@@ -122,12 +127,13 @@ pub extern "C" fn keshtiwol_step(
     vertices: &mut [u32],
     edges: &mut [u32],
     tally: &mut Tally,
+    edition: u32,
     vertex: u32,
 ) -> Reply
-    ensures { λ r. ⌜ Replied (step (now (program .entry)) (lent (now (vertices .entry)) (now (edges .entry)) (now (tally .entry))) vertex) r (lent (now (vertices .exit)) (now (edges .exit)) (now (tally .exit))) ⌝ }
+    ensures { λ r. ⌜ Replied (stepIn (editionOf edition) (now (program .entry)) (lent (now (vertices .entry)) (now (edges .entry)) (now (tally .entry))) vertex) r (lent (now (vertices .exit)) (now (edges .exit)) (now (tally .exit))) ⌝ }
 {
     let before = *tally;
-    let done = step_to_numbers(program, vertices, edges, before, vertex);
+    let done = step_to_numbers(program, vertices, edges, before, edition, vertex);
     *tally = done.tally;
     done.answer
 }
@@ -139,12 +145,13 @@ pub extern "C" fn keshtiwol_run(
     vertices: &mut [u32],
     edges: &mut [u32],
     tally: &mut Tally,
+    edition: u32,
     budget: u32,
 ) -> RunReply
-    ensures { λ r. ⌜ RunReplied (run (now (program .entry)) (lent (now (vertices .entry)) (now (edges .entry)) (now (tally .entry))) budget) r (lent (now (vertices .exit)) (now (edges .exit)) (now (tally .exit))) ⌝ }
+    ensures { λ r. ⌜ RunReplied (runIn (editionOf edition) (now (program .entry)) (lent (now (vertices .entry)) (now (edges .entry)) (now (tally .entry))) budget) r (lent (now (vertices .exit)) (now (edges .exit)) (now (tally .exit))) ⌝ }
 {
     let before = *tally;
-    let done = run_to_numbers(program, vertices, edges, before, budget);
+    let done = run_to_numbers(program, vertices, edges, before, edition, budget);
     *tally = done.tally;
     done.answer
 }
@@ -156,11 +163,12 @@ pub extern "C" fn keshtiwol_lowest(
     vertices: &[u32],
     edges: &[u32],
     tally: &Tally,
+    edition: u32,
 ) -> Reply
-    ensures { λ r. ⌜ LowestReplied (choice (now (program .entry)) (lent (now (vertices .entry)) (now (edges .entry)) (now (tally .entry)))) r ⌝ }
+    ensures { λ r. ⌜ LowestReplied (choiceIn (editionOf edition) (now (program .entry)) (lent (now (vertices .entry)) (now (edges .entry)) (now (tally .entry)))) r ⌝ }
 {
     let before = *tally;
-    lowest_to_numbers(program, vertices, edges, before)
+    lowest_to_numbers(program, vertices, edges, before, edition)
 }
 
 // The shortest chain of held edges from `target` back to `source`, written into the list.

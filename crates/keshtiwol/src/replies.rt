@@ -6,8 +6,10 @@ use engine::LastStep;
 use engine::Loading;
 use engine::Lowest;
 use graph::Opening;
+use refusal::NO_SUCH_EDITION;
 ghost use mathlib.Core.Path.{_≡_};
 ghost use Rattle.graph.specs.Answers as of-graph;
+ghost use Rattle.refusal.specs.Refusals.{no-such-edition};
 ghost use Rattle.machine.specs.Answers.{saidAs};
 ghost use Rattle.chains.specs.Showing.{chainSaid};
 ghost use Rattle.engine.specs.Answers.{loadingSaid, said, endingOf, lastOf, choiceOf};
@@ -43,6 +45,8 @@ pub const SPENT: u32 = 13;
 
 pub const CHAIN: u32 = 14;
 
+pub const YIELD: u32 = 15;
+
 fn reply(said: u32, first: u32, second: u32) -> Reply
     ensures { λ r. ⌜ replyNumbers r ≡ numbers said first second ⌝ }
 {
@@ -51,6 +55,13 @@ fn reply(said: u32, first: u32, second: u32) -> Reply
         first,
         second,
     }
+}
+
+// No edition has the number that was asked for.
+pub(crate) fn no_such_edition() -> Reply
+    ensures { λ r. ⌜ replyNumbers r ≡ numbers 0 no-such-edition 0 ⌝ }
+{
+    reply(REFUSED, NO_SUCH_EDITION, 0)
 }
 
 // What the opening said.
@@ -85,6 +96,7 @@ pub(crate) fn of_answer(answer: Answer) -> Reply
         Answer::Transfer(v) => reply(TRANSFER, v, 0),
         Answer::Job { number, offset } => reply(JOB, number, offset),
         Answer::Stop => reply(STOP, 0, 0),
+        Answer::Yield => reply(YIELD, 0, 0),
         Answer::Refused(refusal) => reply(REFUSED, refusal.number, refusal.place),
     }
 }
@@ -100,6 +112,7 @@ pub(crate) fn of_command(answer: graph::Answer) -> Reply
         graph::Answer::Release(v) => reply(RELEASE, v, 0),
         graph::Answer::Transfer(v) => reply(TRANSFER, v, 0),
         graph::Answer::Stop => reply(STOP, 0, 0),
+        graph::Answer::Yield => reply(YIELD, 0, 0),
         graph::Answer::Refused(refusal) => reply(REFUSED, refusal.number, refusal.place),
     }
 }

@@ -1,10 +1,9 @@
--- `keshtiwol_run` meets its contract, by the law of thin entries over `run_to_numbers`, with a program, the tables and a number, the
--- budget (crate graph, proofs/Thin/Passing.antt). What the law is told: the types of the results, and the relation that both contracts
--- ensure.
+-- `keshtiwol_run` meets its contract, by the law of thin entries over `run_to_numbers`, with a program, the tables and two
+-- numbers, the edition's and the budget (crate graph, proofs/Thin/Passing.antt). What the law is told: the types of the results and of these
+-- values, and the relation that both contracts ensure.
 -- Assumes nothing.
-use Rattle.graph.proofs.Thin.Passing.{program-number-meets}
-use Rattle.machine.specs.Running.{run}
-use Rattle.keshtiwol.specs.Numbers.{RunReplied}
+use Rattle.graph.proofs.Thin.Passing.{numbers, program-values-meets}
+use Rattle.keshtiwol.specs.Numbers.{RunReplied, editionOf, runIn}
 use Rattle.keshtiwol.proofs.Results.{run-results}
 use Rattle.keshtiwol.proofs.cores.run_to_numbers.Symbol as core-def
 use Rattle.keshtiwol.proofs.cores.run_to_numbers.Symbol.{name as #core}
@@ -16,5 +15,5 @@ use Rattle.keshtiwol.proofs.keshtiwol_run.Code as code
 pub keshtiwol-run-spec : {M : Type 1} → stated.statement M
 unfolding code.routine
 keshtiwol-run-spec 𝓤 H 𝓜 𝓖 𝓡 =
-    program-number-meets run-results (λ program s budget. RunReplied (run program s budget))
+    program-values-meets run-results numbers numbers (λ program s edition budget. RunReplied (runIn (editionOf edition) program s budget))
     𝓤 H 𝓜 𝓖 𝓡 code.env #run #core core-def.routine (code.unfolded 𝓤 H 𝓜 𝓡) code.calls-keshtiwol·cores·run-to-numbers (core-thm.met 𝓤 H 𝓜 𝓖 𝓡)
