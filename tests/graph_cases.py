@@ -86,9 +86,10 @@ class Machine:
         return f"new {self.made - 1}"
 
     def edge(self, t, a, b):
+        """ "33 spares the caller" (note 10). """
         self.begin(t, a, b)
         self.need(self.status(t) == EXECUTING, 30)
-        self.need(self.status(b) in (NEW, RELEASED), 33)
+        self.need(b == t or self.status(b) in (NEW, RELEASED), 33)
         if self.status(a) != FINISHED and (a, b) not in self.edges():
             self.need(a != b and not self.reaches(b, a), 35)
             self.need(self.held < self.edge_rows(), 32)
@@ -139,9 +140,16 @@ class Machine:
         self.held = len(kept) // EDGE_WORDS
         return "stop"
 
+    def yield_(self, t):
+        """ "turns the executing caller released"; "meets 12, 20 and 30 only" (note 10). """
+        self.begin(t)
+        self.need(self.status(t) == EXECUTING, 30)
+        self.v[VERTEX_WORDS * t] = RELEASED
+        return "yield"
+
     def call(self, command, *words):
         try:
-            answer = getattr(self, command)(*words)
+            answer = getattr(self, "yield_" if command == "yield" else command)(*words)
         except Refused as refusal:
             answer = f"refused {refusal} 0"
         print(f"{answer} | {self.made} {self.held} {self.steps} | {total(self.v)} {total(self.e)}")
@@ -186,7 +194,7 @@ def drawn(seed, repeats):
     n, m = min(d.below(600), len(vertices)), min(d.next().below(200), len(edges))
     machine = Machine(vertices[:n], edges[:m], 4 if made < 4 else made - 1, held, steps)
     d = d.next()
-    kind, caller, a, b = d.next().below(16), d.next(2).below(9), d.next(3).below(17), d.next(4).below(4)
+    kind, caller, a, b = d.next().below(22), d.next(2).below(9), d.next(3).below(17), d.next(4).below(4)
     caller, a = max(caller - 4, 0), a % 4 if a < 16 else 4
     if repeats:
         row = d.next(3).below(max(machine.held, 1))
@@ -195,14 +203,18 @@ def drawn(seed, repeats):
         machine.call("new", caller, a, b)
     elif kind < 5:
         machine.call("edge", caller, a, b)
-    elif kind < 7:
-        machine.call("release", caller, a)
+    elif kind < 8:
+        machine.call("edge", caller, a, caller)
     elif kind < 10:
+        machine.call("release", caller, a)
+    elif kind < 13:
         machine.call("transfer", caller, a)
-    elif kind < 14:
+    elif kind < 17:
         machine.call("start", a)
-    else:
+    elif kind < 19:
         machine.call("stop", caller)
+    else:
+        machine.call("yield", caller)
 
 
 VERTEX_WORD = {"status": 0, "future": FUTURE, "count": IN_COUNT}
@@ -343,6 +355,60 @@ stop 1
 open
 start 0
 new 0 1 1""")
+print("yields")
+run(Machine([77] * (5 * VERTEX_WORDS + 2), [77] * (4 * EDGE_WORDS + 1)), """open
+yield 0
+start 0
+yield 1
+new 0 5 0
+new 0 6 0
+yield 1
+edge 0 0 0
+edge 0 1 0
+edge 0 2 0
+edge 0 1 0
+edge 0 0 1
+release 0 1
+release 0 2
+yield 0
+yield 0
+start 0
+start 1
+start 2
+edge 1 1 2
+edge 1 2 0
+edge 1 0 1
+edge 1 2 1
+new 1 7 0
+new 1 8 0
+edge 1 3 1
+edge 1 3 1
+edge 2 3 2
+edge 2 0 1
+transfer 1 3
+transfer 1 4
+release 1 3
+release 1 4
+stop 1
+start 1
+edge 2 3 1
+yield 1
+stop 2
+start 0
+start 4
+edge 4 1 4
+edge 4 3 4
+yield 4
+start 4
+stop 4
+start 3
+stop 3
+start 4
+stop 4
+start 0
+stop 0
+edge 0 1 0
+yield 0""")
 print("counted")
 run(Machine([77] * (5 * VERTEX_WORDS + 2), [77] * (4 * EDGE_WORDS + 1)), """open
 start 0
@@ -431,6 +497,7 @@ edge 0 2 3
 release 0 2
 transfer 0 2
 stop 0
+yield 0
 start 0
 start 2
 start 3
@@ -450,6 +517,7 @@ edge 0 2 3
 release 0 2
 transfer 0 2
 stop 0
+yield 0
 start 0
 start 2
 start 3

@@ -1,12 +1,17 @@
 #!/usr/bin/env python3
-"""The lines that the program `lister_cases` must write, from a model of docs/ENGINE.md that shares no code with the lister.
+"""The lines that the program `lister_cases` must write, and those of `lister` and `second_lister`, which read a program, from a model of
+docs/ENGINE.md that shares no code with the lister.
 
     tests/lister_cases.py > crates/lister_cases/stdout
+    tests/lister_cases.py 1 < crates/lister/stdin > crates/lister/stdout
+    tests/lister_cases.py 2 < crates/second_lister/stdin > crates/second_lister/stdout
 
 A vertex is a generator of its steps: it does a command to the graph and yields the command's text. It holds the list of the futures
 open to it, where the engine follows words from row to row."""
 
-PROGRAMS = """
+import sys
+
+FIRST_EDITION = """
 07
 05
 06
@@ -29,6 +34,15 @@ PROGRAMS = """
 01 80 80 80 80 80 00
 01 80 80 80 80
 """
+SECOND_EDITION = """
+07
+04 00 00 00
+03 02 01 05 00 00 01 06 00
+04 02 01 01 00 00 02 01 02 00 01 03 00 02 01 04 00 01 05 00
+05 01 01 00 03 02 06 00 01 02 00 05 01 03 00 06 00 00 04 06 00 00 01 04 00 01 05 00
+04 02 01 01 00 04 01 02 00 01 03 00 00 03 02 01 04 00 00 01 05 00 05 01 06 00 04 06 00 01 07 00 05 00 06 00 06 01 00 01 08 00
+"""
+FIRST, SECOND = 1, 2  # editions
 JOB, ASYNC, FINISH, FORK, FUTURE, FORCE = 1, 2, 3, 4, 5, 6
 
 
@@ -85,23 +99,24 @@ def parse(data):
     return items
 
 
-def count(items):
+def count(items, edition):
     """Vertices, jobs and steps that items come to."""
     total = [0, 0, 0]
+    fork = {FIRST: (3, 0, 15), SECOND: (2, 0, 12)}[edition]
     for kind, *contents in items:
-        own = {JOB: (0, 1, 1), ASYNC: (1, 0, 5), FINISH: (2, 0, 10), FORK: (3, 0, 15), FUTURE: (2, 0, 9), FORCE: (1, 0, 6)}[kind]
-        inner = [count(part) for part in contents if kind not in (JOB, FORCE)]
+        own = {JOB: (0, 1, 1), ASYNC: (1, 0, 5), FINISH: (2, 0, 10), FORK: fork, FUTURE: (2, 0, 9), FORCE: (1, 0, 6)}[kind]
+        inner = [count(part, edition) for part in contents if kind not in (JOB, FORCE)]
         total = [sum(numbers) for numbers in zip(total, own, *inner)]
     return total
 
 
-def listing(data):
+def listing(data, edition):
     try:
         main = parse(data)
     except Refused as refusal:
         yield "refused {} {}".format(*refusal.args)
         return
-    vertices, jobs, steps = count(main)
+    vertices, jobs, steps = count(main, edition)
     yield f"vertices {vertices + 2} jobs {jobs} steps {steps + 4}"
 
     lives, status, edges = [], [], [(0, 1)]
@@ -128,7 +143,7 @@ def listing(data):
         status[v] = "executing"
         yield "start"
         for i, (kind, *contents) in enumerate(items):
-            # no other vertex steps before this one stops, since its commands make no lower one able to
+            # no other vertex steps before this one stops or yields, since its commands make no lower one able to
             a, b, c = range(len(lives), len(lives) + 3)
             if kind == JOB:
                 yield f"job {contents[0]}"
@@ -157,6 +172,17 @@ def listing(data):
                 yield release(a)
                 yield release(b)
                 break
+            elif edition == SECOND:
+                yield new(contents[0], scope, futures)
+                yield new(contents[1], scope, futures)
+                yield edge(a, v)
+                yield edge(b, v)
+                yield release(a)
+                yield release(b)
+                status[v] = "released"
+                yield "yield"
+                status[v] = "executing"
+                yield "start"
             else:
                 yield new(contents[0], scope, futures)
                 yield new(contents[1], scope, futures)
@@ -185,8 +211,16 @@ def listing(data):
     assert steps == -4
 
 
-for program in PROGRAMS.strip("\n").split("\n"):
-    print(f"program {program}".strip())
-    print(*listing(bytes.fromhex(program)), sep="\n")
-print("program of 4097 bytes")
-print(*listing(bytes(4097)), sep="\n")
+def all_listings():
+    for edition, programs in (FIRST, FIRST_EDITION), (SECOND, SECOND_EDITION):
+        for program in programs.strip("\n").split("\n"):
+            print(f"edition {edition} program {program}".strip())
+            print(*listing(bytes.fromhex(program), edition), sep="\n")
+    print("edition 2 program of 4097 bytes")
+    print(*listing(bytes(4097), SECOND), sep="\n")
+
+
+if len(sys.argv) == 1:
+    all_listings()
+else:
+    print(*listing(sys.stdin.buffer.read(), int(sys.argv[1])), sep="\n")

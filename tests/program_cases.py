@@ -9,6 +9,12 @@ The reader goes over the bytes once with a stack of the bodies that are open; th
 ENDED, JOB, ASYNC, FINISH, FORK, FUTURE, FORCE = range(7)
 NAMES = ("end", "job", "async", "finish", "fork", "future", "force")
 
+# What an item of a kind adds, by the edition: vertices, edge rows and steps. A fork of the second "makes 2 vertices and 2 edges and costs 12
+# steps in place of 15" (note 10).
+FIRST = {"job": (0, 0, 1), "async": (1, 1, 5), "finish": (2, 1, 10), "fork": (3, 2, 15), "future": (2, 1, 9), "force": (1, 1, 6)}
+NEEDS = {1: FIRST, 2: {**FIRST, "fork": (2, 2, 12)}}
+WITHOUT_ITEMS = (2, 1, 4)
+
 
 class Refused(Exception):
     pass
@@ -31,8 +37,13 @@ def read_number(data, start):
     raise Refused(2, start)
 
 
-def read(data):
-    """The items by place, or a refusal."""
+def needed(count, edition):
+    """The vertices, edge rows and steps of a program with so many items of each kind."""
+    return [first + sum(count[kind] * adds[i] for kind, adds in NEEDS[edition].items()) for i, first in enumerate(WITHOUT_ITEMS)]
+
+
+def read(data, edition=1):
+    """The items by place and how many there are of each kind, or a refusal."""
     if not 1 <= len(data) <= 4096:
         raise Refused(1, 0)
     items, open_bodies, at = {}, ["main"], 0
@@ -72,25 +83,31 @@ def read(data):
     if at < len(data):
         raise Refused(6, at)
     count = {kind: sum(item[0] == kind for item in items.values()) for kind in NAMES}
-    if 2 + count["async"] + 2 * count["finish"] + 3 * count["fork"] + 2 * count["future"] + count["force"] > 1024:
+    if needed(count, edition)[0] > 1024:
         raise Refused(8, 0)
     return items, count
 
 
-def answer(data):
+def answer(data, edition):
     try:
-        _, count = read(data)
+        _, count = read(data, edition)
         plurals = {"jobs": "job", "asyncs": "async", "finishes": "finish", "forks": "fork", "futures": "future", "forces": "force"}
-        return " ".join(f"{name} {count[kind]}" for name, kind in plurals.items())
+        counted = " ".join(f"{name} {count[kind]}" for name, kind in plurals.items())
+        return counted + ", vertices {} edge rows {} steps {}".format(*needed(count, edition))
     except Refused as refusal:
         return "refused {} {}".format(*refusal.args)
 
 
-def standing(data, place):
+def answers(data):
+    """In either edition, the second's on a line of its own."""
+    return f": {answer(data, 1)}\n  second edition: {answer(data, 2)}"
+
+
+def standing(data, edition, place):
     """What stands at a place: its word and its numbers."""
     nothing = ["refused", 13, 0]
     try:
-        found = read(data)[0].get(place, nothing)
+        found = read(data, edition)[0].get(place, nothing)
     except Refused:
         found = nothing
     return " ".join(map(str, found))
@@ -202,6 +219,8 @@ def limits():
         yield f"futures {count}", b"\5\0" * count + b"\0"
     for count in (1020, 1021):
         yield f"forces {count}", b"\5\0" + b"\6\0" * count + b"\0"
+    for count, asyncs in ((340, 0), (340, 2), (340, 3), (341, 0), (511, 0), (511, 1), (512, 0)):
+        yield f"forks {count} asyncs {asyncs}", b"\4\0\0" * count + b"\2\0" * asyncs + b"\0"
     for count in (128, 129):
         yield f"force 128 of {count}", b"\5\0" * count + b"\6\x80\1\0"
     jobs = b"\1\x80\1" + b"\1\0" * 2046 + b"\0\0"
@@ -228,11 +247,17 @@ def alike(start):
 
 def main():
     for program in programs():
-        print("".join(f" {byte:02x}" for byte in program) + ": " + answer(program))
+        print("".join(f" {byte:02x}" for byte in program) + answers(program))
         for place in range(len(program) + 1):
-            print(f"  {place} {standing(program, place)}")
+            print(f"  {place} {standing(program, 1, place)}")
     for name, program in limits():
-        print(f"{name}: {answer(program)}")
+        if not name.startswith("forks"):
+            print(f"{name}: {answer(program, 1)}")
+            continue
+        print(name + answers(program))
+        past = 3 * program.count(FORK)
+        for edition in (1, 2):
+            print(f"  {past} {standing(program, edition, past)}")
     print(alike(b""))
     for first in range(256):
         print(f"{first:02x}" + alike(bytes([first])))

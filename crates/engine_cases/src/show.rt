@@ -8,7 +8,15 @@ use engine::LastStep;
 use engine::Loading;
 use engine::RunAnswer;
 use graph::Tally;
+use program::Edition;
 use refusal::Refusal;
+
+pub(crate) fn edition(e: Edition) {
+    match e {
+        Edition::First => text(b"edition 1 "),
+        Edition::Second => text(b"edition 2 "),
+    }
+}
 
 pub(crate) fn loading(a: Loading) {
     match a {
@@ -32,6 +40,7 @@ pub(crate) fn answer(a: Answer) {
             number(b" ", offset);
         }
         Answer::Stop => text(b"stop"),
+        Answer::Yield => text(b"yield"),
         Answer::Refused(r) => refusal(r),
     }
 }

@@ -1,6 +1,9 @@
-// Drawn programs, each stepped in several orders until it has taken all its steps. The order of its jobs is written down, each as its
+// Drawn programs of a drawn edition, each stepped in several orders until it has taken all its steps, and in one in which some steps are the
+// other edition's. The order of its jobs is written down, each as its
 // offset and number, and after how many accepted steps, or runs, the word of each vertex was the number of edges into it.
 use crate::counts::are_true;
+use crate::editions;
+use crate::editions::other;
 use crate::show;
 use crate::turns::ran;
 use cases::number;
@@ -14,6 +17,7 @@ use engine::steps::step_by_value;
 use graph::Tally;
 use graph::rows::EDGE_WORDS;
 use graph::rows::VERTEX_WORDS;
+use program::Edition;
 use program::ProgramRead;
 use program::format::ASYNC;
 use program::format::END;
@@ -39,19 +43,26 @@ fn one(seed: u64) {
     in_each_order(&program[..n], seed);
 }
 
+// Four orders until all steps are taken, one with the other edition among its steps, and runs.
+const MIXED: u32 = 4;
+
+const RUNS: u32 = 5;
+
 fn in_each_order(program: &[u8], seed: u64) {
+    let edition = editions::numbered(random(seed) / 1048576);
+    show::edition(edition);
     program_line(program);
-    let needed = steps_needed(program);
-    for order in 0..5u32 {
-        in_order(program, seed, order, needed);
+    let needed = steps_needed(program, edition);
+    for order in 0..RUNS + 1 {
+        in_order(program, edition, seed, order, needed);
     }
 }
 
-fn steps_needed(program: &[u8]) -> u64 {
-    let reading = read(program);
+fn steps_needed(program: &[u8], edition: Edition) -> u64 {
+    let reading = read(program, edition);
     match reading {
         ProgramRead::Refused(refusal) => 0,
-        ProgramRead::Program(items) => steps(items),
+        ProgramRead::Program(items) => steps(items, edition),
     }
 }
 
@@ -161,7 +172,7 @@ fn with_bodies(drawn: u64) -> u8 {
     if drawn == 12 {
         return FINISH;
     }
-    if drawn == 13 { FORK } else { FUTURE }
+    if drawn < 15 { FORK } else { FUTURE }
 }
 
 // A number below `count`, or 0.
@@ -222,7 +233,7 @@ fn groups(program: &mut [u8], at: usize, number: u32) -> usize
     at + 5
 }
 
-fn in_order(program: &[u8], seed: u64, order: u32, needed: u64) {
+fn in_order(program: &[u8], edition: Edition, seed: u64, order: u32, needed: u64) {
     let mut vertices = [0u32; 300 * VERTEX_WORDS];
     let mut edges = [0u32; 300 * EDGE_WORDS];
     let none = Tally {
@@ -230,17 +241,18 @@ fn in_order(program: &[u8], seed: u64, order: u32, needed: u64) {
         held: 0,
         steps: 0,
     };
-    let loaded = load_by_value(program, &mut vertices, &mut edges, none);
+    let loaded = load_by_value(program, &mut vertices, &mut edges, none, edition);
     let begun = loaded.tally;
     number(b"order ", order);
-    if order == 4 {
-        runs(program, &mut vertices, &mut edges, begun, needed);
+    if order == RUNS {
+        runs(program, &mut vertices, &mut edges, begun, edition, needed);
     } else {
         turns(
             program,
             &mut vertices,
             &mut edges,
             begun,
+            edition,
             order,
             seed,
             needed,
@@ -248,12 +260,13 @@ fn in_order(program: &[u8], seed: u64, order: u32, needed: u64) {
     }
 }
 
-// Steps of vertices named in an order, until all steps are taken.
+// Steps of vertices named in an order, until it is over.
 fn turns(
     program: &[u8],
     vertices: &mut [u32],
     edges: &mut [u32],
     begun: Tally,
+    edition: Edition,
     order: u32,
     seed: u64,
     needed: u64,
@@ -264,12 +277,22 @@ fn turns(
     let mut counted: u32 = 0;
     text(b" jobs");
     for turn in 0..30000u32 {
-        if (now.steps as u64) == needed {
+        if is_over(order, turn, now.steps as u64, needed) {
             break;
         }
         drawn = random(drawn);
-        let vertex = named(program, vertices, edges, now, order, turn, drawn / 4096);
-        let done = step_by_value(program, vertices, edges, now, vertex);
+        let vertex = named(
+            program,
+            vertices,
+            edges,
+            now,
+            edition,
+            order,
+            turn,
+            drawn / 4096,
+        );
+        let stepping = of_turn(edition, order, drawn / 65536);
+        let done = step_by_value(program, vertices, edges, now, stepping, vertex);
         let answer = done.answer;
         now = done.tally;
         let refusals = written(answer);
@@ -279,6 +302,24 @@ fn turns(
     number(b" refused ", refused);
     number(b" counted ", counted);
     show::left(now, vertices, edges);
+}
+
+// All steps are taken; where editions mix, nobody promises how many these are.
+fn is_over(order: u32, turn: u32, taken: u64, needed: u64) -> bool {
+    if order == MIXED {
+        return turn == 600;
+    }
+    taken == needed
+}
+
+// One step in eight is the other edition's, where editions mix.
+fn of_turn(edition: Edition, order: u32, drawn: u64) -> Edition {
+    if order == MIXED {
+        if drawn % 8 == 0 {
+            return other(edition);
+        }
+    }
+    edition
 }
 
 // A refused step is not counted: what it spoiled would show after the next one.
@@ -298,13 +339,14 @@ fn named(
     vertices: &[u32],
     edges: &[u32],
     tally: Tally,
+    edition: Edition,
     order: u32,
     turn: u32,
     drawn: u64,
 ) -> u32 {
     let numbers = tally.made % 4096 + 2;
     if order == 0 {
-        return lowest(lowest_vertex(program, vertices, edges, tally));
+        return lowest(lowest_vertex(program, vertices, edges, tally, edition));
     }
     if order == 1 {
         return below(turn as u64, numbers);
@@ -346,12 +388,20 @@ fn written(answer: Answer) -> u32
             0
         }
         Answer::Stop => 0,
+        Answer::Yield => 0,
         Answer::Refused(r) => 1,
     }
 }
 
 // Runs with budgets from 0 to 16.
-fn runs(program: &[u8], vertices: &mut [u32], edges: &mut [u32], begun: Tally, needed: u64) {
+fn runs(
+    program: &[u8],
+    vertices: &mut [u32],
+    edges: &mut [u32],
+    begun: Tally,
+    edition: Edition,
+    needed: u64,
+) {
     let mut now = begun;
     let mut counted: u32 = 0;
     text(b" runs\n");
@@ -359,7 +409,7 @@ fn runs(program: &[u8], vertices: &mut [u32], edges: &mut [u32], begun: Tally, n
         if (now.steps as u64) == needed {
             break;
         }
-        now = ran(program, vertices, edges, now, turn * 5 % 17);
+        now = ran(program, vertices, edges, now, edition, turn * 5 % 17);
         counted = counted % 65536 + are_true(vertices, edges, now);
     }
     number(b"counted ", counted);

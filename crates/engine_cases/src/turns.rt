@@ -1,5 +1,5 @@
 // The turns of a program. Each accepted step has a line; the refused ones are counted by their numbers, and all that they left and
-// were answered goes into one sum.
+// were answered goes into one sum. Of the steps of a list each has a line, the refused ones too.
 use crate::show;
 use cases::number;
 use cases::program_line;
@@ -11,39 +11,53 @@ use engine::look::lowest_vertex;
 use engine::runs::run_by_value;
 use engine::steps::step_by_value;
 use graph::Tally;
+use program::Edition;
 
-pub(crate) fn run(program: &[u8], vertices: &mut [u32], edges: &mut [u32]) {
+pub(crate) fn run(program: &[u8], vertices: &mut [u32], edges: &mut [u32], edition: Edition) {
+    show::edition(edition);
     program_line(program);
     let before = Tally {
         made: 5,
         held: 6,
         steps: 8172,
     };
-    let done = load_by_value(program, vertices, edges, before);
+    let done = load_by_value(program, vertices, edges, before, edition);
     let answer = done.answer;
     let tally = done.tally;
     show::loading(answer);
     show::left(tally, vertices, edges);
-    looked(program, vertices, edges, tally);
-    loaded(program, vertices, edges, tally);
+    looked(program, vertices, edges, tally, edition);
+    loaded(program, vertices, edges, tally, edition);
 }
 
 // A short run, the turns, and a run.
-fn loaded(program: &[u8], vertices: &mut [u32], edges: &mut [u32], tally: Tally) {
-    let begun = ran(program, vertices, edges, tally, 3);
-    turned(program, vertices, edges, begun);
+fn loaded(program: &[u8], vertices: &mut [u32], edges: &mut [u32], tally: Tally, edition: Edition) {
+    let begun = ran(program, vertices, edges, tally, edition, 3);
+    turned(program, vertices, edges, begun, edition);
 }
 
 // The turns, and a run.
-pub(crate) fn turned(program: &[u8], vertices: &mut [u32], edges: &mut [u32], tally: Tally) {
+pub(crate) fn turned(
+    program: &[u8],
+    vertices: &mut [u32],
+    edges: &mut [u32],
+    tally: Tally,
+    edition: Edition,
+) {
     let mut counts = [0u32; 40];
-    let now = all(program, vertices, edges, tally, &mut counts);
-    ran(program, vertices, edges, now, 60);
+    let now = all(program, vertices, edges, tally, edition, &mut counts);
+    ran(program, vertices, edges, now, edition, 60);
 }
 
 // The lowest vertex that can step.
-pub(crate) fn looked(program: &[u8], vertices: &[u32], edges: &[u32], tally: Tally) {
-    lowest(lowest_vertex(program, vertices, edges, tally));
+pub(crate) fn looked(
+    program: &[u8],
+    vertices: &[u32],
+    edges: &[u32],
+    tally: Tally,
+    edition: Edition,
+) {
+    lowest(lowest_vertex(program, vertices, edges, tally, edition));
 }
 
 fn lowest(found: Lowest) {
@@ -62,12 +76,61 @@ pub(crate) fn ran(
     vertices: &mut [u32],
     edges: &mut [u32],
     tally: Tally,
+    edition: Edition,
     budget: u32,
 ) -> Tally {
-    let done = run_by_value(program, vertices, edges, tally, budget);
+    let done = run_by_value(program, vertices, edges, tally, edition, budget);
     let answer = done.answer;
     let after = done.tally;
     show::run(answer);
+    show::left(after, vertices, edges);
+    after
+}
+
+// A look, a step of each of these vertices, a look and a run.
+pub(crate) fn calls(
+    program: &[u8],
+    vertices: &mut [u32],
+    edges: &mut [u32],
+    tally: Tally,
+    edition: Edition,
+    stepped: &[u32],
+) {
+    looked(program, vertices, edges, tally, edition);
+    let after = steps(program, vertices, edges, tally, edition, stepped);
+    looked(program, vertices, edges, after, edition);
+    ran(program, vertices, edges, after, edition, 60);
+}
+
+pub(crate) fn steps(
+    program: &[u8],
+    vertices: &mut [u32],
+    edges: &mut [u32],
+    tally: Tally,
+    edition: Edition,
+    stepped: &[u32],
+) -> Tally {
+    let mut now = tally;
+    for i in 0..stepped.len() {
+        now = step(program, vertices, edges, now, edition, stepped[i]);
+    }
+    now
+}
+
+fn step(
+    program: &[u8],
+    vertices: &mut [u32],
+    edges: &mut [u32],
+    tally: Tally,
+    edition: Edition,
+    vertex: u32,
+) -> Tally {
+    let done = step_by_value(program, vertices, edges, tally, edition, vertex);
+    let answer = done.answer;
+    let after = done.tally;
+    number(b"", vertex);
+    text(b" ");
+    show::answer(answer);
     show::left(after, vertices, edges);
     after
 }
@@ -77,13 +140,14 @@ fn all(
     vertices: &mut [u32],
     edges: &mut [u32],
     tally: Tally,
+    edition: Edition,
     counts: &mut [u32],
 ) -> Tally {
     let mut now = tally;
     let mut sum: u64 = 0;
     for turn in 0..1200u32 {
         let vertex = named(turn, now.made);
-        let done = step_by_value(program, vertices, edges, now, vertex);
+        let done = step_by_value(program, vertices, edges, now, edition, vertex);
         let answer = done.answer;
         now = done.tally;
         sum = after(sum, vertex, answer, now, vertices, edges);
@@ -110,6 +174,7 @@ fn refusal(answer: Answer) -> u64 {
         Answer::Transfer(v) => 0,
         Answer::Job { number, offset } => 0,
         Answer::Stop => 0,
+        Answer::Yield => 0,
         Answer::Refused(r) => (r.number as u64) * 4294967296 + (r.place as u64),
     }
 }

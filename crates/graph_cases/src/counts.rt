@@ -86,7 +86,7 @@ const ALTERED: [u64; 35] = [
 
 // Vertex 0 executes, 1 is released, 2 is new, and 3 is released behind it. With a bad status or a bad edge elsewhere vertex 1 starts, and
 // all else is 12 but for what start says of a vertex by its own row; with the tally over the four vertex rows or the one edge row nothing does.
-const ELSEWHERE: [u64; 57] = [
+const ELSEWHERE: [u64; 59] = [
     0_0000_0000_0000,
     1_0000_0000_0000,
     2_0000_0001_0000,
@@ -103,6 +103,7 @@ const ELSEWHERE: [u64; 57] = [
     4_0000_0002_0000,
     5_0000_0002_0000,
     6_0000_0000_0000,
+    10_0000_0000_0000,
     1_0000_0000_0000,
     1_0002_0000_0000,
     1_0003_0000_0000,
@@ -122,6 +123,7 @@ const ELSEWHERE: [u64; 57] = [
     4_0000_0002_0000,
     5_0000_0002_0000,
     6_0000_0000_0000,
+    10_0000_0000_0000,
     1_0000_0000_0000,
     1_0002_0000_0000,
     1_0003_0000_0000,

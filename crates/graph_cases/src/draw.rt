@@ -122,9 +122,9 @@ fn repeated(d: Draw, edges: &[u32], held: u32) -> Command {
     }
 }
 
-// The vertices are mostly of the first four.
+// The vertices are mostly of the first four. Three in seven edges are drawn onto the caller.
 fn any_command(d: Draw) -> Command {
-    let kind = d.next().below(16);
+    let kind = d.next().below(22);
     let caller = caller(d);
     let v = d.next().next().next().below(17);
     let target = d.next().next().next().next().below(4);
@@ -143,16 +143,26 @@ fn any_command(d: Draw) -> Command {
             target,
         };
     }
-    if kind < 7 {
-        return Command::Release { caller, vertex };
+    if kind < 8 {
+        return Command::NewEdge {
+            caller,
+            source: vertex,
+            target: caller,
+        };
     }
     if kind < 10 {
+        return Command::Release { caller, vertex };
+    }
+    if kind < 13 {
         return Command::Transfer { caller, vertex };
     }
-    if kind < 14 {
+    if kind < 17 {
         return Command::Start { vertex };
     }
-    Command::Stop { caller }
+    if kind < 19 {
+        return Command::Stop { caller };
+    }
+    Command::Yield { caller }
 }
 
 // The edges 1 → 2, 2 → 3, .. in as many rows as there are.

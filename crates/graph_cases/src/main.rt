@@ -1,6 +1,7 @@
 // Runs the opening and the commands on many tables, and writes what each call answers and leaves: docs/ENGINE.md's bare example, full
-// and freed tables, edges named twice, on full tables and beside a cycle too, vertices made with a future open, edges counted, tables shorter
-// than a row and longer than 1,024 rows, a long path, stops that leave gaps, a bad word in each row, and some hundred tables of drawn words.
+// and freed tables, edges named twice, on full tables and beside a cycle too, vertices made with a future open, a vertex that yields, edges
+// counted, tables shorter than a row and longer than 1,024 rows, a long path, stops that leave gaps, a bad word in each row, and some hundred
+// tables of drawn words.
 // tests/graph_cases.py computes the same lines from a model of its own; `stdout` holds them.
 mod counts;
 mod draw;
@@ -36,6 +37,7 @@ fn main() {
     twice();
     cycle();
     futures();
+    yields();
     counts::all();
     short();
     long();
@@ -87,6 +89,13 @@ fn futures() {
     let mut edges = [77u32; EDGE_WORDS];
     text(b"futures\n");
     script::run(&mut vertices, &mut edges, none(), &script::FUTURES);
+}
+
+fn yields() {
+    let mut vertices = [77u32; 5 * VERTEX_WORDS + 2];
+    let mut edges = [77u32; 4 * EDGE_WORDS + 1];
+    text(b"yields\n");
+    script::run(&mut vertices, &mut edges, none(), &script::YIELDS);
 }
 
 fn short() {

@@ -20,6 +20,8 @@ const EDGE: u32 = 3;
 const RELEASE: u32 = 4;
 
 const TRANSFER: u32 = 5;
+
+const YIELD: u32 = 10;
 // 6 is stop; 7, 8 and 9 are no calls: the tally, or a word of a vertex row or an edge row, told by row and word, is altered. There 9999 is
 // the largest number of a word, 9998 the one before it, and so on down to 9000.
 const TALLY: u32 = 7;
@@ -152,6 +154,65 @@ pub(crate) const FUTURES: [u64; 22] = [
     2_0000_0001_0001,
 ];
 
+// The article's fork (note 10): a vertex makes two with edges onto itself, releases them, yields, and starts again once nothing leads into it.
+// One of the two gets edges onto itself likewise, transfers its edge out and stops: what leads into it stays held until its source stops. An edge
+// from the caller to itself is 35, one onto another vertex that executes 33.
+pub(crate) const YIELDS: [u64; 53] = [
+    0_0000_0000_0000,
+    10_0000_0000_0000,
+    1_0000_0000_0000,
+    10_0001_0000_0000,
+    2_0000_0005_0000,
+    2_0000_0006_0000,
+    10_0001_0000_0000,
+    3_0000_0000_0000,
+    3_0000_0001_0000,
+    3_0000_0002_0000,
+    3_0000_0001_0000,
+    3_0000_0000_0001,
+    4_0000_0001_0000,
+    4_0000_0002_0000,
+    10_0000_0000_0000,
+    10_0000_0000_0000,
+    1_0000_0000_0000,
+    1_0001_0000_0000,
+    1_0002_0000_0000,
+    3_0001_0001_0002,
+    3_0001_0002_0000,
+    3_0001_0000_0001,
+    3_0001_0002_0001,
+    2_0001_0007_0000,
+    2_0001_0008_0000,
+    3_0001_0003_0001,
+    3_0001_0003_0001,
+    3_0002_0003_0002,
+    3_0002_0000_0001,
+    5_0001_0003_0000,
+    5_0001_0004_0000,
+    4_0001_0003_0000,
+    4_0001_0004_0000,
+    6_0001_0000_0000,
+    1_0001_0000_0000,
+    3_0002_0003_0001,
+    10_0001_0000_0000,
+    6_0002_0000_0000,
+    1_0000_0000_0000,
+    1_0004_0000_0000,
+    3_0004_0001_0004,
+    3_0004_0003_0004,
+    10_0004_0000_0000,
+    1_0004_0000_0000,
+    6_0004_0000_0000,
+    1_0003_0000_0000,
+    6_0003_0000_0000,
+    1_0004_0000_0000,
+    6_0004_0000_0000,
+    1_0000_0000_0000,
+    6_0000_0000_0000,
+    3_0000_0001_0000,
+    10_0000_0000_0000,
+];
+
 // Tables that are shorter than a row.
 pub(crate) const SHORT: [u64; 4] = [
     0_0000_0000_0000,
@@ -217,6 +278,7 @@ fn command(kind: u32, caller: u32, a: u32, b: u32) -> Command {
         },
         RELEASE => Command::Release { caller, vertex: a },
         TRANSFER => Command::Transfer { caller, vertex: a },
+        YIELD => Command::Yield { caller },
         _ => Command::Stop { caller },
     }
 }

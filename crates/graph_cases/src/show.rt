@@ -26,6 +26,7 @@ fn answer(a: Answer) {
         Answer::Release(v) => number(b"release ", v),
         Answer::Transfer(v) => number(b"transfer ", v),
         Answer::Stop => text(b"stop"),
+        Answer::Yield => text(b"yield"),
         Answer::Refused(r) => refused(r.number, r.place),
     }
 }

@@ -1,6 +1,7 @@
 // The programs of docs/ENGINE.md's "Examples", and some with every kind of item and of refusal, the numbers at the edges of each length among them.
 use crate::show;
 use cases::bytes;
+use program::Edition;
 
 // Each program behind its length.
 const EXAMPLES: [u8; 583] = [
@@ -609,10 +610,10 @@ fn each(programs: &[u8]) {
 
 fn one(program: &[u8]) {
     bytes(program);
-    show::reading(program);
+    show::readings(program);
     for place in 0..program.len() + 1 {
         if place < 64 {
-            show::item(program, place as u32);
+            show::item(program, Edition::First, place as u32);
         }
     }
 }

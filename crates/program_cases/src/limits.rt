@@ -1,7 +1,10 @@
 // The longest, deepest and largest programs, and those just past the limits.
 use crate::show;
 use cases::number;
+use program::Edition;
+use program::format::ASYNC;
 use program::format::FORCE;
+use program::format::FORK;
 use program::format::FUTURE;
 ghost use Prim.Native.Nat.{_≤_};
 
@@ -17,6 +20,13 @@ pub(crate) fn all() {
     futures(512, 1025);
     forces(1020, 2043);
     forces(1021, 2045);
+    forks(340, 0, 1020);
+    forks(340, 2, 1020);
+    forks(340, 3, 1020);
+    forks(341, 0, 1023);
+    forks(511, 0, 1533);
+    forks(511, 1, 1533);
+    forks(512, 0, 1536);
     far_force(128, 256);
     far_force(129, 258);
     jobs(4096);
@@ -72,6 +82,18 @@ fn forces(count: u32, length: usize) {
     part(&bytes, length);
 }
 
+// Forks with empty bodies, and where they end asyncs with an empty body.
+fn forks(count: u32, asyncs: u32, end: usize)
+    requires { ⌜ (end ≤ 4000) × (asyncs ≤ 3) ⌝ }
+{
+    let mut bytes = [0u8; 4097];
+    fill(&mut bytes, 0, count, 3, FORK);
+    fill(&mut bytes, end, asyncs, 2, ASYNC);
+    number(b"forks ", count);
+    number(b" asyncs ", asyncs);
+    part_in_both(&bytes, end + 2 * (asyncs as usize) + 1, end as u32);
+}
+
 // Futures with an empty body, and where they end a force with the number 128.
 fn far_force(count: u32, at: usize)
     requires { ⌜ at ≤ 4000 ⌝ }
@@ -110,6 +132,19 @@ fn fill(bytes: &mut [u8], from: usize, count: u32, step: u8, byte: u8) {
 
 fn part(bytes: &[u8], length: usize) {
     if length <= bytes.len() {
-        show::reading(&bytes[..length]);
+        show::reading(&bytes[..length], Edition::First);
     }
+}
+
+// The same in either edition, and what stands at a place.
+fn part_in_both(bytes: &[u8], length: usize, place: u32) {
+    if length <= bytes.len() {
+        in_both(&bytes[..length], place);
+    }
+}
+
+fn in_both(program: &[u8], place: u32) {
+    show::readings(program);
+    show::item(program, Edition::First, place);
+    show::item(program, Edition::Second, place);
 }

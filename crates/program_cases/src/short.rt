@@ -1,8 +1,10 @@
 // Every program of one and of two bytes, and every fifth byte of a job's number and of a force's. Those that differ in their last byte only
-// and are answered alike stand together, as `first-last number place`; an accepted program has the number 0.
+// and are answered alike stand together, as `first-last number place`; an accepted program has the number 0. All are far
+// from the limit on vertices, with which alone the editions differ.
 use cases::hex;
 use cases::number;
 use cases::text;
+use program::Edition;
 use program::ProgramRead;
 use program::format::FORCE;
 use program::format::JOB;
@@ -70,7 +72,7 @@ fn with_last(program: &mut [u8], last: u32) -> u64 {
         return 0;
     }
     program[length - 1] = (last % 256) as u8;
-    let answer = read(program);
+    let answer = read(program, Edition::First);
     match answer {
         ProgramRead::Program(items) => 0,
         ProgramRead::Refused(refusal) => (refusal.number as u64) * 4294967296

@@ -28,6 +28,8 @@ each-spec = tie.close (tie.spec Inv-loop
     (λ c. omega arith)
     (λ c. omega arith)
     (λ c. omega arith)
+    (λ c. omega arith)
+    (λ c. omega arith)
     (λ c. search needs)
     (λ c. omega arith)
     (λ c. omega arith)

@@ -6,16 +6,19 @@ use borrow.Author.Needs.{needs}
 use native.Mathlib.Omega.{arith}
 
 abbrev Inv-loop : tie.InvT-loop
-Inv-loop program vertex-rows edge-rows tables seed₀ seed = seed ≤ tables
+Inv-loop program vertex-rows edge-rows tables edition seed₀ seed = seed ≤ tables
 
 abbrev μ-loop : tie.MeasureT-loop
-μ-loop program vertex-rows edge-rows tables seed₀ seed = tables - seed
+μ-loop program vertex-rows edge-rows tables edition seed₀ seed = tables - seed
 
 pub on-tables-spec : {M : Type 1} → statement M
 on-tables-spec = tie.close (tie.spec Inv-loop
     μ-loop
     (λ c. omega arith)
     (λ c. omega arith)
+    (λ c. omega arith)
+    (λ c. omega arith)
+    (λ c κs. search needs)
     (λ c κs. search needs)
     (λ c. omega arith)
     (λ c. omega arith)

@@ -6,14 +6,17 @@ use borrow.Author.Needs.{needs}
 use native.Mathlib.Omega.{arith}
 
 abbrev Inv-loop : tie.InvT-loop
-Inv-loop program seed needed order₀ order = order ≤ 5
+Inv-loop program seed edition needed order₀ order = order ≤ 6
 
 abbrev μ-loop : tie.MeasureT-loop
-μ-loop program seed needed order₀ order = 5 - order
+μ-loop program seed edition needed order₀ order = 6 - order
 
 pub in-each-order-spec : {M : Type 1} → statement M
 in-each-order-spec = tie.close (tie.spec Inv-loop
     μ-loop
+    (λ c κs. search needs)
+    (λ c κs. search needs)
+    (λ c κs. search needs)
     (λ c κs. search needs)
     (λ c κs. search needs)
     (λ c. omega arith)

@@ -8,11 +8,11 @@ use mathlib.Core.Path.{_≡_}
 use native.Mathlib.Omega.{arith}
 
 abbrev Inv-loop : tie.InvT-loop
-Inv-loop program vertices₀ edges₀ needed now₀ counted₀ turn₀ t10 t11 vertices edges now counted turn =
+Inv-loop program vertices₀ edges₀ edition needed now₀ counted₀ turn₀ t10 t11 vertices edges now counted turn =
     (turn ≤ 300) × ((length vertices ≡ length vertices₀) × (length edges ≡ length edges₀))
 
 abbrev μ-loop : tie.MeasureT-loop
-μ-loop program vertices₀ edges₀ needed now₀ counted₀ turn₀ t10 t11 vertices edges now counted turn = 300 - turn
+μ-loop program vertices₀ edges₀ edition needed now₀ counted₀ turn₀ t10 t11 vertices edges now counted turn = 300 - turn
 
 pub runs-spec : {M : Type 1} → statement M
 runs-spec = tie.close (tie.spec Inv-loop

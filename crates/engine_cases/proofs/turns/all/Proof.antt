@@ -8,11 +8,11 @@ use mathlib.Core.Path.{_≡_}
 use native.Mathlib.Omega.{arith}
 
 abbrev Inv-loop : tie.InvT-loop
-Inv-loop program vertices₀ edges₀ counts₀ now₀ sum₀ turn₀ t12 vertices edges counts now sum turn =
+Inv-loop program vertices₀ edges₀ edition counts₀ now₀ sum₀ turn₀ t12 vertices edges counts now sum turn =
     (turn ≤ 1200) × ((length vertices ≡ length vertices₀) × ((length edges ≡ length edges₀) × (length counts ≡ length counts₀)))
 
 abbrev μ-loop : tie.MeasureT-loop
-μ-loop program vertices₀ edges₀ counts₀ now₀ sum₀ turn₀ t12 vertices edges counts now sum turn = 1200 - turn
+μ-loop program vertices₀ edges₀ edition counts₀ now₀ sum₀ turn₀ t12 vertices edges counts now sum turn = 1200 - turn
 
 pub all-spec : {M : Type 1} → statement M
 all-spec = tie.close (tie.spec Inv-loop
