@@ -2,11 +2,16 @@
  *
  * One lock guards the engine: its tables, its tally and the pool's notes about vertices. Jobs run outside the lock and use none. Each
  * fills a block of words, and first reads the blocks of all jobs that the text puts ahead of it. Were one of these still running, the
- * reader would see a block filled by half, and the thread sanitizer a race.
+ * reader would see a block filled by half, and the thread sanitizer a race. While a worker sleeps no vertex can step; that is looked at
+ * too.
  *
- *     pool [--break] [--rounds N] [--seed N]
+ * Programs that are built in run in both editions, those drawn in a drawn one. In half of the runs a vertex of the second edition yields
+ * only when both branches have finished, so that it can start again at once.
  *
- * With --break the pool itself says of some jobs that they have ended before they have. That must be noticed. */
+ *     pool [--break jobs | --break yields] [--edition N] [--rounds N] [--seed N]
+ *
+ * With --break the pool makes a mistake on purpose, which must be noticed: it says of some jobs that they have ended before they have; or
+ * it lets a vertex that has yielded start while a branch's job is running, by clearing its in-count. */
 #include <pthread.h>
 #include <sched.h>
 #include <stdarg.h>
@@ -28,8 +33,12 @@ enum {
     MOST_WORKERS = 8,
     MOST_ORDERS = 1000, /* told apart */
     DRAWN = 14,
-    ROUNDS = 5
+    ROUNDS = 5,
+    YIELD_PHASE = 6 /* of a fork in the second edition: the yield is the last of its seven commands */
 };
+
+/* The pool's mistake. */
+enum breaking { NOTHING, JOBS, YIELDS };
 
 /* What a job leaves: written by that job alone, read by those that it is ahead of. */
 struct block {
@@ -41,8 +50,10 @@ struct block {
 struct run {
     const struct program *program;
     const struct tree *tree;
+    uint32_t edition;
+    bool yields_late;     /* when both branches have finished */
     uint32_t stamp;       /* makes this run's words differ from those of others */
-    bool breaking;
+    enum breaking breaking;
     struct block *blocks; /* one for each job; no lock */
 
     pthread_mutex_t lock; /* for all that follows */
@@ -55,6 +66,10 @@ struct run {
     uint32_t stops;
     uint32_t running;     /* jobs */
     uint32_t most;        /* of them at once */
+    uint32_t asleep;      /* workers, until the next wake */
+    uint32_t wakes;
+    uint32_t yields;
+    uint32_t ready;       /* of them by a vertex that could start again at once */
     uint64_t order;       /* a digest of the order in which jobs were named */
     char fault[160];      /* the first thing found wrong */
 };
@@ -130,21 +145,79 @@ static int run_job(struct run *run, int job, uint64_t *dice, bool long_one)
 
 /* WORKERS, under the lock but for their jobs */
 
+static uint32_t *word(const struct run *run, uint32_t vertex, uint32_t which)
+{
+    return &run->vertices[KESHTIWOL_VERTEX_WORDS * vertex + which];
+}
+
 static uint32_t status(const struct run *run, uint32_t vertex)
 {
-    return run->vertices[KESHTIWOL_VERTEX_WORDS * vertex + KESHTIWOL_STATUS];
+    return *word(run, vertex, KESHTIWOL_STATUS);
 }
 
 static uint32_t in_count(const struct run *run, uint32_t vertex)
 {
-    return run->vertices[KESHTIWOL_VERTEX_WORDS * vertex + KESHTIWOL_IN_COUNT];
+    return *word(run, vertex, KESHTIWOL_IN_COUNT);
 }
+
+static uint32_t vertex_words(const struct run *run)
+{
+    return KESHTIWOL_VERTEX_WORDS * tree_vertices(run->tree, run->edition);
+}
+
+static uint32_t edge_words(const struct run *run)
+{
+    return KESHTIWOL_EDGE_WORDS * tree_edges(run->tree);
+}
+
+/* Whether a yield is this vertex's next command. */
+static bool yields_next(const struct run *run, uint32_t vertex)
+{
+    return run->edition == KESHTIWOL_SECOND_EDITION && status(run, vertex) == KESHTIWOL_VERTEX_EXECUTING &&
+           run->program->bytes[*word(run, vertex, KESHTIWOL_PLACE)] == FORK && *word(run, vertex, KESHTIWOL_PHASE) == YIELD_PHASE;
+}
+
+/* Whether the pool leaves this vertex alone, though a step of it might be accepted. */
+static bool is_left_alone(const struct run *run, uint32_t vertex)
+{
+    return run->busy[vertex] || (run->yields_late && yields_next(run, vertex) && in_count(run, vertex) > 0);
+}
+
+/* SLEEP: a worker sleeps while no vertex can step and jobs are running. */
+
+static void wake_all(struct run *run)
+{
+    run->asleep = 0;
+    run->wakes++;
+    pthread_cond_broadcast(&run->changed);
+}
+
+static void sleep_until_woken(struct run *run)
+{
+    uint32_t wakes = run->wakes;
+    run->asleep++;
+    while (run->wakes == wakes) {
+        pthread_cond_wait(&run->changed, &run->lock);
+    }
+}
+
+static void look_at_sleepers(struct run *run)
+{
+    for (uint32_t vertex = 0; run->asleep > 0 && vertex < run->tally.made; vertex++) {
+        uint32_t now = status(run, vertex);
+        bool can_step = now == KESHTIWOL_VERTEX_EXECUTING || (now == KESHTIWOL_VERTEX_RELEASED && in_count(run, vertex) == 0);
+        if (can_step && !is_left_alone(run, vertex)) {
+            fault(run, "vertex %u can step, and workers that sleep are not woken: %u", vertex, run->asleep);
+        }
+    }
+}
+
+/* STEPS AND JOBS */
 
 static struct keshtiwol_reply step(struct run *run, uint32_t vertex)
 {
-    return keshtiwol_step(run->program->bytes, run->program->length,
-                          run->vertices, KESHTIWOL_VERTEX_WORDS * tree_vertices(run->tree),
-                          run->edges, KESHTIWOL_EDGE_WORDS * tree_edges(run->tree), &run->tally, vertex);
+    return keshtiwol_step(run->program->bytes, run->program->length, run->vertices, vertex_words(run), run->edges, edge_words(run),
+                          &run->tally, run->edition, vertex);
 }
 
 /* Steps the first vertex that can, from a drawn place on, up or down. False if none can. */
@@ -155,16 +228,21 @@ static bool step_one(struct run *run, uint64_t *dice, uint32_t *stepped, struct 
     uint32_t stride = draw(dice, 2) == 0 ? 1 : made - 1;
     for (uint32_t i = 0; i < made; i++, vertex = (vertex + stride) % made) {
         uint32_t before = status(run, vertex);
-        if (before == KESHTIWOL_VERTEX_NEW || before == KESHTIWOL_VERTEX_FINISHED || run->busy[vertex] ||
+        if (before == KESHTIWOL_VERTEX_NEW || before == KESHTIWOL_VERTEX_FINISHED || is_left_alone(run, vertex) ||
             run->blocked[vertex] == run->stops + 1) {
             continue;
         }
         uint32_t steps = run->tally.steps;
         uint32_t edges_in = in_count(run, vertex);
+        bool yields = yields_next(run, vertex);
         *reply = step(run, vertex);
         *stepped = vertex;
         if (before == KESHTIWOL_VERTEX_RELEASED && (edges_in == 0) != (reply->said == KESHTIWOL_START)) {
             fault(run, "a step of vertex %u, released with %u edges into it, said %u", vertex, edges_in, reply->said);
+            return true;
+        }
+        if (yields != (reply->said == KESHTIWOL_YIELD)) {
+            fault(run, "a step of vertex %u said %u where a yield was%s due", vertex, reply->said, yields ? "" : " not");
             return true;
         }
         if (reply->said != KESHTIWOL_REFUSED) {
@@ -204,7 +282,7 @@ static void end_job(struct run *run, int job, uint32_t vertex)
     run->ended[job] = true;
     run->busy[vertex] = false;
     run->running--;
-    pthread_cond_broadcast(&run->changed);
+    wake_all(run);
 }
 
 /* Runs the job that a step of this vertex named. Gives the lock up meanwhile. */
@@ -215,7 +293,7 @@ static void do_job(struct worker *worker, uint32_t vertex, struct keshtiwol_repl
     if (job < 0) {
         return;
     }
-    bool early = run->breaking && draw(&worker->dice, 3) == 0;
+    bool early = run->breaking == JOBS && draw(&worker->dice, 3) == 0;
     run->order = (run->order ^ (uint64_t)(job + 1)) * 0x100000001B3u;
     run->busy[vertex] = true;
     run->running++;
@@ -225,7 +303,7 @@ static void do_job(struct worker *worker, uint32_t vertex, struct keshtiwol_repl
     }
 
     pthread_mutex_unlock(&run->lock);
-    int wrong = run_job(run, job, &worker->dice, early);
+    int wrong = run_job(run, job, &worker->dice, early || run->breaking == YIELDS);
     pthread_mutex_lock(&run->lock);
 
     if (!early) {
@@ -238,9 +316,38 @@ static void do_job(struct worker *worker, uint32_t vertex, struct keshtiwol_repl
     }
 }
 
+/* Whether a job is running in a branch that this vertex waits for. */
+static bool waits_for_job(const struct run *run, uint32_t vertex)
+{
+    for (const uint32_t *edge = run->edges; edge < run->edges + KESHTIWOL_EDGE_WORDS * run->tally.held; edge += KESHTIWOL_EDGE_WORDS) {
+        if (edge[KESHTIWOL_TARGET] == vertex && run->busy[edge[KESHTIWOL_SOURCE]]) {
+            return true;
+        }
+    }
+    return false;
+}
+
+/* Of a step that named no job. */
+static void note_step(struct run *run, uint32_t vertex, uint32_t said)
+{
+    if (said == KESHTIWOL_STOP) {
+        run->stops++;
+    }
+    if (said == KESHTIWOL_YIELD) {
+        run->yields++;
+        run->ready += in_count(run, vertex) == 0;
+        if (run->breaking == YIELDS && waits_for_job(run, vertex)) {
+            *word(run, vertex, KESHTIWOL_IN_COUNT) = 0; /* a lie */
+        }
+    }
+    if (said == KESHTIWOL_STOP || said == KESHTIWOL_RELEASE || said == KESHTIWOL_YIELD) {
+        wake_all(run); /* others may be able to step now; of a yield, the vertex itself where both branches have finished */
+    }
+}
+
 static bool is_over(const struct run *run)
 {
-    return run->fault[0] != '\0' || run->tally.steps == tree_steps(run->tree);
+    return run->fault[0] != '\0' || run->tally.steps == tree_steps(run->tree, run->edition);
 }
 
 static void *work(void *argument)
@@ -254,26 +361,23 @@ static void *work(void *argument)
         if (step_one(run, &worker->dice, &vertex, &reply)) {
             if (reply.said == KESHTIWOL_JOB) {
                 do_job(worker, vertex, reply);
+                look_at_sleepers(run);
                 continue;
             }
-            if (reply.said == KESHTIWOL_STOP) {
-                run->stops++;
-            }
-            if (reply.said == KESHTIWOL_STOP || reply.said == KESHTIWOL_RELEASE) {
-                pthread_cond_broadcast(&run->changed); /* others may be able to step now */
-            }
+            note_step(run, vertex, reply.said);
+            look_at_sleepers(run);
             pthread_mutex_unlock(&run->lock);
             if (draw(&worker->dice, 4) == 0) {
                 sched_yield();
             }
             pthread_mutex_lock(&run->lock);
         } else if (run->running > 0) {
-            pthread_cond_wait(&run->changed, &run->lock);
+            sleep_until_woken(run);
         } else {
-            fault(run, "no vertex can step after %u of %u steps", run->tally.steps, tree_steps(run->tree));
+            fault(run, "no vertex can step after %u of %u steps", run->tally.steps, tree_steps(run->tree, run->edition));
         }
     }
-    pthread_cond_broadcast(&run->changed);
+    wake_all(run);
     pthread_mutex_unlock(&run->lock);
     return NULL;
 }
@@ -314,15 +418,12 @@ static void look_at_end(struct run *run)
 {
     const struct program *program = run->program;
     const struct tree *tree = run->tree;
-    uint32_t vertex_words = KESHTIWOL_VERTEX_WORDS * tree_vertices(tree);
-    uint32_t edge_words = KESHTIWOL_EDGE_WORDS * tree_edges(tree);
-
     for (int job = 0; job < (int)tree->job_count; job++) {
         if (!run->ended[job] || !is_filled(run, job)) {
             fault(run, "the job at %u ran %u times", tree_job(tree, job)->offset, run->blocks[job].runs);
         }
     }
-    if (run->tally.made != tree_vertices(tree) || run->tally.held != 0) {
+    if (run->tally.made != tree_vertices(tree, run->edition) || run->tally.held != 0) {
         fault(run, "at the end %u vertices are made and %u edges held", run->tally.made, run->tally.held);
     }
     for (uint32_t vertex = 0; vertex < run->tally.made; vertex++) {
@@ -330,14 +431,17 @@ static void look_at_end(struct run *run)
             fault(run, "at the end vertex %u has status %u and %u edges into it", vertex, status(run, vertex), in_count(run, vertex));
         }
     }
-    struct keshtiwol_reply lowest = keshtiwol_lowest(program->bytes, program->length, run->vertices, vertex_words,
-                                                     run->edges, edge_words, &run->tally);
-    struct keshtiwol_run_reply rest = keshtiwol_run(program->bytes, program->length, run->vertices, vertex_words,
-                                                    run->edges, edge_words, &run->tally, 1);
+    if (run->yields != (run->edition == KESHTIWOL_SECOND_EDITION ? tree->forks : 0)) {
+        fault(run, "%u yields were made", run->yields);
+    }
+    struct keshtiwol_reply lowest = keshtiwol_lowest(program->bytes, program->length, run->vertices, vertex_words(run),
+                                                     run->edges, edge_words(run), &run->tally, run->edition);
+    struct keshtiwol_run_reply rest = keshtiwol_run(program->bytes, program->length, run->vertices, vertex_words(run),
+                                                    run->edges, edge_words(run), &run->tally, run->edition, 1);
     if (lowest.said != KESHTIWOL_NONE || rest.ending.said != KESHTIWOL_DONE || rest.last.said != KESHTIWOL_NONE || rest.taken != 0) {
         fault(run, "at the end the engine says %u, and %u after %u more steps", lowest.said, rest.ending.said, rest.taken);
     }
-    if (!is_guarded(run->vertices, vertex_words) || !is_guarded(run->edges, edge_words)) {
+    if (!is_guarded(run->vertices, vertex_words(run)) || !is_guarded(run->edges, edge_words(run))) {
         fault(run, "words behind a lent table were written");
     }
 }
@@ -348,6 +452,7 @@ struct summary {
     uint64_t orders[MOST_ORDERS]; /* the different ones */
     uint32_t order_count;
     uint32_t most; /* jobs at once */
+    uint32_t yields, ready;
 };
 
 static void add_run(struct summary *summary, const struct run *run)
@@ -361,33 +466,39 @@ static void add_run(struct summary *summary, const struct run *run)
     }
     summary->runs++;
     summary->most = run->most > summary->most ? run->most : summary->most;
+    summary->yields += run->yields;
+    summary->ready += run->ready;
 }
 
 /* Runs a program with so many workers. False, and says why, if anything was wrong. */
-static bool run_program(const struct program *program, const struct tree *tree, uint32_t workers, uint64_t *dice, bool breaking,
-                        struct summary *summary)
+static bool run_program(const struct program *program, const struct tree *tree, uint32_t edition, uint32_t workers, uint64_t *dice,
+                        enum breaking breaking, struct summary *summary)
 {
-    uint32_t vertex_words = KESHTIWOL_VERTEX_WORDS * tree_vertices(tree);
-    uint32_t edge_words = KESHTIWOL_EDGE_WORDS * tree_edges(tree);
+    uint32_t vertices = tree_vertices(tree, edition);
     struct run run = {
         .program = program,
         .tree = tree,
+        .edition = edition,
+        .yields_late = draw(dice, 2) == 0,
         .stamp = draw(dice, UINT32_MAX),
         .breaking = breaking,
         .blocks = lend(tree->job_count, sizeof *run.blocks),
         .lock = PTHREAD_MUTEX_INITIALIZER,
         .changed = PTHREAD_COND_INITIALIZER,
-        .vertices = lend_table(vertex_words),
-        .edges = lend_table(edge_words),
-        .busy = lend(tree_vertices(tree), sizeof *run.busy),
-        .blocked = lend(tree_vertices(tree), sizeof *run.blocked),
+        .vertices = lend_table(KESHTIWOL_VERTEX_WORDS * vertices),
+        .edges = lend_table(KESHTIWOL_EDGE_WORDS * tree_edges(tree)),
+        .busy = lend(vertices, sizeof *run.busy),
+        .blocked = lend(vertices, sizeof *run.blocked),
         .ended = lend(tree->job_count, sizeof *run.ended),
     };
-    struct keshtiwol_reply reply = keshtiwol_load(program->bytes, program->length, run.vertices, vertex_words,
-                                                  run.edges, edge_words, &run.tally);
-    if (reply.said != KESHTIWOL_READY) {
+    struct keshtiwol_reply reply = keshtiwol_load(program->bytes, program->length, run.vertices, vertex_words(&run),
+                                                  run.edges, edge_words(&run), &run.tally, edition);
+    bool is_too_large = vertices > KESHTIWOL_ROWS;
+    if (is_too_large && (reply.said != KESHTIWOL_REFUSED || reply.first != KESHTIWOL_TOO_MANY_VERTICES)) {
+        fault(&run, "loading %u vertices said %u, %u", vertices, reply.said, reply.first);
+    } else if (!is_too_large && reply.said != KESHTIWOL_READY) {
         fault(&run, "loading was refused: %u at %u", reply.first, reply.second);
-    } else {
+    } else if (!is_too_large) {
         struct worker hands[MOST_WORKERS];
         pthread_t threads[MOST_WORKERS];
         for (uint32_t i = 0; i < workers; i++) {
@@ -402,7 +513,7 @@ static bool run_program(const struct program *program, const struct tree *tree, 
         look_at_end(&run);
     }
     if (run.fault[0] != '\0') {
-        printf("pool: %s, %u workers: %s\n", program->name, workers, run.fault);
+        printf("pool: %s (edition %u), %u workers: %s\n", program->name, edition, workers, run.fault);
     }
     add_run(summary, &run);
     pthread_mutex_destroy(&run.lock);
@@ -419,13 +530,20 @@ static bool run_program(const struct program *program, const struct tree *tree, 
 /* ALL PROGRAMS */
 
 struct options {
-    bool breaking;
+    enum breaking breaking;
+    uint32_t edition; /* 0: both */
     uint32_t rounds;
     uint64_t seed;
 };
 
-/* Every round with 1, 2, 4 and 8 workers. Prints the program's line, and adds to the count of jobs. */
-static bool try_program(const struct program *program, const struct options *options, uint64_t *dice, uint64_t *jobs)
+/* What all programs came to. */
+struct totals {
+    uint64_t jobs, yields, ready;
+};
+
+/* Every round with 1, 2, 4 and 8 workers. Prints the program's line, and adds to the totals. */
+static bool try_program(const struct program *program, uint32_t edition, const struct options *options, uint64_t *dice,
+                        struct totals *totals)
 {
     struct tree *tree = tree_read(program->bytes, program->length);
     if (tree == NULL) {
@@ -436,13 +554,18 @@ static bool try_program(const struct program *program, const struct options *opt
     bool good = true;
     for (uint32_t round = 0; good && round < options->rounds; round++) {
         for (uint32_t workers = 1; good && workers <= MOST_WORKERS; workers *= 2) {
-            good = run_program(program, tree, workers, dice, options->breaking, &summary);
+            good = run_program(program, tree, edition, workers, dice, options->breaking, &summary);
         }
     }
-    if (good) {
-        *jobs += (uint64_t)summary.runs * tree->job_count;
-        printf("%s: vertices %u jobs %u steps %u pairs ahead %zu, runs %u orders of jobs %u at once %u\n", program->name,
-               tree_vertices(tree), tree->job_count, tree_steps(tree), tree->from[tree->job_count],
+    uint32_t vertices = tree_vertices(tree, edition);
+    if (good && vertices > KESHTIWOL_ROWS) {
+        printf("%s (edition %u): vertices %u, refused\n", program->name, edition, vertices);
+    } else if (good) {
+        totals->jobs += (uint64_t)summary.runs * tree->job_count;
+        totals->yields += summary.yields;
+        totals->ready += summary.ready;
+        printf("%s (edition %u): vertices %u jobs %u steps %u pairs ahead %zu, runs %u orders of jobs %u at once %u\n", program->name,
+               edition, vertices, tree->job_count, tree_steps(tree, edition), tree->from[tree->job_count],
                summary.runs, summary.order_count, summary.most);
     }
     fflush(stdout);
@@ -453,8 +576,16 @@ static bool try_program(const struct program *program, const struct options *opt
 static bool read_options(int count, char **words, struct options *options)
 {
     for (int i = 1; i < count; i++) {
-        if (strcmp(words[i], "--break") == 0) {
-            options->breaking = true;
+        if (strcmp(words[i], "--break") == 0 && i + 1 < count) {
+            options->breaking = strcmp(words[++i], "jobs") == 0 ? JOBS : strcmp(words[i], "yields") == 0 ? YIELDS : NOTHING;
+            if (options->breaking == NOTHING) {
+                return false;
+            }
+        } else if (strcmp(words[i], "--edition") == 0 && i + 1 < count) {
+            options->edition = (uint32_t)strtoul(words[++i], NULL, 10);
+            if (options->edition != KESHTIWOL_FIRST_EDITION && options->edition != KESHTIWOL_SECOND_EDITION) {
+                return false;
+            }
         } else if (strcmp(words[i], "--rounds") == 0 && i + 1 < count) {
             options->rounds = (uint32_t)strtoul(words[++i], NULL, 10);
         } else if (strcmp(words[i], "--seed") == 0 && i + 1 < count) {
@@ -468,24 +599,33 @@ static bool read_options(int count, char **words, struct options *options)
 
 int main(int count, char **words)
 {
-    struct options options = {false, ROUNDS, 1};
+    struct options options = {NOTHING, 0, ROUNDS, 1};
     if (!read_options(count, words, &options)) {
-        fprintf(stderr, "usage: pool [--break] [--rounds N] [--seed N]\n");
+        fprintf(stderr, "usage: pool [--break jobs | --break yields] [--edition N] [--rounds N] [--seed N]\n");
         return 2;
     }
     static struct program program;
     uint64_t dice = options.seed;
-    uint64_t jobs = 0;
+    struct totals totals = {0, 0, 0};
     for (int i = 0; i < BUILT_IN + DRAWN; i++) {
+        uint32_t drawn = KESHTIWOL_FIRST_EDITION + draw(&dice, 2);
         if (i < BUILT_IN) {
             program_built_in(&program, i);
         } else {
             program_drawn(&program, options.seed * 1000 + (uint64_t)(i - BUILT_IN));
         }
-        if (!try_program(&program, &options, &dice, &jobs)) {
-            return 1;
+        for (uint32_t edition = KESHTIWOL_FIRST_EDITION; edition <= KESHTIWOL_SECOND_EDITION; edition++) {
+            bool is_asked_for = options.edition != 0 ? edition == options.edition : i < BUILT_IN || edition == drawn;
+            if (is_asked_for && !try_program(&program, edition, &options, &dice, &totals)) {
+                return 1;
+            }
         }
     }
-    printf("pool: %d programs, %llu jobs, all in order\n", BUILT_IN + DRAWN, (unsigned long long)jobs);
+    printf("pool: %d programs, %llu jobs, all in order; %llu yields, %llu of them when both branches had finished\n", BUILT_IN + DRAWN,
+           (unsigned long long)totals.jobs, (unsigned long long)totals.yields, (unsigned long long)totals.ready);
+    if (options.edition != KESHTIWOL_FIRST_EDITION && (totals.ready == 0 || totals.ready == totals.yields)) {
+        printf("pool: not all ways to yield were met\n");
+        return 1;
+    }
     return 0;
 }

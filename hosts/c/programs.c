@@ -271,13 +271,150 @@ static void most_forces(struct program *program)
     end(program);
 }
 
+/* One body with many forks: in the second edition its vertex starts as many times again. */
+static void forks_in_a_line(struct program *program)
+{
+    uint32_t number = 1;
+    for (int i = 0; i < 30; i++) {
+        put(program, FORK);
+        put_job(program, number++);
+        end(program);
+        put_job(program, number++);
+        put_job(program, number++);
+        end(program);
+        if (i % 2 == 0) {
+            put_job(program, number++);
+        }
+    }
+    end(program);
+}
+
+/* Branches without a job, so that they may end before what forks them has done its part. */
+static void empty_forks(struct program *program)
+{
+    for (uint32_t i = 0; i < 40; i++) {
+        put(program, FORK);
+        end(program);
+        put(program, FORK);
+        end(program);
+        end(program);
+        end(program);
+        put_job(program, i);
+    }
+    end(program);
+}
+
+/* A job before each of 31 forks, one in the first branch of the other, one at the end of each branch, and one behind the fork. */
+static void deep_forks(struct program *program)
+{
+    for (uint32_t i = 0; i < 31; i++) {
+        put_job(program, i);
+        put(program, FORK);
+    }
+    for (uint32_t i = 0; i < 31; i++) {
+        put_job(program, 100 + i);
+        end(program);
+        put_job(program, 200 + i);
+        end(program);
+        put_job(program, 300 + i);
+    }
+    end(program);
+}
+
+/* Just as many as the second edition has vertices for. The first refuses them. */
+static void most_forks(struct program *program)
+{
+    for (int i = 0; i < 511; i++) {
+        put(program, FORK);
+        end(program);
+        end(program);
+    }
+    end(program);
+}
+
+/* In one branch an async that is left behind and a finish around another; in the other a future, which a fork's branch forces and then
+ * the branch itself. What comes after the outer finish waits for all asyncs. */
+static void mixed_branches(struct program *program)
+{
+    uint32_t number = 1;
+    for (int i = 0; i < 5; i++) {
+        put(program, FINISH);
+        put(program, FORK);
+        put(program, ASYNC);
+        put_job(program, number++);
+        put_job(program, number++);
+        end(program);
+        put(program, FINISH);
+        put(program, ASYNC);
+        put_job(program, number++);
+        end(program);
+        put_job(program, number++);
+        end(program);
+        put_job(program, number++);
+        end(program);
+
+        put(program, FUTURE);
+        put_job(program, number++);
+        put(program, ASYNC);
+        put_job(program, number++);
+        end(program);
+        end(program);
+        put(program, FORK);
+        put_job(program, number++);
+        end(program);
+        put_force(program, 0);
+        put_job(program, number++);
+        end(program);
+        put_job(program, number++);
+        put_force(program, 0);
+        put_job(program, number++);
+        end(program);
+        put_job(program, number++);
+        end(program);
+        put_job(program, number++);
+    }
+    end(program);
+}
+
+/* Futures that fork, with a force of the one before in a branch; then both branches of a fork force some, and so does what comes after. */
+static void forks_in_futures(struct program *program)
+{
+    enum { FUTURES = 8 };
+    uint32_t number = 1;
+    for (uint32_t i = 0; i < FUTURES; i++) {
+        put(program, FUTURE);
+        put(program, FORK);
+        put_job(program, number++);
+        end(program);
+        if (i > 0) {
+            put_force(program, 0);
+        }
+        put_job(program, number++);
+        end(program);
+        put_job(program, number++);
+        end(program);
+    }
+    put(program, FORK);
+    put_force(program, FUTURES - 1);
+    put_job(program, number++);
+    end(program);
+    put_force(program, FUTURES / 2);
+    put_job(program, number++);
+    end(program);
+    put_job(program, number++);
+    put_force(program, 0);
+    put_job(program, number++);
+    end(program);
+}
+
 void program_built_in(struct program *program, int which)
 {
     static const char *const names[BUILT_IN] = {
         "nothing", "one job", "async beside a job", "fork, then a job", "largest job number", "finish around an async",
         "31 asyncs, one in the other", "1,022 asyncs", "receiver", "nested forks", "wide asyncs", "deep finishes", "asyncs left behind",
         "150 jobs in a line", "future, forced where it is used", "decodes begun early", "futures that force the one before",
-        "futures that nothing forces", "511 futures", "1,020 forces",
+        "futures that nothing forces", "511 futures", "1,020 forces", "forks in a line", "forks of nothing", "31 forks, one in the other",
+        "511 forks", "all kinds in branches", "forks in futures",
     };
     memset(program, 0, sizeof *program);
     snprintf(program->name, sizeof program->name, "%s", names[which]);
@@ -302,6 +439,12 @@ void program_built_in(struct program *program, int which)
     case 17: unforced(program); break;
     case 18: most_futures(program); break;
     case 19: most_forces(program); break;
+    case 20: forks_in_a_line(program); break;
+    case 21: empty_forks(program); break;
+    case 22: deep_forks(program); break;
+    case 23: most_forks(program); break;
+    case 24: mixed_branches(program); break;
+    case 25: forks_in_futures(program); break;
     }
 }
 

@@ -13,12 +13,12 @@ struct program {
     size_t length;
 };
 
-enum { BUILT_IN = 20 };
+enum { BUILT_IN = 26 };
 
 /* One of those built in, by its number below BUILT_IN. */
 void program_built_in(struct program *program, int which);
 
-/* One drawn by a seed: at most 300 vertices and 200 jobs, of many shapes. */
+/* One drawn by a seed: at most 300 vertices, in either edition, and 200 jobs, of many shapes. */
 void program_drawn(struct program *program, uint64_t seed);
 
 #endif

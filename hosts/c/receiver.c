@@ -51,8 +51,8 @@ static void run_job(uint32_t number)
     else abort(); /* no job has this number */
 }
 
-/* THE WORKERS keep the host's part of the bargain with the engine: */
-#define LENT program, sizeof program, vertices, KESHTIWOL_VERTEX_TABLE, edges, KESHTIWOL_EDGE_TABLE, &tally /* the same at each call, */
+/* THE WORKERS keep the host's part of the bargain with the engine: the same lent and the same edition named at each call, */
+#define LENT program, sizeof program, vertices, KESHTIWOL_VERTEX_TABLE, edges, KESHTIWOL_EDGE_TABLE, &tally, KESHTIWOL_FIRST_EDITION
 static pthread_mutex_t lock = PTHREAD_MUTEX_INITIALIZER; /* one call at a time, */
 static bool busy[KESHTIWOL_ROWS];                        /* and no step of a vertex while its job is running. */
 static uint32_t running;                                 /* jobs, as many as busy vertices */

@@ -231,9 +231,10 @@ const struct item *tree_job(const struct tree *tree, int job)
     return &tree->items[tree->jobs[job]];
 }
 
-uint32_t tree_vertices(const struct tree *tree)
+uint32_t tree_vertices(const struct tree *tree, uint32_t edition)
 {
-    return 2 + tree->asyncs + 2 * tree->finishes + 3 * tree->forks + 2 * tree->futures + tree->forces;
+    uint32_t of_fork = edition == KESHTIWOL_FIRST_EDITION ? 3 : 2;
+    return 2 + tree->asyncs + 2 * tree->finishes + of_fork * tree->forks + 2 * tree->futures + tree->forces;
 }
 
 uint32_t tree_edges(const struct tree *tree)
@@ -241,7 +242,8 @@ uint32_t tree_edges(const struct tree *tree)
     return 1 + tree->asyncs + tree->finishes + 2 * tree->forks + tree->futures + tree->forces;
 }
 
-uint32_t tree_steps(const struct tree *tree)
+uint32_t tree_steps(const struct tree *tree, uint32_t edition)
 {
-    return 4 + tree->job_count + 5 * tree->asyncs + 10 * tree->finishes + 15 * tree->forks + 9 * tree->futures + 6 * tree->forces;
+    uint32_t of_fork = edition == KESHTIWOL_FIRST_EDITION ? 15 : 12;
+    return 4 + tree->job_count + 5 * tree->asyncs + 10 * tree->finishes + of_fork * tree->forks + 9 * tree->futures + 6 * tree->forces;
 }

@@ -42,9 +42,9 @@ void tree_drop(struct tree *tree);
 
 const struct item *tree_job(const struct tree *tree, int job);
 
-/* What the program needs and takes. */
-uint32_t tree_vertices(const struct tree *tree);
+/* What the program needs and takes. The edition counts for its forks. */
+uint32_t tree_vertices(const struct tree *tree, uint32_t edition);
 uint32_t tree_edges(const struct tree *tree);
-uint32_t tree_steps(const struct tree *tree);
+uint32_t tree_steps(const struct tree *tree, uint32_t edition);
 
 #endif

@@ -3,7 +3,7 @@
 A program is bytes: numbered jobs with async, finish, fork, future and force. A job's number takes one to five bytes and reaches
 4,294,967,295, so that a retune job can carry its frequency in hertz. `Machine` owns all that the engine needs:
 
-    >>> from keshtiwol import Job, Machine
+    >>> from keshtiwol import Edition, Job, Machine
     >>> machine = Machine(bytes.fromhex("04 01 01 00 01 02 00 01 03 00"))  # fork { job 1 } { job 2 }, then job 3
     >>> vertex = machine.lowest()
     >>> while vertex is not None:
@@ -24,13 +24,19 @@ What the engine turns away is raised as a `Refusal`, and changed nothing:
     ...
     keshtiwol.Refusal: refused with 3 at byte 0: an item's first byte is above 6
 
+A fork is done as the edition has it, which is the first where no other is asked for. In the second the vertex that forks makes no vertex
+for what follows, but yields, and starts again when both branches have finished:
+
+    >>> Machine(bytes.fromhex("04 01 01 00 01 02 00 01 03 00"), Edition.SECOND).run(100).taken
+    19
+
 `Bare` is the bare machine: a graph built by hand, with single commands.
 
 THREADS. Python goes on with other threads during a call, so the bargain of include/keshtiwol.h is the host's here too: make one call at a
 time for the same machine, reading included (one lock around the engine is enough), and after a step says `Job` do not step its vertex again
 before the job has ended. Different machines may be used from different threads at once. receiver.py shows a host with four threads.
 
-THE LIBRARY is libkeshtiwol.so.3: from the folder in the environment variable KESHTIWOL_LIB where that is set, else from the repository's
+THE LIBRARY is libkeshtiwol.so.4: from the folder in the environment variable KESHTIWOL_LIB where that is set, else from the repository's
 target/hosts/lib where it is there, else from where the system's loader finds it. Importing fails with an ImportError where there is none,
 or where its major version is not the one that this module was written for.
 """
@@ -44,7 +50,7 @@ import os
 from dataclasses import astuple, dataclass, fields
 from typing import NamedTuple, Optional, Union
 
-VERSION_MAJOR = 3
+VERSION_MAJOR = 4
 
 # THE TABLES, of 32-bit words: how many a row has, and where in it each stands.
 VERTEX_WORDS = 9
@@ -101,7 +107,8 @@ TRANSFER_HAS_EDGE_OUT = 38
 # Whoever asks for a chain.
 NO_CHAIN = 41
 LIST_TOO_SHORT = 42
-# A host that asks for a command by number.
+# A host that names an edition or a command by number.
+NO_SUCH_EDITION = 98
 NO_SUCH_COMMAND = 99
 
 TEXTS = {
@@ -133,6 +140,7 @@ TEXTS = {
     TRANSFER_HAS_EDGE_OUT: "the vertex that would get the edges has one already",
     NO_CHAIN: "no chain of held edges leads from the target back to the source",
     LIST_TOO_SHORT: "the chain has more vertices than the list has words",
+    NO_SUCH_EDITION: "no edition has this number",
     NO_SUCH_COMMAND: "no command has this number",
 }
 
@@ -216,6 +224,11 @@ class Stop(Answer):
     """The vertex is finished."""
 
 
+@dataclass(frozen=True)
+class Yield(Answer):
+    """The vertex is released, and starts again by a step when no edge leads in."""
+
+
 class Ending(enum.IntEnum):
     """How a run ended."""
 
@@ -231,6 +244,15 @@ class Run:
     ending: Ending
     last: Optional[Answer]
     taken: int
+
+
+class Edition(enum.IntEnum):
+    """How a fork is done. A program's bytes and the order of its jobs are the same in both."""
+
+    # The forking vertex makes a vertex for each branch and a third that goes on behind the fork, and stops: 3 vertices, 15 steps.
+    FIRST = 1
+    # It makes the two alone, with an edge from each onto itself, yields, and starts again when both have finished: 2 vertices, 12 steps.
+    SECOND = 2
 
 
 class Status(enum.IntEnum):
@@ -292,6 +314,7 @@ class Said(enum.IntEnum):
     NONE = 9
     VERTEX = 10
     CHAIN = 14
+    YIELD = 15
 
 
 class Do(enum.IntEnum):
@@ -303,6 +326,7 @@ class Do(enum.IntEnum):
     TRANSFER = 4
     START = 5
     STOP = 6
+    YIELD = 7
 
 
 _WORD = ctypes.c_uint32
@@ -313,10 +337,10 @@ _TABLES = [_WORDS, ctypes.c_size_t, _WORDS, ctypes.c_size_t, ctypes.POINTER(Tall
 # What each call answers and takes.
 _CALLS = {
     "keshtiwol_version": (_WORD, []),
-    "keshtiwol_load": (Reply, _PROGRAM + _TABLES),
-    "keshtiwol_step": (Reply, _PROGRAM + _TABLES + [_WORD]),
-    "keshtiwol_run": (RunReply, _PROGRAM + _TABLES + [_WORD]),
-    "keshtiwol_lowest": (Reply, _PROGRAM + _TABLES),
+    "keshtiwol_load": (Reply, _PROGRAM + _TABLES + [_WORD]),
+    "keshtiwol_step": (Reply, _PROGRAM + _TABLES + [_WORD, _WORD]),
+    "keshtiwol_run": (RunReply, _PROGRAM + _TABLES + [_WORD, _WORD]),
+    "keshtiwol_lowest": (Reply, _PROGRAM + _TABLES + [_WORD]),
     "keshtiwol_open": (Reply, _TABLES),
     "keshtiwol_command": (Reply, _TABLES + [_WORD, _WORD, _WORD, _WORD]),
     "keshtiwol_chain": (Reply, _TABLES + [_WORD, _WORD, _WORDS, ctypes.c_size_t]),
@@ -365,6 +389,7 @@ _ANSWERS = {
     Said.TRANSFER: Transfer,
     Said.JOB: Job,
     Said.STOP: Stop,
+    Said.YIELD: Yield,
 }
 
 # Of a host that tries vertices in turn: this one cannot step now.
@@ -453,25 +478,32 @@ class Graph:
 
 
 class Machine(Graph):
-    """A loaded program. One that the engine turns away is refused here: 1 to 8 and 43."""
+    """A loaded program, and the edition in which it was loaded and goes on. What the engine turns away is refused here: 1 to 8 and 43 for
+    the program, 98 for an edition's number."""
 
-    def __init__(self, program: Union[bytes, bytearray, memoryview]) -> None:
+    def __init__(self, program: Union[bytes, bytearray, memoryview], edition: int = Edition.FIRST) -> None:
         super().__init__()
         # By way of a memoryview, since bytes(5) would be five bytes.
         self._program = bytes(memoryview(program))
+        self._edition = _word(edition)
         _accepted(library.keshtiwol_load(*self._lent()))
 
     def _lent(self) -> tuple:
-        return (self._program, len(self._program), *self._tables())
+        return (self._program, len(self._program), *self._tables(), self._edition)
 
     @property
     def program(self) -> bytes:
         """The program's bytes."""
         return self._program
 
+    @property
+    def edition(self) -> Edition:
+        """The edition of all calls."""
+        return Edition(self._edition)
+
     def step(self, vertex: int) -> Answer:
         """One step of a vertex: starts a released one; an executing one does the next command of the item at its place. After `Job` run
-        that job, and step this vertex again when it has ended."""
+        that job, and step this vertex again when it has ended. After `Yield` a step starts it again when no edge leads in."""
         return _answer(library.keshtiwol_step(*self._lent(), _word(vertex)))
 
     def try_step(self, vertex: int) -> Optional[Answer]:
@@ -515,8 +547,8 @@ class Bare(Graph):
         return self._command(Do.NEW, caller, place, scope)
 
     def edge(self, caller: int, source: int, target: int) -> Answer:
-        """Adds an edge. From a finished source, or held already, it changes nothing. Where it would close a loop it is refused with 35, and
-        `chain` shows that loop."""
+        """Adds an edge onto a vertex that is new, released or the caller itself. From a finished source, or held already, it changes
+        nothing. Where it would close a loop it is refused with 35, and `chain` shows that loop."""
         return self._command(Do.EDGE, caller, source, target)
 
     def release(self, caller: int, vertex: int) -> Answer:
@@ -528,5 +560,9 @@ class Bare(Graph):
         return self._command(Do.TRANSFER, caller, vertex)
 
     def stop(self, caller: int) -> Answer:
-        """Finishes the caller and drops its edges out."""
+        """Finishes the caller and drops its edges out; those into it stay held."""
         return self._command(Do.STOP, caller)
+
+    def yield_(self, caller: int) -> Answer:
+        """Turns the caller released: it can start again when no edge leads in."""
+        return self._command(Do.YIELD, caller)

@@ -26,8 +26,8 @@ import keshtiwol
 import receiver
 from keshtiwol import (
     EDGE_WORDS, FUTURE, IN_COUNT, PHASE, ROWS, SOURCE, STATUS, STEP_LIMIT, VERTEX_WORDS,
-    Bare, Do, Edge, Ending, Job, Machine, New, Refusal, Release, Reply, Row, Run, RunReply, Said, Start, Status, Stop, Tally, Transfer,
-    library,
+    Bare, Do, Edge, Edition, Ending, Job, Machine, New, Refusal, Release, Reply, Row, Run, RunReply, Said, Start, Status, Stop, Tally,
+    Transfer, Yield, library,
 )
 
 HERE = os.path.dirname(os.path.realpath(__file__))
@@ -57,14 +57,14 @@ def steps(machine):
     return taken
 
 
-def jobs(program):
-    return [answer.number for _, answer in steps(Machine(program)) if isinstance(answer, Job)]
+def jobs(program, edition=Edition.FIRST):
+    return [answer.number for _, answer in steps(Machine(program, edition)) if isinstance(answer, Job)]
 
 
-def listing(program):
+def listing(program, edition=Edition.FIRST):
     """The lister's lines."""
     try:
-        machine = Machine(program)
+        machine = Machine(program, edition)
     except Refusal as refusal:
         return [f"refused {refusal.number} {refusal.place}"]
     taken = steps(machine)
@@ -165,6 +165,63 @@ class Examples(Case):
         self.assertGreater(done.attempted, 4)
 
 
+class SecondEdition(Case):
+    def test_the_listing_of_a_fork(self):
+        self.assertEqual(listing(FORK, Edition.SECOND), [
+            "vertices 4 jobs 3 steps 19",
+            "0 start", "0 new 2", "0 new 3", "0 edge 2 0", "0 edge 3 0", "0 release 2", "0 release 3", "0 yield",
+            "2 start", "2 job 1", "2 stop", "3 start", "3 job 2", "3 stop",
+            "0 start", "0 job 3", "0 stop", "1 start", "1 stop",
+        ])
+
+    def test_only_forks_differ(self):
+        for program, first, second in [("04 00 00 00", 19, 16), (FORK.hex(), 22, 19), ("04 04 00 00 00 04 00 00 00 00", 49, 40),
+                                       (LISTED.hex(), 21, 21), ("05 04 00 00 00 06 00 00", 34, 31)]:
+            for edition, count in [(Edition.FIRST, first), (Edition.SECOND, second), (1, first), (2, second)]:
+                machine = Machine(bytes.fromhex(program), edition)
+                self.assertIs(machine.edition, Edition(edition))
+                self.assertEqual(machine.run(STEP_LIMIT), Run(Ending.DONE, Stop(), count), program)
+                self.assertEqual((machine.steps, machine.held), (count, 0))
+        self.assertIs(Machine(FORK).edition, Edition.FIRST)
+        self.assertEqual(listing(LISTED, Edition.SECOND), listing(LISTED))
+        self.assertEqual(jobs(FORK, Edition.SECOND), jobs(FORK))
+
+    def test_as_many_forks_as_there_are_vertices_for(self):
+        most = bytes.fromhex("04 00 00" * 511 + "00")
+        self.assert_refused(keshtiwol.TOO_MANY_VERTICES, Machine, most)
+        machine = Machine(most, Edition.SECOND)
+        self.assertEqual(machine.run(STEP_LIMIT), Run(Ending.DONE, Stop(), 6136))
+        self.assertEqual(machine.made, ROWS)
+        self.assert_refused(keshtiwol.TOO_MANY_VERTICES, Machine, b"\2\0" + most, Edition.SECOND)
+
+    def test_rows_of_a_fork(self):
+        machine = Machine(FORK, Edition.SECOND)
+        machine.run(7)
+        self.assertEqual(machine.row(0), Row(Status.EXECUTING, 0, 1, 6, (2, 3, 0), 0, 2))
+        self.assertEqual(machine.edges(), [(0, 1), (2, 0), (3, 0)])
+        self.assertEqual(machine.step(0), Yield())
+        self.assertEqual(machine.row(0), Row(Status.RELEASED, 7, 1, 0, (0, 0, 0), 0, 2))
+        self.assertFalse(machine.may_start(0))
+        self.assert_refused(keshtiwol.EDGE_LEADS_IN, machine.step, 0)
+
+    def test_branches_that_finish_before_the_yield(self):
+        machine = Machine(FORK, Edition.SECOND)
+        machine.run(7)
+        said = [machine.step(vertex) for vertex in (3, 3, 3, 2, 2, 2)]
+        self.assertEqual(said, [Start(), Job(2, 4), Stop(), Start(), Job(1, 1), Stop()])
+        self.assertEqual([machine.step(0), machine.may_start(0), machine.step(0), machine.step(0)], [Yield(), True, Start(), Job(3, 7)])
+        self.assertEqual(machine.run(STEP_LIMIT), Run(Ending.DONE, Stop(), 3))
+
+    def test_numbers_that_no_edition_has(self):
+        for number in (0, 3, LARGEST):
+            self.assert_refused(keshtiwol.NO_SUCH_EDITION, Machine, FORK, number)
+            self.assert_refused(keshtiwol.NO_SUCH_EDITION, Machine, b"", number)  # before what is wrong with the program
+            machine = Machine(FORK)
+            machine._edition = number
+            for call, *values in [(machine.step, 0), (machine.run, 1), (machine.lowest,)]:
+                self.assert_refused(keshtiwol.NO_SUCH_EDITION, call, *values)
+
+
 class Programs(Case):
     def test_budgets(self):
         machine = Machine(LISTED)
@@ -263,8 +320,8 @@ class Programs(Case):
         self.assertEqual(machine.row(4), Row(Status.NEW, 4, 1, 0, (0, 0, 0), 2, 0))
 
     def test_which_vertices_may_start(self):
-        for program in (LISTED, FORK, bytes.fromhex("05 00 05 00 06 01 00")):
-            machine = Machine(program)
+        for program, edition in [(LISTED, 1), (FORK, 1), (FORK, 2), (bytes.fromhex("05 00 05 00 06 01 00"), 1)]:
+            machine = Machine(program, edition)
             while machine.lowest() is not None:
                 for vertex in range(machine.made):
                     self.assertEqual(machine.row(vertex).in_count, sum(target == vertex for _, target in machine.edges()))
@@ -330,17 +387,38 @@ class Commands(Case):
         self.assert_refused(keshtiwol.RELEASE_NOT_NEW, bare.release, 0, 1)
         self.assert_refused(keshtiwol.TRANSFER_NOT_NEW, bare.transfer, 0, 1)
         self.assertEqual(bare.edge(0, 2, 1), Edge(2, 1))
-        self.assert_refused(keshtiwol.TARGET_NOT_WAITING, bare.edge, 0, 1, 0)
         self.assert_refused(keshtiwol.EDGE_LEADS_IN, bare.start, 1)
         self.assert_refused(keshtiwol.VERTEX_IS_EXECUTING, bare.start, 0)
         self.assert_refused(keshtiwol.CALLER_NOT_EXECUTING, bare.stop, 1)
         self.assert_refused(keshtiwol.NO_SUCH_VERTEX, bare.edge, 0, 4, 1)
         self.assertEqual([bare.release(0, 2), bare.start(2), bare.transfer(2, 3)], [Release(2), Start(), Transfer(3)])
+        self.assert_refused(keshtiwol.TARGET_NOT_WAITING, bare.edge, 0, 1, 2)
         self.assertEqual(bare.edges(), [(3, 1)])
         self.assertEqual([bare.release(0, 3), bare.start(3), bare.stop(3)], [Release(3), Start(), Stop()])
         self.assert_refused(keshtiwol.VERTEX_IS_FINISHED, bare.start, 3)
+        self.assert_refused(keshtiwol.TARGET_NOT_WAITING, bare.edge, 0, 1, 3)
         self.assertEqual(bare.start(1), Start())
         self.assertEqual((bare.made, bare.held, bare.steps), (4, 0, 0))
+
+    def test_yields_and_edges_onto_the_caller(self):
+        bare = self.opened(3)
+        self.assert_refused(keshtiwol.CLOSES_CYCLE, bare.edge, 0, 0, 0)
+        self.assertEqual([bare.edge(0, 1, 0), bare.edge(0, 2, 0), bare.row(0).in_count], [Edge(1, 0), Edge(2, 0), 2])
+        self.assert_refused(keshtiwol.CLOSES_CYCLE, bare.edge, 0, 0, 1)
+        self.assertEqual([bare.release(0, 1), bare.release(0, 2), bare.yield_(0)], [Release(1), Release(2), Yield()])
+        self.assertEqual(bare.row(0), Row(Status.RELEASED, 0, 0, 0, (0, 0, 0), 0, 2))
+        self.assert_refused(keshtiwol.CALLER_NOT_EXECUTING, bare.yield_, 0)
+        self.assert_refused(keshtiwol.NO_SUCH_VERTEX, bare.yield_, 3)
+        self.assert_refused(keshtiwol.EDGE_LEADS_IN, bare.start, 0)
+        self.assertEqual([bare.start(1), bare.stop(1), bare.may_start(0)], [Start(), Stop(), False])
+        self.assertEqual([bare.start(2), bare.stop(2), bare.may_start(0), bare.start(0)], [Start(), Stop(), True, Start()])
+        self.assertEqual([bare.yield_(0), bare.start(0)], [Yield(), Start()])  # for nothing
+
+    def test_an_edge_into_a_finished_vertex_stays(self):
+        bare = self.opened(2)
+        self.assertEqual([bare.edge(0, 1, 0), bare.release(0, 1), bare.stop(0)], [Edge(1, 0), Release(1), Stop()])
+        self.assertEqual((bare.edges(), bare.row(0).in_count), ([(1, 0)], 1))
+        self.assertEqual([bare.start(1), bare.stop(1), bare.edges()], [Start(), Stop(), []])
 
     def test_altered_in_counts(self):
         bare = self.opened(2)
@@ -409,16 +487,19 @@ class OwnTables(unittest.TestCase):
         return (ctypes.c_uint32 * vertex_words)(*[77] * vertex_words), (ctypes.c_uint32 * edge_words)(*[77] * edge_words), Tally(9, 9, 9)
 
     def test_too_little_lent(self):
-        program = bytes.fromhex("02 00 00"), 3
-        few_vertices = self.tables(3 * VERTEX_WORDS - 1, 2 * EDGE_WORDS)
-        self.assert_refused(keshtiwol.TOO_FEW_VERTEX_ROWS, library.keshtiwol_load, program, *few_vertices)
-        few_edges = self.tables(3 * VERTEX_WORDS, 2 * EDGE_WORDS - 1)
-        self.assert_refused(keshtiwol.TOO_FEW_EDGE_ROWS, library.keshtiwol_load, program, *few_edges)
+        program = bytes.fromhex("04 00 00 00"), 4
+        for edition, rows in [(Edition.FIRST, 5), (Edition.SECOND, 4)]:
+            few_vertices = self.tables(rows * VERTEX_WORDS - 1, 3 * EDGE_WORDS)
+            self.assert_refused(keshtiwol.TOO_FEW_VERTEX_ROWS, library.keshtiwol_load, program, *few_vertices, edition)
+            few_edges = self.tables(rows * VERTEX_WORDS, 3 * EDGE_WORDS - 1)
+            self.assert_refused(keshtiwol.TOO_FEW_EDGE_ROWS, library.keshtiwol_load, program, *few_edges, edition)
+            vertices, edges, tally = self.tables(rows * VERTEX_WORDS, 3 * EDGE_WORDS)
+            self.assertEqual(library.keshtiwol_load(*program, vertices, len(vertices), edges, len(edges), tally, edition).said, Said.READY)
         self.assert_refused(keshtiwol.TOO_FEW_VERTEX_ROWS, library.keshtiwol_open, (), *self.tables(VERTEX_WORDS - 1, 0))
 
     def test_a_list_too_short_and_no_such_command(self):
         vertices, edges, tally = self.tables(2 * VERTEX_WORDS, EDGE_WORDS)
-        said = library.keshtiwol_load(b"\0", 1, vertices, len(vertices), edges, len(edges), tally).said
+        said = library.keshtiwol_load(b"\0", 1, vertices, len(vertices), edges, len(edges), tally, Edition.FIRST).said
         self.assertEqual(said, Said.READY)
         short = (ctypes.c_uint32 * 1)(77)
         self.assert_refused(keshtiwol.LIST_TOO_SHORT, library.keshtiwol_chain, (), vertices, edges, tally, 1, 0, short, 1)
@@ -427,6 +508,16 @@ class OwnTables(unittest.TestCase):
         self.assertEqual((reply.said, reply.first, list(enough)), (Said.CHAIN, 2, [0, 1, 77]))
         for number in (0, max(Do) + 1, LARGEST):
             self.assert_refused(keshtiwol.NO_SUCH_COMMAND, library.keshtiwol_command, (), vertices, edges, tally, number, 0, 0, 0)
+
+    def test_the_editions_mixed(self):
+        # Nothing is promised of both together, but each call still ends well: a fork has nine commands or seven.
+        machine = Machine(FORK)
+        machine.run(8)
+        self.assertEqual(machine.row(0).phase, 7)
+        program = FORK, len(FORK)
+        self.assert_refused(keshtiwol.NOTHING_STARTS, library.keshtiwol_step, program, machine._vertices, machine._edges, machine._tally,
+                            Edition.SECOND, 0)
+        self.assertEqual(machine.step(0), Release(2))
 
 
 class Values(Case):
@@ -453,8 +544,9 @@ class Values(Case):
         before = all_words(machine), all_words(bare)
         for call in [
             machine.step, machine.try_step, machine.run, lambda n: machine.chain(n, 0), lambda n: machine.chain(0, n),
-            bare.start, bare.stop, bare.new, lambda n: bare.new(0, n, 0), lambda n: bare.new(0, 0, n), lambda n: bare.edge(0, n, 0),
-            lambda n: bare.edge(0, 0, n), lambda n: bare.release(0, n), lambda n: bare.transfer(0, n),
+            lambda n: Machine(LISTED, n), bare.start, bare.stop, bare.yield_, bare.new, lambda n: bare.new(0, n, 0),
+            lambda n: bare.new(0, 0, n), lambda n: bare.edge(0, n, 0), lambda n: bare.edge(0, 0, n), lambda n: bare.release(0, n),
+            lambda n: bare.transfer(0, n),
         ]:
             for number in (-1, LARGEST + 1, 1 << 64):
                 with self.assertRaises(ValueError):
@@ -465,8 +557,8 @@ class Values(Case):
         self.assertEqual((all_words(machine), all_words(bare)), before)
 
     def test_answers(self):
-        self.assertEqual([str(answer) for answer in (Start(), New(2), Edge(3, 2), Release(4), Transfer(5), Job(6, 7), Stop())],
-                         ["start", "new 2", "edge 3 2", "release 4", "transfer 5", "job 6", "stop"])
+        self.assertEqual([str(answer) for answer in (Start(), New(2), Edge(3, 2), Release(4), Transfer(5), Job(6, 7), Stop(), Yield())],
+                         ["start", "new 2", "edge 3 2", "release 4", "transfer 5", "job 6", "stop", "yield"])
         self.assertNotEqual(New(2), Release(2))
         self.assertNotEqual(Start(), Stop())
         self.assertEqual(len({New(2), New(2), Transfer(2)}), 2)
@@ -507,9 +599,9 @@ class OneList(unittest.TestCase):
             factors = value.strip().replace("KESHTIWOL_", "").split(" * ")
             in_header[name] = math.prod(in_header[factor] if factor in in_header else int(factor) for factor in factors)
         here = [(name, value) for name, value in vars(keshtiwol).items() if name.isupper() and type(value) is int]
-        here.remove(("VERSION_MAJOR", 3))
-        for prefix, names in [("", Said), ("", Ending), ("VERTEX_", Status), ("DO_", Do)]:
-            here += [(prefix + name, int(value)) for name, value in names.__members__.items()]
+        here.remove(("VERSION_MAJOR", 4))
+        for prefix, names, suffix in [("", Said, ""), ("", Ending, ""), ("VERTEX_", Status, ""), ("", Edition, "_EDITION"), ("DO_", Do, "")]:
+            here += [(prefix + name + suffix, int(value)) for name, value in names.__members__.items()]
         self.assertEqual(len(here), len(in_header))
         self.assertEqual(dict(here), in_header)
 
@@ -519,7 +611,7 @@ class OneList(unittest.TestCase):
         numbers = dict(re.findall(r"KESHTIWOL_(\w+) = (\d+)", section[: section.index("};")]))
         wrapper = text_of("hosts", "rust", "keshtiwol", "src", "refusal.rs")
         words = dict(re.findall(r'^\s*([A-Z][A-Z_]*) => "(.*)",$', wrapper, re.MULTILINE))
-        self.assertEqual(len(keshtiwol.TEXTS), 29)
+        self.assertEqual(len(keshtiwol.TEXTS), 30)
         self.assertEqual(words.keys(), numbers.keys())
         self.assertEqual({int(number): words[name] for name, number in numbers.items()}, keshtiwol.TEXTS)
         self.assertEqual({name: getattr(keshtiwol, name) for name in numbers}, {name: int(number) for name, number in numbers.items()})
@@ -550,7 +642,7 @@ class OneList(unittest.TestCase):
 class TheLibrary(unittest.TestCase):
     """Where the module looks for the library, and what it says where there is none to use."""
 
-    FILE = "libkeshtiwol.so.3"
+    FILE = "libkeshtiwol.so.4"
 
     def setUp(self):
         # A repository of its own, and folders for other libraries beside it.
@@ -602,7 +694,7 @@ class TheLibrary(unittest.TestCase):
         self.copy_library(self.built)
         path = os.path.join(self.other, self.FILE)
         said = self.load(KESHTIWOL_LIB=self.other)
-        self.assertTrue(said.startswith(f"ImportError: no engine of version 3; looked for {path}: "), said)
+        self.assertTrue(said.startswith(f"ImportError: no engine of version 4; looked for {path}: "), said)
         self.assertIn("No such file", said)
 
     def test_none_anywhere(self):
@@ -611,22 +703,22 @@ class TheLibrary(unittest.TestCase):
             file.write("no library" * 100)
         built = os.path.join(self.built, self.FILE)
         said = self.load(LD_LIBRARY_PATH=self.other)
-        self.assertTrue(said.startswith(f"ImportError: no engine of version 3; looked for {built}, then for {self.FILE}: "), said)
+        self.assertTrue(said.startswith(f"ImportError: no engine of version 4; looked for {built}, then for {self.FILE}: "), said)
 
     def test_another_major_version(self):
-        for number, version in [(40506, "4.5.6"), (20304, "2.3.4"), (9999, "0.99.99")]:
+        for number, version in [(50607, "5.6.7"), (30405, "3.4.5"), (9999, "0.99.99")]:
             self.compile_library(self.other, f"unsigned keshtiwol_version(void) {{ return {number}; }}")
             path = os.path.join(self.other, self.FILE)
             said = self.load(KESHTIWOL_LIB=self.other)
-            self.assertEqual(said, f"ImportError: {path} is version {version} of the engine, and this module was written for version 3")
+            self.assertEqual(said, f"ImportError: {path} is version {version} of the engine, and this module was written for version 4")
 
     def test_a_library_without_a_call(self):
         path = os.path.join(self.other, self.FILE)
-        version = "unsigned keshtiwol_version(void) { return 30000; }"
+        version = "unsigned keshtiwol_version(void) { return 40000; }"
         for code, missing in [("int other;", "keshtiwol_version"), (version, "keshtiwol_load")]:
             self.compile_library(self.other, code)
             said = self.load(KESHTIWOL_LIB=self.other)
-            self.assertTrue(said.startswith(f"ImportError: no engine of version 3; looked for {path}: "), said)
+            self.assertTrue(said.startswith(f"ImportError: no engine of version 4; looked for {path}: "), said)
             self.assertTrue(said.endswith(f"undefined symbol: {missing}"), said)
 
 

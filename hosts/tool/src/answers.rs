@@ -1,6 +1,6 @@
 //! The answers that are plain text: the steps of a whole run, what a program holds and needs, a job's bytes, and the versions.
 
-use keshtiwol::{Answer, Lowest, Machine};
+use keshtiwol::{Answer, Edition, Lowest, Machine};
 
 use crate::hex;
 use crate::items::Counts;
@@ -25,7 +25,8 @@ pub fn versions() -> String {
 }
 
 /// A loaded program's items, and what it needs.
-pub fn summary(program: &[u8]) -> String {
+pub fn summary(machine: &Machine) -> String {
+    let (program, edition) = (machine.program(), machine.edition());
     let counts = Counts::of(program);
     let items = [
         counted(counts.jobs, "job", "jobs"),
@@ -36,13 +37,22 @@ pub fn summary(program: &[u8]) -> String {
         counted(counts.forces, "force", "forces"),
     ];
     format!(
-        "accepted: {} with {}\nneeds {}, {} and {}\n",
+        "accepted: {} with {}\nneeds {}, {} and {}{}\n",
         counted(program.len() as u32, "byte", "bytes"),
         items.join(", "),
-        counted(counts.vertices(), "vertex row", "vertex rows"),
+        counted(counts.vertices(edition), "vertex row", "vertex rows"),
         counted(counts.edge_rows(), "edge row", "edge rows"),
-        counted(counts.steps(), "step", "steps"),
+        counted(counts.steps(edition), "step", "steps"),
+        in_edition(edition),
     )
+}
+
+/// Behind what goes by the edition. The first, which is the usual one, is not told.
+pub fn in_edition(edition: Edition) -> &'static str {
+    match edition {
+        Edition::First => "",
+        Edition::Second => ", in the second edition",
+    }
 }
 
 /// The bytes of a job with this number.

@@ -3,6 +3,8 @@
 use std::ffi::OsString;
 use std::path::PathBuf;
 
+use keshtiwol::Edition;
+
 use crate::moment::Schedule;
 use crate::names::Names;
 
@@ -23,6 +25,7 @@ PROGRAM is one of
     --hex-file PATH               a file of such text
     --file PATH                   a file of the bytes themselves
 A PATH of - is the standard input, or behind -o the standard output.
+With --edition 2 its forks are done as in the second edition, without a third vertex; without it as in the first.
 
 OPTIONS of show, dot and svg
     --name JOB=WORDS    write WORDS where 'job JOB' would stand; may be given for several jobs
@@ -41,16 +44,22 @@ pub enum Request {
     Help,
     Version,
     Job(u32),
-    Show { source: Source, names: Names },
-    List(Source),
-    Check(Source),
-    Draw { source: Source, form: Form, schedule: Schedule, names: Names, out: Option<PathBuf> },
+    Show { program: Program, names: Names },
+    List(Program),
+    Check(Program),
+    Draw { program: Program, form: Form, schedule: Schedule, names: Names, out: Option<PathBuf> },
 }
 
 #[derive(Debug, PartialEq)]
 pub enum Form {
     Dot,
     Svg,
+}
+
+#[derive(Debug, PartialEq)]
+pub struct Program {
+    pub source: Source,
+    pub edition: Edition,
 }
 
 /// Where the program comes from.
@@ -67,6 +76,7 @@ pub enum Source {
 struct Given {
     texts: Vec<String>,
     file: Option<Source>,
+    edition: Option<Edition>,
     steps: Option<u64>,
     then: Option<Vec<u32>>,
     names: Names,
@@ -79,9 +89,9 @@ struct Given {
 fn options_of(command: &str) -> Option<&'static [&'static str]> {
     match command {
         "job" => Some(&[]),
-        "list" | "check" => Some(&["--file", "--hex-file"]),
-        "show" => Some(&["--file", "--hex-file", "--name"]),
-        "dot" | "svg" => Some(&["--file", "--hex-file", "--name", "--steps", "--then", "-o"]),
+        "list" | "check" => Some(&["--file", "--hex-file", "--edition"]),
+        "show" => Some(&["--file", "--hex-file", "--edition", "--name"]),
+        "dot" | "svg" => Some(&["--file", "--hex-file", "--edition", "--name", "--steps", "--then", "-o"]),
         _ => None,
     }
 }
@@ -118,6 +128,7 @@ impl Given {
         match option {
             "--file" => once(&mut self.file, "the program", Source::ByteFile(value()?.into()))?,
             "--hex-file" => once(&mut self.file, "the program", Source::TextFile(value()?.into()))?,
+            "--edition" => once(&mut self.edition, option, edition(&value()?.to_string_lossy())?)?,
             "--steps" => once(&mut self.steps, option, number(option, &value()?.to_string_lossy())?)?,
             "--then" => {
                 let vertices: Result<_, _> = value()?.to_string_lossy().split(',').map(|vertex| number(option, vertex)).collect();
@@ -146,15 +157,16 @@ impl Given {
             (None, true) => return Err(format!("{command} wants a program: hexadecimal text, --hex-file or --file")),
             (Some(_), false) => return Err(format!("the program is given twice, as a file and as text: '{}'", self.texts.join(" "))),
         };
+        let program = Program { source, edition: self.edition.unwrap_or_default() };
         let form = match command {
-            "show" => return Ok(Request::Show { source, names: self.names }),
-            "list" => return Ok(Request::List(source)),
-            "check" => return Ok(Request::Check(source)),
+            "show" => return Ok(Request::Show { program, names: self.names }),
+            "list" => return Ok(Request::List(program)),
+            "check" => return Ok(Request::Check(program)),
             "dot" => Form::Dot,
             _ => Form::Svg,
         };
         let schedule = Schedule::new(self.steps, self.then);
-        Ok(Request::Draw { source, form, schedule, names: self.names, out: self.out })
+        Ok(Request::Draw { program, form, schedule, names: self.names, out: self.out })
     }
 }
 
@@ -177,6 +189,11 @@ fn number<T: std::str::FromStr>(option: &str, text: &str) -> Result<T, String> {
     text.parse().map_err(|_| format!("{option}: '{text}' is no number, or too large"))
 }
 
+fn edition(text: &str) -> Result<Edition, String> {
+    let numbered = |edition: &Edition| u32::from(*edition).to_string() == text;
+    [Edition::First, Edition::Second].into_iter().find(numbered).ok_or(format!("--edition is 1 or 2, not '{text}'"))
+}
+
 fn name(text: &str) -> Result<(u32, String), String> {
     let (job, words) = text.split_once('=').ok_or(format!("--name wants JOB=WORDS, not '{text}'"))?;
     if words.trim().is_empty() {
@@ -197,13 +214,31 @@ mod tests {
         read(line.iter().map(OsString::from).collect())
     }
 
+    fn first(source: Source) -> Program {
+        Program { source, edition: Edition::First }
+    }
+
     #[test]
     fn programs() {
-        assert_eq!(read_line(&["list", "03", "0201", "05"]), Ok(Request::List(Source::Text("03 0201 05".into()))));
-        assert_eq!(read_line(&["list", ""]), Ok(Request::List(Source::Text("".into()))));
-        assert_eq!(read_line(&["check", "--file", "-"]), Ok(Request::Check(Source::ByteFile("-".into()))));
+        assert_eq!(read_line(&["list", "03", "0201", "05"]), Ok(Request::List(first(Source::Text("03 0201 05".into())))));
+        assert_eq!(read_line(&["list", ""]), Ok(Request::List(first(Source::Text("".into())))));
+        assert_eq!(read_line(&["check", "--file", "-"]), Ok(Request::Check(first(Source::ByteFile("-".into())))));
         // What stands behind an option is its value, whatever it looks like.
-        assert_eq!(read_line(&["check", "--hex-file", "--file"]), Ok(Request::Check(Source::TextFile("--file".into()))));
+        assert_eq!(read_line(&["check", "--hex-file", "--file"]), Ok(Request::Check(first(Source::TextFile("--file".into())))));
+    }
+
+    #[test]
+    fn editions() {
+        for (number, edition) in [("1", Edition::First), ("2", Edition::Second)] {
+            let program = || Program { source: Source::Text("00".into()), edition };
+            assert_eq!(read_line(&["list", "--edition", number, "00"]), Ok(Request::List(program())));
+            assert_eq!(read_line(&["check", "00", "--edition", number]), Ok(Request::Check(program())));
+            assert_eq!(read_line(&["show", "00", "--edition", number]), Ok(Request::Show { program: program(), names: Names::new() }));
+            for command in ["dot", "svg"] {
+                let Ok(Request::Draw { program: drawn, .. }) = read_line(&[command, "--edition", number, "00"]) else { panic!() };
+                assert_eq!(drawn, program());
+            }
+        }
     }
 
     #[test]
@@ -212,7 +247,7 @@ mod tests {
         assert_eq!(
             read_line(&line),
             Ok(Request::Draw {
-                source: Source::Text("00".into()),
+                program: first(Source::Text("00".into())),
                 form: Form::Svg,
                 schedule: Schedule { lowest_first: Some(17), then: vec![4, 5] },
                 names: Names::from([(17, "a=b".into()), (18, "filter 2".into())]),
@@ -229,7 +264,8 @@ mod tests {
         assert_eq!(read_line(&["job", "14074000"]), Ok(Request::Job(14_074_000)));
         assert_eq!(read_line(&["job", "4294967295"]), Ok(Request::Job(u32::MAX)));
         let names = Names::from([(17, "filter 1".into())]);
-        assert_eq!(read_line(&["show", "--name", "17=filter 1", "00"]), Ok(Request::Show { source: Source::Text("00".into()), names }));
+        let program = first(Source::Text("00".into()));
+        assert_eq!(read_line(&["show", "--name", "17=filter 1", "00"]), Ok(Request::Show { program, names }));
     }
 
     #[test]
@@ -240,7 +276,7 @@ mod tests {
 
     #[test]
     fn mistakes() {
-        let lines: [(&[&str], &str); 26] = [
+        let lines: [(&[&str], &str); 30] = [
             (&[], "a command is missing"),
             (&["draw", "00"], "there is no command 'draw'"),
             (&["list"], "list wants a program"),
@@ -259,6 +295,10 @@ mod tests {
             (&["job", "14,074,000"], "a job's number is one of 0 to 4294967295, not '14,074,000'"),
             (&["job", "-1"], "there is no option '-1'"),
             (&["job", "--file", "a"], "job takes no --file"),
+            (&["job", "--edition", "2"], "job takes no --edition"),
+            (&["list", "--edition", "3", "00"], "--edition is 1 or 2, not '3'"),
+            (&["list", "--edition", "second", "00"], "--edition is 1 or 2, not 'second'"),
+            (&["list", "--edition", "2", "--edition", "2", "00"], "--edition is given twice"),
             (&["svg", "--steps=3", "00"], "there is no option '--steps=3'"),
             (&["svg", "--steps", "-3", "00"], "--steps: '-3' is no number"),
             (&["svg", "--steps", "3", "--steps", "3", "00"], "--steps is given twice"),

@@ -2,11 +2,11 @@
 
 use std::ops::Range;
 
-use keshtiwol::{refusal, Refusal, PROGRAM_BYTES};
+use keshtiwol::{refusal, Edition, Refusal, PROGRAM_BYTES, ROWS};
 
 use crate::bodies::Open;
 use crate::hex;
-use crate::items::{items, Counts};
+use crate::items::{items, vertices_of_fork, Counts};
 use crate::number;
 
 /// Programs up to this length are shown whole, of longer ones as many bytes.
@@ -22,13 +22,13 @@ const BYTES_OF_A_FORCE: &str = "'keshtiwol job NUMBER' tells a job's bytes; a fo
 const WHERE_FUTURES_ARE_OPEN: &str =
     "A future is open behind its item, to the end of the body in which the item stands, and not in its own body.";
 
-pub fn explain(program: &[u8], refusal: Refusal) -> String {
+pub fn explain(program: &[u8], edition: Edition, refusal: Refusal) -> String {
     let words = format!("the program is refused with {}: {}", refusal.number, refusal::text(refusal.number));
     let shown = match refusal.number {
         refusal::NUMBER_MALFORMED..=refusal::JOB_TOO_LARGE | refusal::NO_SUCH_FUTURE => marked(program, refusal.place as usize),
         _ => "    This is about the whole program, and not about one of its bytes.\n".to_string(),
     };
-    format!("{words}\n\n{shown}\n{}", advice(program, refusal))
+    format!("{words}\n\n{shown}\n{}", advice(program, edition, refusal))
 }
 
 /// The bytes around a place, their offsets, and a mark under the byte at the place. One past the last byte there is none.
@@ -53,7 +53,7 @@ fn window(length: usize, place: usize) -> Range<usize> {
 }
 
 /// What to look for.
-fn advice(program: &[u8], refusal: Refusal) -> String {
+fn advice(program: &[u8], edition: Edition, refusal: Refusal) -> String {
     let place = refusal.place as usize;
     match refusal.number {
         refusal::LENGTH_OUTSIDE if program.is_empty() => "It has no bytes. The shortest program is 00, an end byte alone.".to_string(),
@@ -72,21 +72,25 @@ fn advice(program: &[u8], refusal: Refusal) -> String {
             format!("The {}'s number is {}.", of_number(program, place - 1).0, whole_number(program, place))
         }
         refusal::NO_SUCH_FUTURE => no_such_future(program, place),
-        refusal::TOO_MANY_VERTICES => {
-            let counts = Counts::of(program);
-            format!(
-                "It would make {}: 2, and 1 for each of {} asyncs, 2 for each of {} finishes, 3 for each of {} forks, \
-                2 for each of {} futures, 1 for each of {} forces.",
-                counts.vertices(),
-                counts.asyncs,
-                counts.finishes,
-                counts.forks,
-                counts.futures,
-                counts.forces
-            )
-        }
+        refusal::TOO_MANY_VERTICES => too_many_vertices(&Counts::of(program), edition),
         _ => "The tables that this tool lends are large enough for every program, so this is a mistake of the tool.".to_string(),
     }
+}
+
+/// What makes the vertices, and whether they are few enough in the second edition.
+fn too_many_vertices(counts: &Counts, edition: Edition) -> String {
+    let Counts { asyncs, finishes, forks, futures, forces, .. } = counts;
+    let in_second = counts.vertices(Edition::Second);
+    let tip = match edition {
+        Edition::First if in_second as usize <= ROWS => format!("\nIn the second edition it makes {in_second}, and loads: --edition 2."),
+        _ => String::new(),
+    };
+    format!(
+        "It would make {}: 2, and 1 for each of {asyncs} asyncs, 2 for each of {finishes} finishes, {} for each of {forks} forks, \
+        2 for each of {futures} futures, 1 for each of {forces} forces.{tip}",
+        counts.vertices(edition),
+        vertices_of_fork(edition)
+    )
 }
 
 /// What the item is that starts at a place and has a number, and how to find its bytes.
@@ -176,7 +180,11 @@ mod tests {
     use keshtiwol::Machine;
 
     fn explained(program: &[u8]) -> String {
-        explain(program, Machine::load(program).unwrap_err())
+        explained_in(Edition::First, program)
+    }
+
+    fn explained_in(edition: Edition, program: &[u8]) -> String {
+        explain(program, edition, Machine::load_in(program, edition).unwrap_err())
     }
 
     /// Each line with a mark, and the line above it.
@@ -250,6 +258,22 @@ mod tests {
             assert_eq!(text.contains("^^"), has_place, "{text}");
             assert_eq!(text.contains("not about one of its bytes"), !has_place, "{text}");
         }
+    }
+
+    #[test]
+    fn too_many_forks() {
+        let forks = |count| [[4, 0, 0].repeat(count), vec![0]].concat();
+        let counted = |vertices, of_fork, forks| {
+            format!(
+                "It would make {vertices}: 2, and 1 for each of 0 asyncs, 2 for each of 0 finishes, {of_fork} for each of {forks} forks, \
+                2 for each of 0 futures, 1 for each of 0 forces."
+            )
+        };
+        let tip = "\nIn the second edition it makes 1024, and loads: --edition 2.";
+        assert_eq!(advised(&forks(511)), counted(1535, 3, 511) + tip);
+        assert!(Machine::load_in(&forks(511), Edition::Second).is_ok());
+        assert_eq!(advised(&forks(512)), counted(1538, 3, 512));
+        assert!(explained_in(Edition::Second, &forks(512)).ends_with(&counted(1026, 2, 512)));
     }
 
     #[test]

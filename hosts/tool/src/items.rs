@@ -3,6 +3,8 @@
 
 use std::ops::Range;
 
+use keshtiwol::Edition;
+
 use crate::number;
 
 /// What starts at a place: an item, or a body's end byte.
@@ -33,12 +35,13 @@ impl Item {
     }
 
     /// How many steps a vertex takes for it.
-    pub fn commands(self) -> u32 {
+    pub fn commands(self, edition: Edition) -> u32 {
         match self {
             Item::End | Item::Job(_) => 1,
             Item::Async => 3,
             Item::Finish => 6,
-            Item::Fork => 9,
+            Item::Fork if edition == Edition::First => 9,
+            Item::Fork => 7,
             Item::Future => 5,
             Item::Force(_) => 4,
         }
@@ -88,16 +91,28 @@ impl Counts {
 
     // The formulas are those of include/keshtiwol.h, "How much to lend".
 
-    pub fn vertices(&self) -> u32 {
-        2 + self.asyncs + 2 * self.finishes + 3 * self.forks + 2 * self.futures + self.forces
+    pub fn vertices(&self, edition: Edition) -> u32 {
+        2 + self.asyncs + 2 * self.finishes + vertices_of_fork(edition) * self.forks + 2 * self.futures + self.forces
     }
 
     pub fn edge_rows(&self) -> u32 {
         1 + self.asyncs + self.finishes + 2 * self.forks + self.futures + self.forces
     }
 
-    pub fn steps(&self) -> u32 {
-        4 + self.jobs + 5 * self.asyncs + 10 * self.finishes + 15 * self.forks + 9 * self.futures + 6 * self.forces
+    pub fn steps(&self, edition: Edition) -> u32 {
+        let of_fork = match edition {
+            Edition::First => 15,
+            Edition::Second => 12,
+        };
+        4 + self.jobs + 5 * self.asyncs + 10 * self.finishes + of_fork * self.forks + 9 * self.futures + 6 * self.forces
+    }
+}
+
+/// How many vertices each fork makes.
+pub fn vertices_of_fork(edition: Edition) -> u32 {
+    match edition {
+        Edition::First => 3,
+        Edition::Second => 2,
     }
 }
 
@@ -105,6 +120,8 @@ impl Counts {
 mod tests {
     use super::*;
     use keshtiwol::{Ending, Machine, EDGE_WORDS, STEP_LIMIT, VERTEX_WORDS};
+
+    const EDITIONS: [Edition; 2] = [Edition::First, Edition::Second];
 
     // A job of five bytes, whose number's bytes look like items; a fork of an async and a finish; a future of job 5 and a force of it; job 3.
     const PROGRAM: [u8; 24] = [1, 0x84, 0x83, 0x82, 0x81, 4, 4, 2, 1, 2, 0, 0, 3, 0, 0, 5, 1, 5, 0, 6, 0, 1, 3, 0];
@@ -147,24 +164,23 @@ mod tests {
     fn the_engine_agrees() {
         let program = &PROGRAM;
         let counts = Counts::of(program);
-        let mut machine = Machine::load(program).unwrap();
-        let run = machine.run(STEP_LIMIT);
-        assert_eq!((run.ending, run.taken, machine.tally().made), (Ending::Done, counts.steps(), counts.vertices()));
+        for edition in EDITIONS {
+            let mut machine = Machine::load_in(program, edition).unwrap();
+            let run = machine.run(STEP_LIMIT);
+            assert_eq!((run.ending, run.taken, machine.tally().made), (Ending::Done, counts.steps(edition), counts.vertices(edition)));
 
-        let (mut vertices, mut edges, mut tally) = ([0; VERTEX_WORDS * 32], [0; EDGE_WORDS * 32], keshtiwol::Tally::default());
-        let rows = (VERTEX_WORDS * counts.vertices() as usize, EDGE_WORDS * counts.edge_rows() as usize);
-        let mut load = |v: usize, e: usize| keshtiwol::load(program, &mut vertices[..v], &mut edges[..e], &mut tally);
-        assert_eq!(load(rows.0, rows.1), keshtiwol::Answer::Ready);
-        assert_eq!(load(rows.0 - 1, rows.1), keshtiwol::Answer::Refused { number: 10, place: 0 });
-        assert_eq!(load(rows.0, rows.1 - 1), keshtiwol::Answer::Refused { number: 11, place: 0 });
+            let (mut vertices, mut edges, mut tally) = ([0; VERTEX_WORDS * 32], [0; EDGE_WORDS * 32], keshtiwol::Tally::default());
+            let rows = (VERTEX_WORDS * counts.vertices(edition) as usize, EDGE_WORDS * counts.edge_rows() as usize);
+            let mut load = |v: usize, e: usize| keshtiwol::load(program, &mut vertices[..v], &mut edges[..e], &mut tally, edition);
+            assert_eq!(load(rows.0, rows.1), keshtiwol::Answer::Ready);
+            assert_eq!(load(rows.0 - 1, rows.1), keshtiwol::Answer::Refused { number: 10, place: 0 });
+            assert_eq!(load(rows.0, rows.1 - 1), keshtiwol::Answer::Refused { number: 11, place: 0 });
+        }
     }
 
     #[test]
     fn steps_are_the_commands_of_the_items() {
-        // A start and a stop for each vertex made, and the items' commands.
-        let only = |counts: Counts| (counts.steps(), counts.vertices());
-        let nothing = only(Counts::default());
-        assert_eq!(nothing, (4, 2));
+        // A start and a stop for each vertex made, the items' commands, and another start behind a yield.
         let one = [
             (Item::Async, Counts { asyncs: 1, ..Counts::default() }),
             (Item::Finish, Counts { finishes: 1, ..Counts::default() }),
@@ -172,9 +188,12 @@ mod tests {
             (Item::Future, Counts { futures: 1, ..Counts::default() }),
             (Item::Force(0), Counts { forces: 1, ..Counts::default() }),
         ];
-        for (item, counts) in one {
-            let (steps, vertices) = only(counts);
-            assert_eq!(steps, 2 * vertices + item.commands());
+        for edition in EDITIONS {
+            assert_eq!((Counts::default().steps(edition), Counts::default().vertices(edition)), (4, 2));
+            for (item, counts) in &one {
+                let started_again = u32::from((*item, edition) == (Item::Fork, Edition::Second));
+                assert_eq!(counts.steps(edition), 2 * counts.vertices(edition) + item.commands(edition) + started_again);
+            }
         }
     }
 }

@@ -23,7 +23,7 @@ use std::io::{self, Read, Write};
 use std::path::{Path, PathBuf};
 use std::process::ExitCode;
 
-use arguments::{Form, Request, Source};
+use arguments::{Form, Program, Request, Source};
 use keshtiwol::{Machine, PROGRAM_BYTES};
 use moment::Moment;
 use picture::Picture;
@@ -58,11 +58,11 @@ fn answer(arguments: Vec<OsString>) -> Result<(), Failure> {
         Request::Help => write(None, arguments::HELP),
         Request::Version => write(None, &answers::versions()),
         Request::Job(number) => write(None, &answers::job(number)),
-        Request::Show { source, names } => write(None, &outline::outline(load(&source)?.program(), &names)),
-        Request::List(source) => write(None, &answers::listing(load(&source)?)),
-        Request::Check(source) => write(None, &answers::summary(load(&source)?.program())),
-        Request::Draw { source, form, schedule, names, out } => {
-            let moment = Moment::reach(load(&source)?, &schedule).map_err(|step| Failure::Refused(step.to_string()))?;
+        Request::Show { program, names } => write(None, &outline::outline(load(&program)?.program(), &names)),
+        Request::List(program) => write(None, &answers::listing(load(&program)?)),
+        Request::Check(program) => write(None, &answers::summary(&load(&program)?)),
+        Request::Draw { program, form, schedule, names, out } => {
+            let moment = Moment::reach(load(&program)?, &schedule).map_err(|step| Failure::Refused(step.to_string()))?;
             let picture = Picture::of(&moment, &names);
             let text = match form {
                 Form::Dot => dot::dot(&picture),
@@ -73,14 +73,14 @@ fn answer(arguments: Vec<OsString>) -> Result<(), Failure> {
     }
 }
 
-fn load(source: &Source) -> Result<Machine, Failure> {
-    let program = match source {
+fn load(program: &Program) -> Result<Machine, Failure> {
+    let bytes = match &program.source {
         Source::Text(text) => from_text(text)?,
         Source::TextFile(path) => from_text(&text_of(path)?)?,
         // One byte more than a program may have, so that a longer file is refused and an endless one is not read on.
         Source::ByteFile(path) => read(path, PROGRAM_BYTES + 1)?,
     };
-    Machine::load(&program).map_err(|refusal| Failure::Refused(explain::explain(&program, refusal)))
+    Machine::load_in(&bytes, program.edition).map_err(|refusal| Failure::Refused(explain::explain(&bytes, program.edition, refusal)))
 }
 
 fn from_text(text: &str) -> Result<Vec<u8>, Failure> {

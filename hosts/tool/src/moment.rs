@@ -1,6 +1,6 @@
 //! The moment that a picture shows: a loaded program after some of its steps.
 
-use std::collections::BTreeMap;
+use std::collections::{BTreeMap, BTreeSet};
 use std::fmt;
 
 use keshtiwol::{refusal, Answer, Lowest, Machine, STEP_LIMIT};
@@ -27,6 +27,8 @@ pub struct Moment {
     pub machine: Machine,
     /// The vertices whose last step named a job, and its number: the host runs it until it steps the vertex again.
     pub jobs: BTreeMap<u32, u32>,
+    /// The vertices whose last step was a yield: they are released, and have started before.
+    pub yielded: BTreeSet<u32>,
     /// How many steps the whole program takes.
     pub all_steps: u32,
 }
@@ -45,7 +47,7 @@ impl Moment {
     pub fn reach(machine: Machine, schedule: &Schedule) -> Result<Moment, RefusedStep> {
         let lowest_first = schedule.lowest_first.unwrap_or_else(|| steps_to_most_edges(machine.clone()));
         let all_steps = machine.clone().run(STEP_LIMIT).taken;
-        let mut moment = Moment { machine, jobs: BTreeMap::new(), all_steps };
+        let mut moment = Moment { machine, jobs: BTreeMap::new(), yielded: BTreeSet::new(), all_steps };
         for _ in 0..lowest_first {
             let Lowest::Vertex(vertex) = moment.machine.lowest() else { break };
             moment.step(vertex)?;
@@ -57,11 +59,21 @@ impl Moment {
     }
 
     fn step(&mut self, vertex: u32) -> Result<(), RefusedStep> {
-        match self.machine.step(vertex) {
-            Answer::Refused { number, .. } => return Err(RefusedStep { vertex, step: self.machine.tally().steps + 1, number }),
-            Answer::Job { number, .. } => self.jobs.insert(vertex, number),
-            _ => self.jobs.remove(&vertex),
-        };
+        let answer = self.machine.step(vertex);
+        if let Answer::Refused { number, .. } = answer {
+            return Err(RefusedStep { vertex, step: self.machine.tally().steps + 1, number });
+        }
+        self.jobs.remove(&vertex);
+        self.yielded.remove(&vertex);
+        match answer {
+            Answer::Job { number, .. } => {
+                self.jobs.insert(vertex, number);
+            }
+            Answer::Yield => {
+                self.yielded.insert(vertex);
+            }
+            _ => {}
+        }
         Ok(())
     }
 }
@@ -86,6 +98,7 @@ impl fmt::Display for RefusedStep {
 #[cfg(test)]
 mod tests {
     use super::*;
+    use keshtiwol::Edition;
 
     // fork { job 1 } { job 2 }, then job 3
     const FORK: [u8; 10] = [4, 1, 1, 0, 1, 2, 0, 1, 3, 0];
@@ -122,6 +135,14 @@ mod tests {
         let one = reach(Some(11), Some(vec![3, 3, 2, 2, 3])).unwrap();
         assert_eq!(one.jobs, BTreeMap::from([(2, 1)]));
         assert_eq!(reach(None, Some(vec![0])).unwrap().machine.tally().steps, 1);
+    }
+
+    #[test]
+    fn yielded_until_they_start_again() {
+        let reach = |steps| Moment::reach(Machine::load_in(&FORK, Edition::Second).unwrap(), &Schedule::new(Some(steps), None)).unwrap();
+        let yielded: Vec<_> = (0..=19).filter(|&steps| reach(steps).yielded.contains(&0)).collect();
+        assert_eq!(yielded, [8, 9, 10, 11, 12, 13, 14]);
+        assert_eq!(reach(8).all_steps, 19);
     }
 
     #[test]

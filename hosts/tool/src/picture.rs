@@ -2,6 +2,7 @@
 
 use keshtiwol::{EDGE_WORDS, PHASE, PLACE, SOURCE, STATUS, TARGET, VERTEX_WORDS};
 
+use crate::answers::in_edition;
 use crate::hex;
 use crate::items::Item;
 use crate::moment::Moment;
@@ -32,30 +33,34 @@ impl Picture {
         let rows = machine.vertices().chunks(VERTEX_WORDS).zip(0..);
         let edges = machine.edges().chunks(EDGE_WORDS);
         Picture {
-            title: format!("After {} of {} steps", machine.tally().steps, moment.all_steps),
+            title: format!("After {} of {} steps{}", machine.tally().steps, moment.all_steps, in_edition(machine.edition())),
             program: match program.len() {
                 0..=SHOWN_BYTES => format!("bytes {}", hex::text(program)),
                 length => format!("a program of {length} bytes"),
             },
-            vertices: rows.map(|(row, number)| vertex(number, row, moment.jobs.get(&number), program, names)).collect(),
+            vertices: rows.map(|(row, number)| vertex(number, row, moment, names)).collect(),
             edges: edges.map(|row| (row[SOURCE] as usize, row[TARGET] as usize)).collect(),
         }
     }
 }
 
-fn vertex(number: u32, row: &[u32], job: Option<&u32>, program: &[u8], names: &Names) -> Vertex {
+fn vertex(number: u32, row: &[u32], moment: &Moment, names: &Names) -> Vertex {
+    let machine = &moment.machine;
     let status = Status::of(row[STATUS]);
     let mut lines = vec![format!("vertex {number}: {}", status.word())];
-    if let Some(&job) = job {
+    if let Some(&job) = moment.jobs.get(&number) {
         lines.push(format!("runs {}", words(Item::Job(job), names)));
     }
     let (place, phase) = (row[PLACE], row[PHASE]);
-    let item = Item::at(program, place as usize);
+    let item = Item::at(machine.program(), place as usize);
     let name = words(item, names);
     match status {
+        Status::Released if moment.yielded.contains(&number) => lines.push(format!("has yielded; next: {name} (byte {place})")),
         Status::New | Status::Released => lines.push(format!("first: {name} (byte {place})")),
         Status::Executing if phase == 0 => lines.push(format!("next: {name} (byte {place})")),
-        Status::Executing => lines.push(format!("in {name} (byte {place}), {phase} of {} done", item.commands())),
+        Status::Executing => {
+            lines.push(format!("in {name} (byte {place}), {phase} of {} done", item.commands(machine.edition())));
+        }
         Status::Finished => {}
     }
     Vertex { status, lines }
@@ -65,7 +70,7 @@ fn vertex(number: u32, row: &[u32], job: Option<&u32>, program: &[u8], names: &N
 mod tests {
     use super::*;
     use crate::moment::Schedule;
-    use keshtiwol::Machine;
+    use keshtiwol::{Edition, Machine};
 
     fn picture(program: &[u8], steps: u64, then: &[u32], names: &Names) -> Picture {
         let schedule = Schedule::new(Some(steps), Some(then.to_vec()));
@@ -114,6 +119,32 @@ mod tests {
                 "vertex 4: executing; runs filter; next: end (byte 4)"
             ]
         );
+    }
+
+    // fork { job 1 } { job 2 }, then job 3
+    const FORK: [u8; 10] = [4, 1, 1, 0, 1, 2, 0, 1, 3, 0];
+
+    #[test]
+    fn forks_by_the_edition() {
+        let after = |edition, steps| {
+            let machine = Machine::load_in(&FORK, edition).unwrap();
+            Picture::of(&Moment::reach(machine, &Schedule::new(Some(steps), None)).unwrap(), &Names::new())
+        };
+        assert_eq!(lines(&after(Edition::First, 6))[0], "vertex 0: executing; in fork (byte 0), 5 of 9 done");
+        assert_eq!(lines(&after(Edition::Second, 6))[0], "vertex 0: executing; in fork (byte 0), 5 of 7 done");
+        let yielded = after(Edition::Second, 8);
+        assert_eq!(yielded.title, "After 8 of 19 steps, in the second edition");
+        assert_eq!(
+            lines(&yielded),
+            [
+                "vertex 0: released; has yielded; next: job 3 (byte 7)",
+                "vertex 1: released; first: end (byte 9)",
+                "vertex 2: released; first: job 1 (byte 1)",
+                "vertex 3: released; first: job 2 (byte 4)"
+            ]
+        );
+        assert_eq!(yielded.edges, [(0, 1), (2, 0), (3, 0)]);
+        assert_eq!(lines(&after(Edition::Second, 15))[0], "vertex 0: executing; next: job 3 (byte 7)");
     }
 
     #[test]

@@ -5,6 +5,7 @@ use std::time::{Duration, Instant};
 
 use bench::bare;
 use bench::side::{Do, Engine, Paper, Side};
+use keshtiwol::Edition;
 
 const ROUNDS: usize = 11;
 const ROUND: Duration = Duration::from_millis(20);
@@ -49,7 +50,14 @@ struct Timed {
     run: [f64; 2],
 }
 
-fn program(program: &[u8]) -> Timed {
+/// Which program, in which edition.
+#[derive(Clone, Copy)]
+struct Program<'a> {
+    bytes: &'a [u8],
+    edition: Edition,
+}
+
+fn program(program: Program) -> Timed {
     let (mut engine, mut paper) = (Engine::new(), Paper::new());
     let order = lowest_first(&mut engine, program);
     assert_eq!(order, lowest_first(&mut paper, program));
@@ -60,26 +68,26 @@ fn program(program: &[u8]) -> Timed {
 }
 
 /// The vertices that a run steps, in order.
-fn lowest_first(side: &mut impl Side, program: &[u8]) -> Vec<u32> {
-    side.load(program);
+fn lowest_first(side: &mut impl Side, Program { bytes, edition }: Program) -> Vec<u32> {
+    side.load(bytes, edition);
     let mut order = Vec::new();
-    while let Some(vertex) = side.lowest(program) {
-        side.step(program, vertex).unwrap();
+    while let Some(vertex) = side.lowest(bytes, edition) {
+        side.step(bytes, edition, vertex).unwrap();
         order.push(vertex);
     }
     order
 }
 
-fn load_and_step(side: &mut impl Side, program: &[u8], order: &[u32]) {
-    side.load(program);
+fn load_and_step(side: &mut impl Side, Program { bytes, edition }: Program, order: &[u32]) {
+    side.load(bytes, edition);
     for &vertex in order {
-        side.step(program, vertex).unwrap();
+        side.step(bytes, edition, vertex).unwrap();
     }
 }
 
-fn load_and_run(side: &mut impl Side, program: &[u8], steps: usize) {
-    side.load(program);
-    assert_eq!(side.run(program) as usize, steps);
+fn load_and_run(side: &mut impl Side, Program { bytes, edition }: Program, steps: usize) {
+    side.load(bytes, edition);
+    assert_eq!(side.run(bytes, edition) as usize, steps);
 }
 
 /// A chain of 1,023 edges from vertex 0 on, its edges made front to back or back to front.
@@ -143,7 +151,7 @@ fn thousands(number: usize) -> String {
 
 fn row(cells: [String; 9]) {
     let [name, bytes, steps, rest @ ..] = cells;
-    print!("| {name:<16} | {bytes:>5} | {steps:>5} |");
+    print!("| {name:<25} | {bytes:>5} | {steps:>5} |");
     for cell in rest {
         print!(" {cell:>12} |");
     }
@@ -160,22 +168,30 @@ fn main() {
     let mut programs = Vec::new();
     for (name, item, times) in repeats {
         for times in [times / 2, times] {
-            programs.push((format!("{} {name}", thousands(times)), repeated(item, times)));
+            programs.push((format!("{} {name}", thousands(times)), repeated(item, times), Edition::First));
         }
     }
-    // Jobs whose numbers have five bytes.
-    programs.push(("682 retunes".into(), repeated(&[1, 0xA0, 0xD1, 0xA5, 0xD5, 0x0C], 682)));
-    // In turn a future with a job in its body, its force, and a job behind that.
-    programs.push(("200 futures".into(), repeated(&[5, 1, 5, 0, 6, 0, 1, 5], 200)));
-    programs.push(("nesting 31 deep".into(), [[2].repeat(31), [0].repeat(32)].concat()));
-    programs.push(("mixed".into(), compare::programs::mixed()));
+    // As many forks as the first edition loads, and as many as the second does.
+    for times in [340, 511] {
+        programs.push((format!("{times} forks, second edition"), compare::programs::empty_forks(times), Edition::Second));
+    }
+    let others = [
+        // Jobs whose numbers have five bytes.
+        ("682 retunes", repeated(&[1, 0xA0, 0xD1, 0xA5, 0xD5, 0x0C], 682)),
+        // In turn a future with a job in its body, its force, and a job behind that.
+        ("200 futures", repeated(&[5, 1, 5, 0, 6, 0, 1, 5], 200)),
+        ("nesting 31 deep", [[2].repeat(31), [0].repeat(32)].concat()),
+        ("mixed", compare::programs::mixed()),
+    ];
+    programs.extend(others.map(|(name, bytes)| (name.into(), bytes, Edition::First)));
 
-    println!("Nanoseconds per step, load counted in; the median of {ROUNDS} rounds. Ratio: engine / paper.\n");
+    println!("Nanoseconds per step, load counted in; the median of {ROUNDS} rounds. Ratio: engine / paper. In the first edition but where");
+    println!("another is named.\n");
     row(["program", "bytes", "steps", "step: engine", "paper", "ratio", "run: engine", "paper", "ratio"].map(String::from));
-    println!("|:{0:-<17}|{0:->6}:|{0:->6}:|{1}", "", format!("{:->13}:|", "").repeat(6));
+    println!("|:{0:-<26}|{0:->6}:|{0:->6}:|{1}", "", format!("{:->13}:|", "").repeat(6));
     let mut timed = Vec::new();
-    for (name, bytes) in &programs {
-        let times = program(bytes);
+    for (name, bytes, edition) in &programs {
+        let times = program(Program { bytes, edition: *edition });
         let ([a, b, c], [d, e, f]) = (nanoseconds(times.step), nanoseconds(times.run));
         row([name.clone(), thousands(bytes.len()), thousands(times.steps), a, b, c, d, e, f]);
         timed.push(times);

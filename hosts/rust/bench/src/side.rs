@@ -3,7 +3,7 @@
 use std::hint::black_box;
 
 use keshtiwol::{
-    EDGE_TABLE, EDGE_WORDS, IN_COUNT, ROWS, SOURCE, STATUS, STEP_LIMIT, TARGET, VERTEX_EXECUTING, VERTEX_RELEASED, VERTEX_TABLE,
+    Edition, EDGE_TABLE, EDGE_WORDS, IN_COUNT, ROWS, SOURCE, STATUS, STEP_LIMIT, TARGET, VERTEX_EXECUTING, VERTEX_RELEASED, VERTEX_TABLE,
     VERTEX_WORDS,
 };
 
@@ -19,13 +19,13 @@ pub enum Do {
 
 pub trait Side {
     fn new() -> Self;
-    fn load(&mut self, program: &[u8]);
+    fn load(&mut self, program: &[u8], edition: Edition);
     /// A step, or its refusal's number.
-    fn step(&mut self, program: &[u8], vertex: u32) -> Result<(), u32>;
+    fn step(&mut self, program: &[u8], edition: Edition, vertex: u32) -> Result<(), u32>;
     /// Runs to the end and tells the steps taken.
-    fn run(&mut self, program: &[u8]) -> u32;
+    fn run(&mut self, program: &[u8], edition: Edition) -> u32;
     /// The lowest vertex that can step.
-    fn lowest(&self, program: &[u8]) -> Option<u32>;
+    fn lowest(&self, program: &[u8], edition: Edition) -> Option<u32>;
     fn open(&mut self);
     /// A command by vertex 0, or its refusal's number.
     fn command(&mut self, what: Do) -> Result<(), u32>;
@@ -48,31 +48,43 @@ macro_rules! side {
             tally: $made_by::Tally,
         }
 
+        impl $name {
+            fn edition(edition: Edition) -> $made_by::Edition {
+                match edition {
+                    Edition::First => $made_by::Edition::First,
+                    Edition::Second => $made_by::Edition::Second,
+                }
+            }
+        }
+
         impl Side for $name {
             fn new() -> Self {
                 $name { vertices: vec![0; VERTEX_TABLE], edges: vec![0; EDGE_TABLE], list: vec![0; ROWS], tally: Default::default() }
             }
 
-            fn load(&mut self, program: &[u8]) {
-                black_box($made_by::load(black_box(program), &mut self.vertices, &mut self.edges, &mut self.tally));
+            fn load(&mut self, program: &[u8], edition: Edition) {
+                let edition = Self::edition(edition);
+                black_box($made_by::load(black_box(program), &mut self.vertices, &mut self.edges, &mut self.tally, edition));
             }
 
-            fn step(&mut self, program: &[u8], vertex: u32) -> Result<(), u32> {
-                let answer = $made_by::step(program, &mut self.vertices, &mut self.edges, &mut self.tally, black_box(vertex));
+            fn step(&mut self, program: &[u8], edition: Edition, vertex: u32) -> Result<(), u32> {
+                let edition = Self::edition(edition);
+                let answer = $made_by::step(program, &mut self.vertices, &mut self.edges, &mut self.tally, edition, black_box(vertex));
                 match black_box(answer) {
                     $made_by::Answer::Refused { number, .. } => Err(number),
                     _ => Ok(()),
                 }
             }
 
-            fn run(&mut self, program: &[u8]) -> u32 {
-                let run = $made_by::run(program, &mut self.vertices, &mut self.edges, &mut self.tally, black_box(STEP_LIMIT));
+            fn run(&mut self, program: &[u8], edition: Edition) -> u32 {
+                let edition = Self::edition(edition);
+                let run = $made_by::run(program, &mut self.vertices, &mut self.edges, &mut self.tally, edition, black_box(STEP_LIMIT));
                 assert_eq!(run.ending, $made_by::Ending::Done);
                 run.taken
             }
 
-            fn lowest(&self, program: &[u8]) -> Option<u32> {
-                match $made_by::lowest(program, &self.vertices, &self.edges, &self.tally) {
+            fn lowest(&self, program: &[u8], edition: Edition) -> Option<u32> {
+                match $made_by::lowest(program, &self.vertices, &self.edges, &self.tally, Self::edition(edition)) {
                     $made_by::Lowest::Vertex(vertex) => Some(vertex),
                     _ => None,
                 }

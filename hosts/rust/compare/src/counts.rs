@@ -3,17 +3,23 @@
 use std::collections::BTreeMap;
 use std::fmt;
 
-use keshtiwol::{Answer, Chain, Command, Ending, Lowest};
+use keshtiwol::{refusal, Answer, Chain, Command, Edition, Ending, Lowest};
 
 use crate::pair::{Call, Said};
 use crate::programs;
 
-const CALLS: [&str; 12] = ["open", "load", "step", "run", "lowest", "newTd", "newEdge", "release", "transfer", "start", "stop", "chain"];
-pub const WORDS: [&str; 15] =
-    ["refused", "ready", "start", "new", "edge", "release", "transfer", "job", "stop", "none", "vertex", "done", "stuck", "spent", "chain"];
+const CALLS: [&str; 13] =
+    ["open", "load", "step", "run", "lowest", "newTd", "newEdge", "release", "transfer", "start", "stop", "yield", "chain"];
+/// The calls that name an edition, among these.
+const OF_EDITIONS: std::ops::Range<usize> = 1..5;
+pub const WORDS: [&str; 16] = [
+    "refused", "ready", "start", "new", "edge", "release", "transfer", "job", "stop", "none", "vertex", "done", "stuck", "spent", "chain",
+    "yield",
+];
 
 /// The numbers that a refusal can have through the safe functions.
-pub const REFUSALS: [u32; 28] = [1, 2, 3, 4, 5, 6, 7, 8, 10, 11, 12, 13, 20, 21, 22, 23, 30, 31, 32, 33, 35, 36, 37, 38, 39, 41, 42, 43];
+pub const REFUSALS: [u32; 29] =
+    [1, 2, 3, 4, 5, 6, 7, 8, 10, 11, 12, 13, 20, 21, 22, 23, 30, 31, 32, 33, 35, 36, 37, 38, 39, 41, 42, 43, 98];
 
 #[derive(Clone, Default)]
 pub struct Counts {
@@ -45,6 +51,64 @@ pub struct Counts {
     in_counts: InCounts,
     /// By call, 12 for a status or an edge alone.
     unsound: [u64; CALLS.len()],
+    /// What callers did with edges into themselves, by commands and by steps.
+    callers: [Callers; 2],
+    /// The calls that named the first edition, the second, and none, in the order of `OF_EDITIONS`.
+    editions: [[u64; OF_EDITIONS.end - OF_EDITIONS.start]; 3],
+    crossings: Crossings,
+}
+
+/// How often a caller yielded, or did something else that edges into it have to do with.
+#[derive(Clone, Copy, Debug, Default)]
+pub struct Callers {
+    /// It yielded where edges lead in.
+    pub waiting: u64,
+    /// It yielded where none does.
+    pub passing: u64,
+    /// It started again.
+    pub again: u64,
+    /// An edge onto it was appended.
+    pub edges: u64,
+    /// An edge onto it was taken that adds nothing.
+    pub idle_edges: u64,
+    /// An edge onto it was refused with 35; for commands only, since a step does not tell.
+    pub cycles: u64,
+    /// It stopped where edges lead in.
+    pub stops: u64,
+    /// It handed its edges on where edges lead in.
+    pub transfers: u64,
+}
+
+impl Callers {
+    fn add(&mut self, more: Callers) {
+        self.waiting += more.waiting;
+        self.passing += more.passing;
+        self.again += more.again;
+        self.edges += more.edges;
+        self.idle_edges += more.idle_edges;
+        self.cycles += more.cycles;
+        self.stops += more.stops;
+        self.transfers += more.transfers;
+    }
+}
+
+/// How often it mattered which edition a call named.
+#[derive(Clone, Copy, Debug, Default)]
+pub struct Crossings {
+    /// A step was taken on tables that were loaded in the other edition.
+    pub taken: u64,
+    /// It was refused with 13.
+    pub nothing_starts: u64,
+    /// The first edition refused a program with 8 that the second loads.
+    pub second_only: u64,
+}
+
+impl Crossings {
+    fn add(&mut self, more: Crossings) {
+        self.taken += more.taken;
+        self.nothing_starts += more.nothing_starts;
+        self.second_only += more.second_only;
+    }
 }
 
 /// How often an edge that was held already was taken.
@@ -189,7 +253,8 @@ fn index(call: Call) -> usize {
         Call::Command(Command::Transfer { .. }) => 8,
         Call::Command(Command::Start { .. }) => 9,
         Call::Command(Command::Stop { .. }) => 10,
-        Call::Chain { .. } => 11,
+        Call::Command(Command::Yield { .. }) => 11,
+        Call::Chain { .. } => 12,
     }
 }
 
@@ -214,6 +279,7 @@ impl Counts {
                     (7, 0)
                 }
                 Answer::Stop => (8, 0),
+                Answer::Yield => (15, 0),
             },
             Said::Lowest(lowest) => match lowest {
                 Lowest::NoVertex => (9, 0),
@@ -238,9 +304,36 @@ impl Counts {
     }
 
     /// Notes a program that loaded.
-    pub fn loaded(&mut self, program: &[u8]) {
-        let (vertices, _, levels) = programs::needs(program);
+    pub fn loaded(&mut self, program: &[u8], edition: Edition) {
+        let (vertices, _, levels) = programs::needs(program, edition);
         self.enlarge([program.len(), vertices as usize, levels]);
+    }
+
+    /// Notes the edition that a call names, or that it names none by its number.
+    pub fn named(&mut self, call: Call, edition: Option<Edition>) {
+        if OF_EDITIONS.contains(&index(call)) {
+            let row = edition.map_or(2, |edition| u32::from(edition) as usize - 1);
+            self.editions[row][index(call) - OF_EDITIONS.start] += 1;
+        }
+    }
+
+    /// Notes a program that the first edition refused with 8 and the second loads.
+    pub fn second_only(&mut self) {
+        self.crossings.second_only += 1;
+    }
+
+    /// Notes a step on tables that were loaded in the other edition.
+    pub fn crossed(&mut self, answer: Answer) {
+        match answer {
+            Answer::Refused { number: refusal::NOTHING_STARTS, .. } => self.crossings.nothing_starts += 1,
+            Answer::Refused { .. } => {}
+            _ => self.crossings.taken += 1,
+        }
+    }
+
+    /// Notes what a caller did with edges into itself, by a command or by a step.
+    pub fn called(&mut self, by_step: bool, callers: Callers) {
+        self.callers[usize::from(by_step)].add(callers);
     }
 
     /// Notes a command whose cycle test and the chain asked for before it agree that there is one, or none.
@@ -321,6 +414,13 @@ impl Counts {
         for (unsound, more) in self.unsound.iter_mut().zip(other.unsound) {
             *unsound += more;
         }
+        for (callers, more) in self.callers.iter_mut().zip(other.callers) {
+            callers.add(more);
+        }
+        for (calls, more) in self.editions.iter_mut().flatten().zip(other.editions.iter().flatten()) {
+            *calls += more;
+        }
+        self.crossings.add(other.crossings);
     }
 
     pub fn calls(&self) -> u64 {
@@ -382,6 +482,21 @@ impl Counts {
         self.in_counts
     }
 
+    /// What callers did with edges into themselves, by commands and by steps.
+    pub fn callers(&self) -> [Callers; 2] {
+        self.callers
+    }
+
+    /// How often loads, steps, runs and `lowest` named the first edition, the second, and none.
+    pub fn editions(&self) -> [[u64; 4]; 3] {
+        self.editions
+    }
+
+    /// How often it mattered which edition a call named.
+    pub fn crossings(&self) -> Crossings {
+        self.crossings
+    }
+
     /// The calls that can be refused with 12 though the tally refuses nothing, and how often they were.
     pub fn unsound_beside_the_tally(&self) -> impl Iterator<Item = (&'static str, u64)> {
         CALLS.into_iter().zip(self.unsound).skip(2)
@@ -440,6 +555,22 @@ impl fmt::Display for Counts {
             "in-counts followed the edges {true_words} times from true ones, stayed the largest number {largest} times and 0 {none} "
         )?;
         writeln!(f, "times; several edges into one vertex went {several} times")?;
+        for (by, callers) in ["commands", "steps"].iter().zip(self.callers) {
+            let Callers { waiting, passing, again, edges, idle_edges, cycles, stops, transfers } = callers;
+            write!(f, "by {by} callers yielded {waiting} times with edges in and {passing} times with none, and started again {again} ")?;
+            write!(f, "times; edges onto them were appended {edges} times, added nothing {idle_edges} times, were 35 {cycles} times; ")?;
+            writeln!(f, "with edges in they stopped {stops} times and handed their edges on {transfers} times")?;
+        }
+        for (named, calls) in ["the first edition", "the second edition", "no edition"].iter().zip(self.editions) {
+            write!(f, "{named} was named by")?;
+            for (call, times) in CALLS[OF_EDITIONS].iter().zip(calls) {
+                write!(f, " {call} {times}")?;
+            }
+            writeln!(f)?;
+        }
+        let Crossings { taken, nothing_starts, second_only } = self.crossings;
+        write!(f, "on tables loaded in the other edition steps were taken {taken} times, and 13 {nothing_starts} times; ")?;
+        writeln!(f, "programs that the second edition loads were 8 in the first {second_only} times")?;
         write!(f, "12 for a status or an edge:")?;
         for (call, times) in self.unsound_beside_the_tally() {
             write!(f, " {call} {times}")?;

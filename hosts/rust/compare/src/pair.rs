@@ -1,14 +1,16 @@
 //! Two machines side by side, the engine's and `paper`'s: each call is made to both, and all that came of it compared.
 
+use std::collections::BTreeSet;
 use std::fmt::Write;
 use std::ops::Range;
 
 use keshtiwol::{
-    refusal, Answer, Chain, Command, Ending, Lowest, Run, Tally, EDGE_WORDS, FUTURE, IN_COUNT, ROWS, SOURCE, STATUS, STEP_LIMIT, TARGET,
-    VERTEX_FINISHED, VERTEX_NEW, VERTEX_RELEASED, VERTEX_WORDS,
+    refusal, Answer, Chain, Command, Edition, Ending, Lowest, Run, Tally, EDGE_WORDS, FUTURE, IN_COUNT, MADE, PHASE, ROWS, SOURCE, STATUS,
+    STEP_LIMIT, TARGET, VERTEX_EXECUTING, VERTEX_FINISHED, VERTEX_NEW, VERTEX_RELEASED, VERTEX_WORDS,
 };
 
-use crate::counts::{Counts, Forces, InCounts, Repeats, Starts};
+use crate::counts::{Callers, Counts, Forces, InCounts, Repeats, Starts};
+use crate::programs;
 
 #[derive(Clone, Copy, Debug, PartialEq)]
 pub enum Call {
@@ -24,6 +26,30 @@ pub enum Call {
         target: u32,
         words: u32,
     },
+}
+
+impl Call {
+    pub fn names_an_edition(self) -> bool {
+        matches!(self, Call::Load | Call::Step(_) | Call::Run(_) | Call::Lowest)
+    }
+}
+
+/// The edition that has a number, if one has.
+pub fn edition_of(number: u32) -> Option<Edition> {
+    [Edition::First, Edition::Second].into_iter().find(|&edition| u32::from(edition) == number)
+}
+
+/// The vertex that does a command.
+fn caller_of(command: Command) -> u32 {
+    match command {
+        Command::NewTd { caller, .. }
+        | Command::NewEdge { caller, .. }
+        | Command::Release { caller, .. }
+        | Command::Transfer { caller, .. }
+        | Command::Stop { caller }
+        | Command::Yield { caller } => caller,
+        Command::Start { vertex } => vertex,
+    }
 }
 
 #[derive(Clone, Copy, Debug, PartialEq)]
@@ -85,7 +111,7 @@ impl State {
         self.held().any(|row| row[SOURCE] >= self.tally.made || row[TARGET] >= self.tally.made)
     }
 
-    /// Whether a call is refused with 12: for the tally, for its steps, or for what else it looks at.
+    /// Whether a call in an edition is refused with 12: for the tally, for its steps, or for what else it looks at.
     fn is_unsound_for(&self, call: Call) -> bool {
         let late = self.tally.steps >= STEP_LIMIT;
         let row = |vertex: u32| self.made().nth(vertex as usize);
@@ -121,6 +147,8 @@ const MARK: u32 = 0xA5A5_5A5A;
 pub struct Pair {
     /// Lent to both. Scenarios may change it between calls.
     pub program: Vec<u8>,
+    /// The number by which calls name their edition, also one that no edition has. Scenarios may change it, too.
+    pub edition: u32,
     /// `paper`'s side; the engine's was the same after each call so far.
     state: State,
     /// Its list at this call; of no words where the call has none.
@@ -130,20 +158,28 @@ pub struct Pair {
     edges: Vec<u32>,
     list: Vec<u32>,
     tally: Tally,
+    /// The edition in which these tables were loaded, where only calls changed them since.
+    loaded: Option<Edition>,
+    /// The vertices that have yielded since and were not seen to start again.
+    yielded: BTreeSet<u32>,
     counts: Counts,
-    history: Vec<(Call, Said)>,
+    /// Each call with the edition's number.
+    history: Vec<(u32, Call, Said)>,
 }
 
 impl Pair {
-    pub fn new(program: Vec<u8>, state: State) -> Pair {
+    pub fn new(program: Vec<u8>, edition: Edition, state: State) -> Pair {
         let mut pair = Pair {
             program,
+            edition: edition.into(),
             state: State { vertices: Vec::new(), edges: Vec::new(), tally: Tally::default() },
             paper_list: Vec::new(),
             vertices: Vec::new(),
             edges: Vec::new(),
             list: Vec::new(),
             tally: Tally::default(),
+            loaded: None,
+            yielded: BTreeSet::new(),
             counts: Counts::default(),
             history: Vec::new(),
         };
@@ -161,6 +197,8 @@ impl Pair {
         self.edges = with_margins(&state.edges);
         self.tally = state.tally;
         self.state = state;
+        self.loaded = None;
+        self.yielded.clear();
     }
 
     pub fn set_vertex_word(&mut self, at: usize, word: u32) {
@@ -182,13 +220,16 @@ impl Pair {
     pub fn call(&mut self, call: Call) -> Result<Said, Difference> {
         let before = self.state.tally;
         let in_counts = self.state.in_counts();
-        let unsound = self.state.is_unsound_for(call);
+        let edition = edition_of(self.edition);
+        let named = edition.is_some() || !call.names_an_edition();
+        let unsound = named && self.state.is_unsound_for(call);
         let tally_fits = self.state.tally_fits();
         self.lend_lists(call);
-        let paper = on_paper(call, &self.program, &mut self.state, &mut self.paper_list);
+        let paper = on_paper(call, edition, &self.program, &mut self.state, &mut self.paper_list);
         let (v, e, l) = (inside(&self.vertices), inside(&self.edges), inside(&self.list));
         let engine = by_engine(
             call,
+            self.edition,
             &self.program,
             &mut self.vertices[v.clone()],
             &mut self.edges[e.clone()],
@@ -196,9 +237,7 @@ impl Pair {
             &mut self.list[l.clone()],
         );
         self.counts.add(call, engine);
-        if (call, engine) == (Call::Load, Said::Answer(Answer::Ready)) {
-            self.counts.loaded(&self.program);
-        }
+        self.counts.named(call, edition);
         let same = engine == paper
             && self.tally == self.state.tally
             && self.vertices[v] == self.state.vertices
@@ -208,7 +247,10 @@ impl Pair {
         if !same {
             return Err(self.difference(call, engine, paper, before));
         }
-        self.history.push((call, engine));
+        self.history.push((self.edition, call, engine));
+        if named == (refusal_of(engine) == Some(refusal::NO_SUCH_EDITION)) {
+            return Err(self.disagreement("98 is not given where it is due, or is given elsewhere"));
+        }
         if unsound != (refusal_of(engine) == Some(refusal::UNSOUND_TABLES)) {
             return Err(self.disagreement("12 is not given where it is due, or is given elsewhere"));
         }
@@ -216,7 +258,54 @@ impl Pair {
             self.counts.unsound(call);
         }
         self.check_in_counts(call, engine, &in_counts)?;
+        self.note_edition(call, engine, edition);
+        self.note_caller(call, engine, &in_counts, before.held);
         Ok(engine)
+    }
+
+    /// Notes a program that loaded, or would have in the second edition, and a step in another edition than the loading.
+    fn note_edition(&mut self, call: Call, said: Said, edition: Option<Edition>) {
+        let Said::Answer(answer) = said else { return };
+        match (call, answer, edition) {
+            (Call::Open, Answer::Ready, _) => (self.loaded, self.yielded) = (None, BTreeSet::new()),
+            (Call::Load, Answer::Ready, Some(edition)) => {
+                (self.loaded, self.yielded) = (Some(edition), BTreeSet::new());
+                self.counts.loaded(&self.program, edition);
+            }
+            (Call::Load, Answer::Refused { number: refusal::TOO_MANY_VERTICES, .. }, Some(Edition::First)) => {
+                if programs::needs(&self.program, Edition::Second).0 <= ROWS as u32 {
+                    self.counts.second_only();
+                }
+            }
+            (Call::Step(_), _, Some(edition)) if self.loaded.is_some_and(|loaded| loaded != edition) => self.counts.crossed(answer),
+            _ => {}
+        }
+    }
+
+    /// Notes what a step or a command has to do with edges into the vertex that does it, where so many were held before.
+    fn note_caller(&mut self, call: Call, said: Said, before: &[(u32, u32)], held: u32) {
+        let (vertex, by_step) = match call {
+            Call::Step(vertex) => (vertex, true),
+            Call::Command(command) => (caller_of(command), false),
+            _ => return,
+        };
+        let Said::Answer(answer) = said else { return };
+        let edges_in = before.get(vertex as usize).is_some_and(|&(_, edges_in)| edges_in > 0);
+        let mut callers = Callers::default();
+        *match answer {
+            Answer::Yield if edges_in => &mut callers.waiting,
+            Answer::Yield => &mut callers.passing,
+            Answer::Start if self.yielded.remove(&vertex) => &mut callers.again,
+            Answer::Edge(_, target) if target == vertex && self.state.tally.held > held => &mut callers.edges,
+            Answer::Edge(_, target) if target == vertex => &mut callers.idle_edges,
+            Answer::Stop if edges_in => &mut callers.stops,
+            Answer::Transfer(_) if edges_in => &mut callers.transfers,
+            _ => return,
+        } = 1;
+        if answer == Answer::Yield {
+            self.yielded.insert(vertex);
+        }
+        self.counts.called(by_step, callers);
     }
 
     /// In-counts follow the edges held: where a step or a command changes how many lead into a vertex, its word changes by as much, as far as
@@ -286,6 +375,7 @@ impl Pair {
     /// gets as far.
     pub fn command(&mut self, command: Command) -> Result<Said, Difference> {
         let (source, target) = match command {
+            Command::Yield { caller } => return self.yields(caller),
             Command::NewEdge { source, target, .. } => (source, target),
             Command::Transfer { caller, vertex } => (vertex, caller),
             Command::Start { vertex } => {
@@ -301,6 +391,9 @@ impl Pair {
         let chain = self.call(Call::Chain { source, target, words: ROWS as u32 })?;
         let held = self.state.tally.held;
         let said = self.call(Call::Command(command))?;
+        if let Command::NewEdge { caller, target, .. } = command {
+            self.check_target(caller, target, said)?;
+        }
         let closes = match said {
             Said::Answer(Answer::Refused { number: refusal::CLOSES_CYCLE, .. }) => true,
             Said::Answer(Answer::Transfer(_)) => false,
@@ -326,13 +419,55 @@ impl Pair {
         Ok(said)
     }
 
+    /// The target of an edge that was taken is new, released or the caller, and one that was refused with 33 is none of these.
+    fn check_target(&mut self, caller: u32, target: u32, said: Said) -> Result<(), Difference> {
+        let status = self.state.made().nth(target as usize).map(|row| row[STATUS]);
+        let waits = target == caller || matches!(status, Some(VERTEX_NEW | VERTEX_RELEASED));
+        match said {
+            Said::Answer(Answer::Edge(..)) if !waits => Err(self.disagreement("an edge leads onto a vertex that cannot wait")),
+            Said::Answer(Answer::Refused { number: refusal::TARGET_NOT_WAITING, .. }) if waits => {
+                Err(self.disagreement("33 is given for a vertex that can wait"))
+            }
+            Said::Answer(Answer::Refused { number: refusal::CLOSES_CYCLE, .. }) if target == caller => {
+                self.counts.called(false, Callers { cycles: 1, ..Callers::default() });
+                Ok(())
+            }
+            _ => Ok(()),
+        }
+    }
+
+    /// The command yield on both sides. It is taken exactly where the caller executes and the tables are sound, and changes its status only.
+    fn yields(&mut self, caller: u32) -> Result<Said, Difference> {
+        let mut expected = self.state.clone();
+        let status = VERTEX_WORDS * caller as usize + STATUS;
+        let executes = caller < expected.tally.made && expected.vertices.get(status) == Some(&VERTEX_EXECUTING);
+        let said = self.call(Call::Command(Command::Yield { caller }))?;
+        match said {
+            Said::Answer(Answer::Yield) if executes => expected.vertices[status] = VERTEX_RELEASED,
+            Said::Answer(Answer::Refused { number: refusal::UNSOUND_TABLES, .. }) => {}
+            Said::Answer(Answer::Refused { number: refusal::NO_SUCH_VERTEX | refusal::CALLER_NOT_EXECUTING, .. }) if !executes => {}
+            _ => return Err(self.disagreement("a yield is taken where it is not due, or refused where it is")),
+        }
+        if self.state != expected {
+            return Err(self.disagreement("a yield changes more than its caller's status"));
+        }
+        Ok(said)
+    }
+
     /// A step on both sides. After one that took an edge held already the chain is asked for that leads back from its target.
     pub fn step(&mut self, vertex: u32) -> Result<Said, Difference> {
         let held = self.state.tally.held;
-        let starting = self.starting(vertex, true);
+        let starting = edition_of(self.edition).and_then(|_| self.starting(vertex, true));
         let said = self.call(Call::Step(vertex))?;
         if let Some(starting) = starting {
             self.check_start(starting, said, true)?;
+        }
+        if said == Said::Answer(Answer::Yield) {
+            let row = &self.state.vertices[VERTEX_WORDS * vertex as usize..][..VERTEX_WORDS];
+            let item_is_over = row[PHASE] == 0 && row[MADE..FUTURE].iter().all(|&made| made == 0);
+            if self.edition != u32::from(Edition::Second) || row[STATUS] != VERTEX_RELEASED || !item_is_over {
+                return Err(self.disagreement("a step that is not the last of the second edition's fork says yield"));
+            }
         }
         if let Said::Answer(Answer::Edge(source, target)) = said {
             if self.is_repeated(source, target, held)? {
@@ -447,7 +582,8 @@ impl Pair {
     fn difference(&self, call: Call, engine: Said, paper: Said, before: Tally) -> Difference {
         let mut text = String::new();
         let (vertex_words, edge_words) = (self.state.vertices.len(), self.state.edges.len());
-        let _ = writeln!(text, "{call:?}, call {} of the scenario, with {vertex_words} and {edge_words} words", self.calls() + 1);
+        let (edition, number) = (self.edition, self.calls() + 1);
+        let _ = writeln!(text, "{call:?} in edition {edition}, call {number} of the scenario, with {vertex_words} and {edge_words} words");
         let _ = writeln!(text, "program of {} bytes: {:02X?}", self.program.len(), self.program);
         let _ = writeln!(text, "before:  {before:?}");
         let _ = writeln!(text, "engine:  {engine:?}, {:?}", self.tally);
@@ -464,8 +600,8 @@ impl Pair {
 
     fn write_history(&self, text: &mut String) {
         let _ = writeln!(text, "calls before it, the last first:");
-        for (call, said) in self.history.iter().rev().take(12) {
-            let _ = writeln!(text, "    {call:?} said {said:?}");
+        for (edition, call, said) in self.history.iter().rev().take(12) {
+            let _ = writeln!(text, "    {call:?} in edition {edition} said {said:?}");
         }
     }
 }
@@ -501,30 +637,45 @@ fn refusal_of(said: Said) -> Option<u32> {
     }
 }
 
-fn by_engine(call: Call, program: &[u8], vertices: &mut [u32], edges: &mut [u32], tally: &mut Tally, list: &mut [u32]) -> Said {
+fn by_engine(
+    call: Call,
+    edition: u32,
+    program: &[u8],
+    vertices: &mut [u32],
+    edges: &mut [u32],
+    tally: &mut Tally,
+    list: &mut [u32],
+) -> Said {
     match call {
         Call::Open => Said::Answer(keshtiwol::open(vertices, edges, tally)),
-        Call::Load => Said::Answer(keshtiwol::load(program, vertices, edges, tally)),
-        Call::Step(vertex) => Said::Answer(keshtiwol::step(program, vertices, edges, tally, vertex)),
-        Call::Run(budget) => Said::Run(keshtiwol::run(program, vertices, edges, tally, budget)),
-        Call::Lowest => Said::Lowest(keshtiwol::lowest(program, vertices, edges, tally)),
+        Call::Load => Said::Answer(keshtiwol::load(program, vertices, edges, tally, edition)),
+        Call::Step(vertex) => Said::Answer(keshtiwol::step(program, vertices, edges, tally, edition, vertex)),
+        Call::Run(budget) => Said::Run(keshtiwol::run(program, vertices, edges, tally, edition, budget)),
+        Call::Lowest => Said::Lowest(keshtiwol::lowest(program, vertices, edges, tally, edition)),
         Call::Command(command) => Said::Answer(keshtiwol::command(vertices, edges, tally, command)),
         Call::Chain { source, target, .. } => Said::Chain(keshtiwol::chain(vertices, edges, tally, source, target, list)),
     }
 }
 
-fn on_paper(call: Call, program: &[u8], state: &mut State, list: &mut [u32]) -> Said {
+fn on_paper(call: Call, edition: Option<Edition>, program: &[u8], state: &mut State, list: &mut [u32]) -> Said {
     let State { vertices, edges, tally } = state;
     let mut own = paper::Tally { made: tally.made, held: tally.held, steps: tally.steps };
+    let edition = match edition {
+        Some(Edition::First) => paper::Edition::First,
+        Some(Edition::Second) => paper::Edition::Second,
+        None if call.names_an_edition() => return no_such_edition(call),
+        // It does not look at one.
+        None => paper::Edition::First,
+    };
     let said = match call {
         Call::Open => Said::Answer(answer(paper::open(vertices, edges, &mut own))),
-        Call::Load => Said::Answer(answer(paper::load(program, vertices, edges, &mut own))),
-        Call::Step(vertex) => Said::Answer(answer(paper::step(program, vertices, edges, &mut own, vertex))),
+        Call::Load => Said::Answer(answer(paper::load(program, vertices, edges, &mut own, edition))),
+        Call::Step(vertex) => Said::Answer(answer(paper::step(program, vertices, edges, &mut own, edition, vertex))),
         Call::Run(budget) => {
-            let paper::Run { ending, last, taken } = paper::run(program, vertices, edges, &mut own, budget);
+            let paper::Run { ending, last, taken } = paper::run(program, vertices, edges, &mut own, edition, budget);
             Said::Run(Run { ending: ending_of(ending), last: last.map(answer), taken })
         }
-        Call::Lowest => Said::Lowest(match paper::lowest(program, vertices, edges, &own) {
+        Call::Lowest => Said::Lowest(match paper::lowest(program, vertices, edges, &own, edition) {
             paper::Lowest::Vertex(vertex) => Lowest::Vertex(vertex),
             paper::Lowest::NoVertex => Lowest::NoVertex,
             paper::Lowest::Refused { number, place } => Lowest::Refused { number, place },
@@ -539,6 +690,16 @@ fn on_paper(call: Call, program: &[u8], state: &mut State, list: &mut [u32]) -> 
     said
 }
 
+/// The library's own refusal of a number that no edition has, before anything else: nothing changes.
+fn no_such_edition(call: Call) -> Said {
+    let (number, place) = (refusal::NO_SUCH_EDITION, 0);
+    match call {
+        Call::Run(_) => Said::Run(Run { ending: Ending::Refused { number, place }, last: None, taken: 0 }),
+        Call::Lowest => Said::Lowest(Lowest::Refused { number, place }),
+        _ => Said::Answer(Answer::Refused { number, place }),
+    }
+}
+
 fn answer(answer: paper::Answer) -> Answer {
     match answer {
         paper::Answer::Ready => Answer::Ready,
@@ -549,6 +710,7 @@ fn answer(answer: paper::Answer) -> Answer {
         paper::Answer::Transfer(vertex) => Answer::Transfer(vertex),
         paper::Answer::Job { number, offset } => Answer::Job { number, offset },
         paper::Answer::Stop => Answer::Stop,
+        paper::Answer::Yield => Answer::Yield,
         paper::Answer::Refused { number, place } => Answer::Refused { number, place },
     }
 }
@@ -570,5 +732,6 @@ fn command_of(command: Command) -> paper::Command {
         Command::Transfer { caller, vertex } => paper::Command::Transfer { caller, vertex },
         Command::Start { vertex } => paper::Command::Start { vertex },
         Command::Stop { caller } => paper::Command::Stop { caller },
+        Command::Yield { caller } => paper::Command::Yield { caller },
     }
 }

@@ -1,5 +1,7 @@
 //! Programs of every shape, valid ones and damaged ones.
 
+use keshtiwol::Edition;
+
 use crate::draw::Draw;
 
 const JOB: u8 = 1;
@@ -19,7 +21,9 @@ type Weights = [u32; 6];
 #[derive(Clone, Copy, Debug)]
 pub struct Shape {
     pub bytes: usize,
+    /// As this edition counts them.
     pub vertices: u32,
+    pub edition: Edition,
     pub levels: u32,
     /// How often jobs, asyncs, finishes, forks, futures and forces come.
     pub weights: Weights,
@@ -31,7 +35,7 @@ pub struct Shape {
     pub full: bool,
 }
 
-/// A program within a shape. Within 4,096 bytes, 1,024 vertices and 32 levels it is valid.
+/// A program within a shape. Within 4,096 bytes, 1,024 vertices and 32 levels it is valid in the shape's edition.
 pub fn grow(draw: &mut Draw, shape: &Shape) -> Vec<u8> {
     let mut growth = Growth { shape, bytes: Vec::new(), owed: 1, vertices: 2 };
     growth.body(draw, 1, 0);
@@ -70,7 +74,7 @@ impl Growth<'_> {
             room >= 2,
             inner && room >= 2 && vertices >= 1,
             inner && room >= 2 && vertices >= 2,
-            inner && room >= 3 && vertices >= 3,
+            inner && room >= 3 && vertices >= by_a_fork(self.shape.edition),
             inner && room >= 2 && vertices >= 2,
             open > 0 && room >= 2 && vertices >= 1,
         ];
@@ -94,7 +98,7 @@ impl Growth<'_> {
             }
             ASYNC => self.bodies(draw, level, open, first, 1, 1),
             FINISH | FUTURE => self.bodies(draw, level, open, first, 1, 2),
-            FORK => self.bodies(draw, level, open, first, 2, 3),
+            FORK => self.bodies(draw, level, open, first, 2, by_a_fork(self.shape.edition)),
             _ => {
                 // The nearest future, the farthest, or any; where there is room for one byte, one that this can name.
                 let farthest = if room == 2 { (open - 1).min(127) } else { open - 1 };
@@ -114,6 +118,14 @@ impl Growth<'_> {
         for _ in 0..bodies {
             self.body(draw, level + 1, open);
         }
+    }
+}
+
+/// The vertices that a fork makes.
+fn by_a_fork(edition: Edition) -> u32 {
+    match edition {
+        Edition::First => 3,
+        Edition::Second => 2,
     }
 }
 
@@ -148,16 +160,30 @@ pub enum Size {
     Large,
 }
 
-/// A valid program.
-pub fn valid(draw: &mut Draw, size: Size) -> Vec<u8> {
-    let shape = shape_of(draw, size);
+/// A program that is valid in an edition.
+pub fn valid(draw: &mut Draw, size: Size, edition: Edition) -> Vec<u8> {
+    let shape = shape_of(draw, size, edition);
     grow(draw, &shape)
 }
 
-/// A valid program that mostly has futures and forces.
-pub fn with_futures(draw: &mut Draw, size: Size) -> Vec<u8> {
-    let shape = shape_of(draw, size);
-    let weights = draw.pick(&WITH_FUTURES);
+/// The same, mostly with futures and forces.
+pub fn with_futures(draw: &mut Draw, size: Size, edition: Edition) -> Vec<u8> {
+    with(draw, size, edition, &WITH_FUTURES)
+}
+
+/// The same, mostly with forks: nested, one after the other, and with all else in their branches.
+pub fn with_forks(draw: &mut Draw, size: Size, edition: Edition) -> Vec<u8> {
+    with(draw, size, edition, &WITH_FORKS)
+}
+
+/// So many forks with nothing in them, one after the other.
+pub fn empty_forks(forks: usize) -> Vec<u8> {
+    [[FORK, 0, 0].repeat(forks), vec![0]].concat()
+}
+
+fn with(draw: &mut Draw, size: Size, edition: Edition, weights: &[Weights]) -> Vec<u8> {
+    let shape = shape_of(draw, size, edition);
+    let weights = draw.pick(weights);
     grow(draw, &Shape { weights, vertices: shape.vertices.max(5), full: true, ..shape })
 }
 
@@ -166,11 +192,11 @@ pub fn far_force(futures: u32, number: u32) -> Vec<u8> {
     [[FUTURE, 0].repeat(futures as usize), vec![FORCE], number_bytes(number), vec![0]].concat()
 }
 
-fn shape_of(draw: &mut Draw, size: Size) -> Shape {
+fn shape_of(draw: &mut Draw, size: Size, edition: Edition) -> Shape {
     match size {
-        Size::Small => shape(draw, 3, 48, 16),
-        Size::Middle => shape(draw, 30, 500, 120),
-        Size::Large => large(draw),
+        Size::Small => shape(draw, edition, 3, 48, 16),
+        Size::Middle => shape(draw, edition, 30, 500, 120),
+        Size::Large => large(draw, edition),
     }
 }
 
@@ -195,10 +221,22 @@ const WITH_FUTURES: [Weights; 9] = [
     [0, 0, 0, 3, 3, 1],
 ];
 
-fn shape(draw: &mut Draw, least_bytes: u32, most_bytes: u32, most_vertices: u32) -> Shape {
+const WITH_FORKS: [Weights; 8] = [
+    [1, 0, 0, 1, 0, 0],
+    [0, 0, 0, 1, 0, 0],
+    [2, 1, 1, 3, 0, 0],
+    [1, 2, 0, 3, 0, 0],
+    [1, 0, 2, 3, 0, 0],
+    [1, 0, 0, 3, 2, 3],
+    [1, 1, 1, 3, 1, 2],
+    [0, 1, 1, 4, 1, 1],
+];
+
+fn shape(draw: &mut Draw, edition: Edition, least_bytes: u32, most_bytes: u32, most_vertices: u32) -> Shape {
     Shape {
         bytes: draw.between(least_bytes, most_bytes) as usize,
         vertices: draw.between(2, most_vertices),
+        edition,
         levels: draw.pick(&[2, 3, 5, 32, 32]),
         weights: if draw.one_in(2) { draw.pick(&WITH_FUTURES) } else { draw.pick(&WITHOUT_FUTURES) },
         numbers: draw.pick(&[[1, 0, 0, 0, 0], [3, 1, 1, 1, 1], [1, 1, 1, 1, 1], [0, 0, 0, 1, 2]]),
@@ -208,10 +246,10 @@ fn shape(draw: &mut Draw, least_bytes: u32, most_bytes: u32, most_vertices: u32)
 }
 
 /// At one limit or more.
-fn large(draw: &mut Draw) -> Shape {
+fn large(draw: &mut Draw, edition: Edition) -> Shape {
     const DEEP: [Weights; 6] =
         [[1, 1, 1, 1, 1, 1], [0, 1, 0, 0, 0, 0], [1, 0, 5, 0, 0, 0], [1, 0, 0, 5, 0, 0], [1, 0, 0, 0, 5, 0], [0, 0, 0, 0, 3, 1]];
-    let mut shape = Shape { full: true, ..shape(draw, 1000, 4096, 1024) };
+    let mut shape = Shape { full: true, ..shape(draw, edition, 1000, 4096, 1024) };
     match draw.below(4) {
         0 => shape.vertices = 1024,
         1 => shape.bytes = 4096,
@@ -221,8 +259,8 @@ fn large(draw: &mut Draw) -> Shape {
     shape
 }
 
-/// The vertex rows and edge rows that a valid program needs, and its levels.
-pub fn needs(program: &[u8]) -> (u32, u32, usize) {
+/// The vertex rows and edge rows that a valid program needs in an edition, and its levels.
+pub fn needs(program: &[u8], edition: Edition) -> (u32, u32, usize) {
     let (mut vertices, mut edges, mut levels) = (2, 1, 0);
     // For each open body, how many of its item's bodies come after it.
     let mut open = vec![0];
@@ -248,7 +286,7 @@ pub fn needs(program: &[u8]) -> (u32, u32, usize) {
                 while bytes.next().is_some_and(|byte| *byte > 127) {}
             }
             _ => {
-                (vertices, edges) = (vertices + 3, edges + 2);
+                (vertices, edges) = (vertices + by_a_fork(edition), edges + 2);
                 open.push(1);
             }
         }
@@ -256,22 +294,22 @@ pub fn needs(program: &[u8]) -> (u32, u32, usize) {
     (vertices, edges, levels)
 }
 
-/// The mixed program of the benchmark, the same each time: 4,000 bytes, 1,000 vertices, 32 levels, without futures.
+/// The mixed program of the benchmark, the same each time: 4,000 bytes, 1,000 vertices of the first edition, 32 levels, without futures.
 pub fn mixed() -> Vec<u8> {
-    let shape =
-        Shape { bytes: 4000, vertices: 1000, levels: 32, weights: [8, 2, 1, 2, 0, 0], numbers: [1, 1, 1, 0, 0], ends: 3, full: true };
+    let (weights, numbers) = ([8, 2, 1, 2, 0, 0], [1, 1, 1, 0, 0]);
+    let shape = Shape { bytes: 4000, vertices: 1000, edition: Edition::First, levels: 32, weights, numbers, ends: 3, full: true };
     grow(&mut Draw::new(8), &shape)
 }
 
-/// A program that loading refuses, mostly: just over a limit, with a number at the edge, with a force of no such future, changed here and
-/// there, or anything.
-pub fn damaged(draw: &mut Draw, size: Size) -> Vec<u8> {
+/// A program that loading refuses in an edition, mostly: just over a limit, with a number at the edge, with a force of no such future,
+/// changed here and there, or anything.
+pub fn damaged(draw: &mut Draw, size: Size, edition: Edition) -> Vec<u8> {
     let mut program = match draw.below(12) {
-        0 => return just_over(draw),
+        0 => return just_over(draw, edition),
         1 => return scribble(draw),
-        2 | 3 => return misnumbered(draw, size),
-        4 | 5 => return misforced(draw, size),
-        _ => valid(draw, size),
+        2 | 3 => return misnumbered(draw, size, edition),
+        4 | 5 => return misforced(draw, size, edition),
+        _ => valid(draw, size, edition),
     };
     for _ in 0..draw.pick(&[1, 1, 1, 2, 3, 8]) {
         damage(draw, &mut program);
@@ -279,10 +317,10 @@ pub fn damaged(draw: &mut Draw, size: Size) -> Vec<u8> {
     program
 }
 
-fn just_over(draw: &mut Draw) -> Vec<u8> {
-    const MANY_VERTICES: [Weights; 5] =
-        [[0, 1, 0, 0, 0, 0], [0, 0, 1, 0, 0, 0], [0, 1, 1, 2, 0, 0], [0, 0, 0, 0, 1, 0], [0, 0, 0, 0, 1, 2]];
-    let mut shape = large(draw);
+fn just_over(draw: &mut Draw, edition: Edition) -> Vec<u8> {
+    const MANY_VERTICES: [Weights; 6] =
+        [[0, 1, 0, 0, 0, 0], [0, 0, 1, 0, 0, 0], [0, 0, 0, 1, 0, 0], [0, 1, 1, 2, 0, 0], [0, 0, 0, 0, 1, 0], [0, 0, 0, 0, 1, 2]];
+    let mut shape = large(draw, edition);
     match draw.below(3) {
         0 => {
             (shape.bytes, shape.numbers) = (4097 + draw.index(5), [1, 0, 0, 0, 0]);
@@ -310,8 +348,8 @@ fn odd_byte(draw: &mut Draw) -> u8 {
 
 /// A valid program with one job or force more, whose number is at the edge of what numbers are, or past it. Once in four times the program
 /// ends inside that number.
-fn misnumbered(draw: &mut Draw, size: Size) -> Vec<u8> {
-    let mut program = valid(draw, size);
+fn misnumbered(draw: &mut Draw, size: Size, edition: Edition) -> Vec<u8> {
+    let mut program = valid(draw, size, edition);
     let (at, _) = draw.pick(&starts(&program));
     let mut item = vec![numbered(draw)];
     item.extend(edge_number(draw));
@@ -330,8 +368,8 @@ fn numbered(draw: &mut Draw) -> u8 {
 
 /// A valid program with one force more, mostly of no such future: the number is just past the futures open there, the last of them, or any.
 /// The forces behind it may then be meant for a future that is not open there.
-fn misforced(draw: &mut Draw, size: Size) -> Vec<u8> {
-    let mut program = with_futures(draw, size);
+fn misforced(draw: &mut Draw, size: Size, edition: Edition) -> Vec<u8> {
+    let mut program = with_futures(draw, size, edition);
     let (at, open) = draw.pick(&starts(&program));
     let number = match draw.below(6) {
         0 => open.saturating_sub(1),

@@ -1,13 +1,13 @@
 //! The scenarios. All that one does follows from its seed.
 
 use keshtiwol::{
-    Answer, Chain, Command, Ending, Tally, EDGE_TABLE, EDGE_WORDS, FUTURE, IN_COUNT, MADE, PHASE, PLACE, ROWS, SCOPE, SOURCE, STATUS,
-    STEP_LIMIT, TARGET, VERTEX_EXECUTING, VERTEX_NEW, VERTEX_RELEASED, VERTEX_TABLE, VERTEX_WORDS,
+    Answer, Chain, Command, Edition, Ending, Tally, EDGE_TABLE, EDGE_WORDS, FUTURE, IN_COUNT, MADE, PHASE, PLACE, ROWS, SCOPE, SOURCE,
+    STATUS, STEP_LIMIT, TARGET, VERTEX_EXECUTING, VERTEX_NEW, VERTEX_RELEASED, VERTEX_TABLE, VERTEX_WORDS,
 };
 
 use crate::counts::Counts;
 use crate::draw::Draw;
-use crate::pair::{Call, Difference, Pair, Said, State};
+use crate::pair::{edition_of, Call, Difference, Pair, Said, State};
 use crate::programs::{self, Size};
 
 type Outcome = Result<(), Difference>;
@@ -16,7 +16,7 @@ type Kind = fn(&mut Scene) -> Outcome;
 /// Plays the scenario of a seed: what was called and said, or the first difference.
 pub fn play(seed: u64) -> Result<Counts, Difference> {
     let mut draw = Draw::new(seed);
-    let kinds: [(&str, u32, Kind); 11] = [
+    let kinds: [(&str, u32, Kind); 13] = [
         ("a bare machine", 3, Scene::bare),
         ("random tables", 3, Scene::random_tables),
         ("a schedule", 4, Scene::schedule),
@@ -28,13 +28,17 @@ pub fn play(seed: u64) -> Result<Counts, Difference> {
         ("gaps in the edge table", 3, Scene::gaps),
         ("futures", 4, Scene::futures),
         ("may it start", 5, Scene::starts),
+        ("forks", 5, Scene::forks),
+        ("callers that wait", 4, Scene::callers_that_wait),
     ];
     let (name, _, kind) = kinds[draw.weighted(&kinds.map(|kind| kind.1))];
     let size = [Size::Small, Size::Middle, Size::Large][draw.weighted(&[80, 14, 6])];
-    let program = programs::valid(&mut draw, size);
+    let edition = draw.pick(&[Edition::First, Edition::Second]);
+    let program = programs::valid(&mut draw, size, edition);
     let nothing = State { vertices: Vec::new(), edges: Vec::new(), tally: Tally::default() };
     let beside = if size == Size::Small { draw.pick(&[1, 2, 4]) } else { draw.pick(&[4, 20]) };
-    let mut scene = Scene { draw, size, beside, pair: Pair::new(program, nothing) };
+    let astray = draw.pick(&[u32::MAX, u32::MAX, 100, 20]);
+    let mut scene = Scene { draw, size, beside, astray, edition, pair: Pair::new(program, edition, nothing) };
     match kind(&mut scene) {
         Ok(()) => Ok(scene.pair.into_counts()),
         Err(Difference(text)) => Err(Difference(format!("{name}: {text}"))),
@@ -56,6 +60,10 @@ struct Scene {
     size: Size,
     /// After a call `lowest` is asked too, once in so many times, and as often for a chain.
     beside: u32,
+    /// A call names the other edition, or a number that no edition has, once in so many times.
+    astray: u32,
+    /// The edition that calls name otherwise, and in which the program is valid.
+    edition: Edition,
     pair: Pair,
 }
 
@@ -164,7 +172,7 @@ impl Scene {
         let sound = self.pair.program.clone();
         self.lend_for_program(3);
         for _ in 0..self.draw.between(1, 6) {
-            self.pair.program = programs::damaged(&mut self.draw, self.size);
+            self.pair.program = programs::damaged(&mut self.draw, self.size, self.edition);
             if self.call(Call::Load)? == Said::Answer(Answer::Ready) {
                 let budget = self.draw.below(100);
                 self.call(Call::Run(budget))?;
@@ -178,8 +186,8 @@ impl Scene {
             self.call(Call::Run(budget))?;
             self.pair.program = match self.draw.below(3) {
                 0 => sound[..self.draw.index(sound.len())].to_vec(),
-                1 => programs::valid(&mut self.draw, self.size),
-                _ => programs::damaged(&mut self.draw, self.size),
+                1 => programs::valid(&mut self.draw, self.size, self.edition),
+                _ => programs::damaged(&mut self.draw, self.size, self.edition),
             };
             for _ in 0..self.draw.between(1, 5) {
                 let vertex = self.able_or_name();
@@ -304,9 +312,9 @@ impl Scene {
         Ok(())
     }
 
-    /// Steps vertices in any order until the next command of one is a newEdge, if that comes soon: the vertex, and where in the table the
-    /// edge's ends stand.
-    fn step_to_an_edge(&mut self) -> Result<Option<(u32, [usize; 2])>, Difference> {
+    /// Steps vertices in any order until the next command of one is a newEdge, if that comes soon: the vertex, where in the table the edge's
+    /// source stands, and its target.
+    fn step_to_an_edge(&mut self) -> Result<Option<(u32, (usize, u32))>, Difference> {
         for _ in 0..self.draw.between(1, 60) {
             let able = self.able();
             if able.is_empty() {
@@ -321,23 +329,26 @@ impl Scene {
         Ok(None)
     }
 
-    /// Where in the vertex table the source and the target stand that a vertex's next step's newEdge names, if it is one.
-    fn next_edge(&self, vertex: u32) -> Option<[usize; 2]> {
+    /// Where in the vertex table the source stands that a vertex's next step's newEdge names, and the target, if it is one.
+    fn next_edge(&self, vertex: u32) -> Option<(usize, u32)> {
         let vertices = &self.pair.state().vertices;
         let row = VERTEX_WORDS * vertex as usize;
         let place = vertices[row + PLACE] as usize;
-        match (*self.pair.program.get(place)?, vertices[row + PHASE]) {
-            (programs::ASYNC, 1) => Some([row + MADE, row + SCOPE]),
-            (programs::FINISH | programs::FUTURE, 2) => Some([row + MADE + 1, row + MADE]),
-            (programs::FORK, 3) => Some([row + MADE, row + MADE + 2]),
-            (programs::FORK, 4) => Some([row + MADE + 1, row + MADE + 2]),
-            (programs::FORCE, 1) => {
+        let made = |word: usize| row + MADE + word;
+        match (*self.pair.program.get(place)?, vertices[row + PHASE], self.edition) {
+            (programs::ASYNC, 1, _) => Some((made(0), vertices[row + SCOPE])),
+            (programs::FINISH | programs::FUTURE, 2, _) => Some((made(1), vertices[made(0)])),
+            (programs::FORK, 3, Edition::First) => Some((made(0), vertices[made(2)])),
+            (programs::FORK, 4, Edition::First) => Some((made(1), vertices[made(2)])),
+            (programs::FORK, 2, Edition::Second) => Some((made(0), vertex)),
+            (programs::FORK, 3, Edition::Second) => Some((made(1), vertex)),
+            (programs::FORCE, 1, _) => {
                 let mut source = row + FUTURE;
                 for _ in 0..programs::number_at(&self.pair.program, place + 1) {
                     source = VERTEX_WORDS * *vertices.get(source)? as usize + FUTURE;
                 }
                 // Words that an altered row leads to may lead nowhere.
-                (source < vertices.len()).then_some([source, row + MADE])
+                (source < vertices.len()).then_some((source, vertices[made(0)]))
             }
             _ => None,
         }
@@ -345,13 +356,13 @@ impl Scene {
 
     /// Puts that edge into the table, often so that no row is left or a way leads back. Now and then it is made one from a vertex to
     /// itself.
-    fn hold_next_edge(&mut self, [source, target]: [usize; 2]) {
+    fn hold_next_edge(&mut self, (source, target): (usize, u32)) {
         let mut state = self.pair.state().clone();
         let words = &mut state.vertices;
         if self.draw.one_in(8) {
-            words[source] = words[target];
+            words[source] = target;
         }
-        let (source, target) = (words[source], words[target]);
+        let source = words[source];
         if self.draw.one_in(3) {
             self.hold_way_back(&mut state, source, target);
         }
@@ -377,7 +388,7 @@ impl Scene {
     /// Programs with futures and forces: on the way to the newEdge of a force, or on tables that no calls led to, the words that it
     /// follows are altered.
     fn futures(&mut self) -> Outcome {
-        self.pair.program = programs::with_futures(&mut self.draw, self.size);
+        self.pair.program = programs::with_futures(&mut self.draw, self.size, self.edition);
         match self.draw.below(16) {
             0 => self.far_force(),
             1..5 => self.forces_on_random_tables(),
@@ -392,7 +403,7 @@ impl Scene {
         self.pair.program = programs::far_force(futures, number);
         self.load()?;
         // Vertex 0 starts, takes five steps for each future, and does the force's newTd.
-        self.call(Call::Run(2 + 5 * futures))?;
+        self.pair.call(Call::Run(2 + 5 * futures))?;
         if self.draw.one_in(2) {
             self.alter_future(0, number);
         }
@@ -470,7 +481,7 @@ impl Scene {
             if able.is_empty() {
                 break;
             }
-            let at_a_force: Vec<u32> = able.iter().copied().filter(|&vertex| self.at_a_force(vertex)).collect();
+            let at_a_force: Vec<u32> = able.iter().copied().filter(|&vertex| self.at(programs::FORCE, vertex)).collect();
             let vertex = if at_a_force.is_empty() || self.draw.one_in(4) { self.draw.pick(&able) } else { self.draw.pick(&at_a_force) };
             self.call(Call::Step(vertex))?;
             if let Some(number) = self.force_due(vertex) {
@@ -480,10 +491,10 @@ impl Scene {
         Ok(None)
     }
 
-    /// Whether a vertex executes and the byte at its place is a force's.
-    fn at_a_force(&self, vertex: u32) -> bool {
+    /// Whether a vertex executes and this byte stands at its place.
+    fn at(&self, first: u8, vertex: u32) -> bool {
         let place = self.pair.state().vertices[VERTEX_WORDS * vertex as usize + PLACE] as usize;
-        self.status(vertex) == VERTEX_EXECUTING && self.pair.program.get(place) == Some(&programs::FORCE)
+        self.status(vertex) == VERTEX_EXECUTING && self.pair.program.get(place) == Some(&first)
     }
 
     /// The number of the force whose newEdge is the next step of a vertex made, if it is one, on sound tables and a program that loads.
@@ -493,7 +504,7 @@ impl Scene {
         let program = &self.pair.program;
         let at = row[PLACE] as usize;
         let due = tally.steps < STEP_LIMIT
-            && self.at_a_force(vertex)
+            && self.at(programs::FORCE, vertex)
             && row[PHASE] == 1
             && programs::starts(program).iter().any(|&(start, _)| start == at);
         due.then(|| programs::number_at(program, at + 1))
@@ -542,6 +553,151 @@ impl Scene {
             }
         }
         Ok(())
+    }
+
+    /// Programs with forks, by steps of one edition or of both, with yields and edges onto callers put between them.
+    fn forks(&mut self) -> Outcome {
+        if self.draw.one_in(16) {
+            return self.many_forks();
+        }
+        self.pair.program = programs::with_forks(&mut self.draw, self.size, self.edition);
+        self.load()?;
+        if self.draw.one_in(4) {
+            // The other edition may want more rows, or load it as well.
+            self.pair.edition = self.another_edition();
+            self.call(Call::Load)?;
+        }
+        self.astray = self.draw.pick(&[u32::MAX, 20, 5, 2]);
+        let meddling = self.draw.one_in(2);
+        for _ in 0..self.draw.between(10, 150) {
+            let able = self.able();
+            if able.is_empty() {
+                break;
+            }
+            // Mostly on with a fork that is begun.
+            let at_a_fork: Vec<u32> = able.iter().copied().filter(|&vertex| self.at(programs::FORK, vertex)).collect();
+            let vertex = if at_a_fork.is_empty() || self.draw.one_in(3) { self.draw.pick(&able) } else { self.draw.pick(&at_a_fork) };
+            if meddling && self.draw.one_in(10) {
+                self.meddle(vertex)?;
+            }
+            self.call(Call::Step(vertex))?;
+            if self.draw.one_in(30) {
+                let most = if self.size == Size::Small { 20 } else { 400 };
+                let budget = self.draw.below(most);
+                self.call(Call::Run(budget))?;
+            }
+        }
+        Ok(())
+    }
+
+    /// As many forks as make about 1,024 vertices in one edition or the other, loaded in both, then begun.
+    fn many_forks(&mut self) -> Outcome {
+        let forks = self.draw.pick(&[340, 341, 400, 511, 512]);
+        self.pair.program = programs::empty_forks(forks);
+        for _ in 0..4 {
+            self.lend_for_program(6);
+            for number in [self.edition.into(), self.another_edition()] {
+                self.pair.edition = number;
+                self.call(Call::Load)?;
+                self.call(Call::Step(0))?;
+                self.call(Call::Step(0))?;
+            }
+        }
+        Ok(())
+    }
+
+    /// Between the steps of a vertex: a command that it calls for itself, a phase at which editions differ, another made vertex, or anything.
+    fn meddle(&mut self, vertex: u32) -> Outcome {
+        let row = VERTEX_WORDS * vertex as usize;
+        match self.draw.below(6) {
+            0 => {
+                self.call(Call::Command(Command::Yield { caller: vertex }))?;
+            }
+            1 => {
+                let source = self.name();
+                self.call(Call::Command(Command::NewEdge { caller: vertex, source, target: vertex }))?;
+            }
+            2 if self.at(programs::FORK, vertex) => {
+                let phase = self.draw.between(2, 9);
+                self.pair.set_vertex_word(row + PHASE, phase);
+            }
+            3 => {
+                let (word, made) = (self.draw.index(FUTURE - MADE), self.name());
+                self.pair.set_vertex_word(row + MADE + word, made);
+            }
+            4 => {
+                let scope = if self.draw.one_in(2) { vertex } else { self.name() };
+                self.pair.set_vertex_word(row + SCOPE, scope);
+            }
+            _ => self.alter(),
+        }
+        Ok(())
+    }
+
+    /// Callers that take edges onto themselves, yield and start again, or stop or hand their edges on with edges in: on an opened machine, on
+    /// tables that no calls led to, or between the steps of a program.
+    fn callers_that_wait(&mut self) -> Outcome {
+        match self.draw.below(3) {
+            0 => {
+                self.lend(12, 24, u32::MAX);
+                self.pair.call(Call::Open)?;
+                self.call(Call::Command(Command::Start { vertex: 0 }))?;
+                for _ in 0..self.draw.between(2, 8) {
+                    let place = self.draw.below(self.pair.program.len() as u32);
+                    self.call(Call::Command(Command::NewTd { caller: 0, place, scope: 0 }))?;
+                }
+            }
+            1 => {
+                let state = self.random_state();
+                self.pair.set(state);
+            }
+            _ => {
+                self.load()?;
+                let budget = self.draw.below(30);
+                self.call(Call::Run(budget))?;
+            }
+        }
+        for _ in 0..self.draw.between(10, 40) {
+            if self.draw.one_in(12) {
+                self.alter();
+            }
+            let Some(caller) = self.caller() else {
+                let vertex = self.able_or_name();
+                let call = if self.draw.one_in(2) { Call::Step(vertex) } else { Call::Command(Command::Start { vertex }) };
+                self.call(call)?;
+                continue;
+            };
+            let command = match self.draw.weighted(&[8, 3, 1, 2, 3, 4]) {
+                0 => Command::NewEdge { caller, source: self.source_for(caller), target: caller },
+                1 => Command::Yield { caller },
+                2 => Command::Stop { caller },
+                3 => Command::Transfer { caller, vertex: self.new_or_name() },
+                4 => Command::Release { caller, vertex: self.new_or_name() },
+                _ => self.command(),
+            };
+            self.call(Call::Command(command))?;
+        }
+        Ok(())
+    }
+
+    /// A vertex that an edge onto the caller may come from: one that has such an edge already, the caller itself, or any.
+    fn source_for(&mut self, caller: u32) -> u32 {
+        let sources: Vec<u32> = self.pair.state().held().filter(|row| row[TARGET] == caller).map(|row| row[SOURCE]).collect();
+        match self.draw.below(8) {
+            0 => caller,
+            1 | 2 if !sources.is_empty() => self.draw.pick(&sources),
+            _ => self.name(),
+        }
+    }
+
+    /// A new vertex if there is one, now and then another.
+    fn new_or_name(&mut self) -> u32 {
+        let new = self.having(|row| row[STATUS] == VERTEX_NEW);
+        if new.is_empty() || self.draw.one_in(6) {
+            self.name()
+        } else {
+            self.draw.pick(&new)
+        }
     }
 
     /// May it start? In-counts are altered, and something is made wrong elsewhere in the tables; then released vertices are started and
@@ -625,8 +781,8 @@ impl Scene {
 
     /// The step of a loaded program that is a newEdge, likewise.
     fn step_to_the_ends(&mut self) -> Outcome {
-        if let Some((vertex, [_, target])) = self.step_to_an_edge()? {
-            let at = VERTEX_WORDS * self.pair.state().vertices[target] as usize + IN_COUNT;
+        if let Some((vertex, (_, target))) = self.step_to_an_edge()? {
+            let at = VERTEX_WORDS * target as usize + IN_COUNT;
             // An altered row may name no vertex.
             if at < self.pair.state().vertices.len() {
                 let word = self.draw.pick(&IN_COUNT_ENDS);
@@ -718,7 +874,11 @@ impl Scene {
         state.edges.truncate(EDGE_WORDS * state.tally.held as usize + self.draw.index(EDGE_WORDS));
     }
 
+    /// A call, now and then in another edition, and others beside it.
     fn call(&mut self, call: Call) -> Result<Said, Difference> {
+        if call.names_an_edition() && self.draw.one_in(self.astray) {
+            self.pair.edition = self.another_edition();
+        }
         let said = match call {
             Call::Step(vertex) => self.pair.step(vertex)?,
             Call::Command(command) => self.pair.command(command)?,
@@ -727,10 +887,27 @@ impl Scene {
         if self.draw.one_in(self.beside) {
             self.pair.call(Call::Lowest)?;
         }
+        self.pair.edition = self.edition.into();
         if self.draw.one_in(self.beside) {
             self.chain()?;
         }
         Ok(said)
+    }
+
+    /// The other edition's number, mostly, or one that no edition has.
+    fn another_edition(&mut self) -> u32 {
+        match self.draw.below(3) {
+            0 => loop {
+                let number = self.draw.wild();
+                if edition_of(number).is_none() {
+                    return number;
+                }
+            },
+            _ => match self.edition {
+                Edition::First => Edition::Second.into(),
+                Edition::Second => Edition::First.into(),
+            },
+        }
     }
 
     /// A chain between any two vertices, or between two that have one.
@@ -794,13 +971,13 @@ impl Scene {
                 self.call(call)?;
             }
             self.lend_for_program(u32::MAX);
-            self.call(Call::Load)?;
+            self.pair.call(Call::Load)?;
         }
         Ok(())
     }
 
     fn lend_for_program(&mut self, short_one_in: u32) {
-        let (rows, edge_rows, _) = programs::needs(&self.pair.program);
+        let (rows, edge_rows, _) = programs::needs(&self.pair.program, self.edition);
         self.lend(rows, edge_rows, short_one_in);
     }
 
@@ -979,7 +1156,7 @@ impl Scene {
             None if self.draw.one_in(8) => self.name(),
             None => return Command::Start { vertex: self.able_or_name() },
         };
-        match self.draw.weighted(&[6, 12, 4, 3, 4, 1]) {
+        match self.draw.weighted(&[6, 12, 4, 3, 4, 1, 2]) {
             0 => {
                 let bytes = self.pair.program.len() as u32;
                 let place = if self.draw.one_in(8) { self.draw.wild() } else { self.draw.below(bytes + 1) };
@@ -988,6 +1165,7 @@ impl Scene {
             1 => {
                 let (source, target) = match self.held_edge() {
                     Some(ends) if self.draw.one_in(3) => ends,
+                    _ if self.draw.one_in(3) => (self.name(), caller),
                     _ => (self.name(), self.name()),
                 };
                 Command::NewEdge { caller, source, target }
@@ -995,7 +1173,8 @@ impl Scene {
             2 => Command::Release { caller, vertex: self.name() },
             3 => Command::Transfer { caller, vertex: self.name() },
             4 => Command::Start { vertex: self.able_or_name() },
-            _ => Command::Stop { caller },
+            5 => Command::Stop { caller },
+            _ => Command::Yield { caller },
         }
     }
 

@@ -1,6 +1,7 @@
 //! A short comparison that yet sees every word, every refusal and programs at the limits.
 
-use compare::counts::{Forces, Gaps, InCounts, Repeats, Starts, REFUSALS, WORDS};
+use compare::counts::{Callers, Crossings, Forces, Gaps, InCounts, Repeats, Starts, REFUSALS, WORDS};
+use keshtiwol::{Edition, Machine};
 
 #[test]
 fn no_difference() {
@@ -44,6 +45,17 @@ fn no_difference() {
     let edges_in = counts.edges_in();
     let InCounts { true_words, largest, none, several } = edges_in;
     assert!([true_words, largest, none, several].iter().all(|&times| times > 80), "what became of in-counts: {edges_in:?}");
+    for (by, callers) in ["commands", "steps"].iter().zip(counts.callers()) {
+        let Callers { waiting, passing, again, edges, idle_edges, cycles, stops, transfers } = callers;
+        let all = [waiting, passing, again, edges, idle_edges, stops];
+        assert!(all.iter().all(|&times| times > 100) && transfers > 30, "callers with edges in, by {by}: {callers:?}");
+        assert!(cycles > 1000 || *by == "steps", "callers with edges in, by {by}: {callers:?}");
+    }
+    let editions = counts.editions();
+    assert!(editions.iter().flatten().all(|&times| times > 100), "loads, steps, runs and lowest, by edition: {editions:?}");
+    let crossings = counts.crossings();
+    let Crossings { taken, nothing_starts, second_only } = crossings;
+    assert!(taken > 1000 && nothing_starts > 100 && second_only > 50, "where the edition mattered: {crossings:?}");
     for (call, times) in counts.unsound_beside_the_tally() {
         assert!(times > 50, "12 for a status or an edge: {call}, {times} times");
     }
@@ -57,14 +69,18 @@ fn generated_programs() {
     let mut refused = 0;
     for round in 0..3000 {
         let size = if round % 10 == 0 { programs::Size::Large } else { programs::Size::Small };
-        let program = programs::valid(&mut draw, size);
-        let machine = keshtiwol::Machine::load(&program);
+        let edition = draw.pick(&[Edition::First, Edition::Second]);
+        let program = match round % 3 {
+            0 => programs::with_forks(&mut draw, size, edition),
+            _ => programs::valid(&mut draw, size, edition),
+        };
+        let machine = Machine::load_in(&program, edition);
         assert!(machine.is_ok(), "{machine:?}: {program:02X?}");
-        refused += u32::from(keshtiwol::Machine::load(&programs::damaged(&mut draw, size)).is_err());
+        refused += u32::from(Machine::load_in(&programs::damaged(&mut draw, size, edition), edition).is_err());
     }
     assert!(refused > 2000, "only {refused} of 3000 damaged programs were refused");
     let mixed = programs::mixed();
-    let mut machine = keshtiwol::Machine::load(&mixed).unwrap();
+    let mut machine = Machine::load(&mixed).unwrap();
     assert_eq!(machine.run(keshtiwol::STEP_LIMIT).ending, keshtiwol::Ending::Done);
-    assert_eq!((mixed.len(), machine.tally().made, programs::needs(&mixed).2), (4000, 1000, 32));
+    assert_eq!((mixed.len(), machine.tally().made, programs::needs(&mixed, Edition::First).2), (4000, 1000, 32));
 }

@@ -19,6 +19,9 @@
 //! # Ok::<(), keshtiwol::Refusal>(())
 //! ```
 //!
+//! [`Machine::load`] loads in the first edition, [`Machine::load_in`] in either: the order of jobs is the same, but in the second
+//! [`Edition`] a fork makes no third vertex.
+//!
 //! Hosts that lend their own tables use the functions: [`load`], [`step`], [`run`] and [`lowest`] for programs, [`open`] and [`command`]
 //! for the bare machine, [`chain`] for both. Whatever slices they are handed, a call ends in an accepted step or in a numbered refusal that
 //! changed nothing. The engine keeps nothing between calls, and different tables may be used from different threads at once.
@@ -80,6 +83,25 @@ pub const EDGE_TABLE: usize = EDGE_WORDS * ROWS;
 /// Steps are refused, with 12, where so many were taken. No program needs as many.
 pub const STEP_LIMIT: u32 = 8192;
 
+/// How a fork is done. A program's bytes and the order of its jobs are the same in both editions. What is promised of a program as a whole
+/// is for calls of one edition; a call of the other is answered all the same, by what the tables hold.
+#[repr(u32)]
+#[derive(Clone, Copy, Debug, Default, PartialEq, Eq, Hash)]
+pub enum Edition {
+    /// The forking vertex makes a vertex for each branch and a third that goes on behind the fork, and stops: 3 vertices, 15 steps.
+    #[default]
+    First = raw::FIRST_EDITION,
+    /// It makes the two alone, with an edge from each onto itself, yields, and starts again when both have finished: 2 vertices, 12 steps.
+    Second = raw::SECOND_EDITION,
+}
+
+/// Its number in the C interface, 1 or 2.
+impl From<Edition> for u32 {
+    fn from(edition: Edition) -> u32 {
+        edition as u32
+    }
+}
+
 /// Vertices made, edges held, steps taken. Loading and opening set it.
 #[repr(C)]
 #[derive(Clone, Copy, Debug, Default, PartialEq, Eq)]
@@ -108,6 +130,8 @@ pub enum Answer {
     Job { number: u32, offset: u32 },
     /// The vertex is finished.
     Stop,
+    /// The vertex is released, and starts again by a step when no edge leads in.
+    Yield,
     /// Nothing changed. For the numbers see [`refusal`]; the place is an offset in the program, or 0.
     Refused { number: u32, place: u32 },
 }
@@ -163,7 +187,8 @@ pub enum Command {
         place: u32,
         scope: u32,
     },
-    /// Appends the edge. From a finished source, or held already, it is taken as well and changes nothing.
+    /// Appends the edge. Its target is new, released or the caller itself. From a finished source, or held already, it is taken as well
+    /// and changes nothing.
     NewEdge {
         caller: u32,
         source: u32,
@@ -182,7 +207,12 @@ pub enum Command {
     Start {
         vertex: u32,
     },
+    /// Finishes the caller, and drops its edges out; those into it stay held.
     Stop {
+        caller: u32,
+    },
+    /// Turns the caller released: it can start again when no edge leads in.
+    Yield {
         caller: u32,
     },
 }
@@ -195,28 +225,33 @@ pub fn version() -> u32 {
 }
 
 /// Loads a program: clears the usable rows and the tally, and sets the first two vertices and the edge between them.
-pub fn load(program: &[u8], vertices: &mut [u32], edges: &mut [u32], tally: &mut Tally) -> Answer {
+///
+/// Here and below `edition` is an [`Edition`], or a number for one, of which those that no edition has are refused with 98.
+pub fn load(program: &[u8], vertices: &mut [u32], edges: &mut [u32], tally: &mut Tally, edition: impl Into<u32>) -> Answer {
     let (mut no_vertex, mut no_edge) = ([0], [0]);
     let (vertices, edges) = (lend(vertices, &mut no_vertex), lend(edges, &mut no_edge));
+    let (program, bytes) = (start(program, &[0]), program.len());
     // SAFETY: true lengths of memory that is borrowed for the whole call; `lend` tells why nothing is null or overlaps.
-    answer(unsafe { raw::keshtiwol_load(start(program, &[0]), program.len(), vertices.0, vertices.1, edges.0, edges.1, tally) })
+    answer(unsafe { raw::keshtiwol_load(program, bytes, vertices.0, vertices.1, edges.0, edges.1, tally, edition.into()) })
 }
 
 /// One step of a vertex: starts a released one; an executing one does the next command of the item at its place.
-pub fn step(program: &[u8], vertices: &mut [u32], edges: &mut [u32], tally: &mut Tally, vertex: u32) -> Answer {
+pub fn step(program: &[u8], vertices: &mut [u32], edges: &mut [u32], tally: &mut Tally, edition: impl Into<u32>, vertex: u32) -> Answer {
     let (mut no_vertex, mut no_edge) = ([0], [0]);
     let (vertices, edges) = (lend(vertices, &mut no_vertex), lend(edges, &mut no_edge));
+    let (program, bytes) = (start(program, &[0]), program.len());
     // SAFETY: as in `load`.
-    answer(unsafe { raw::keshtiwol_step(start(program, &[0]), program.len(), vertices.0, vertices.1, edges.0, edges.1, tally, vertex) })
+    answer(unsafe { raw::keshtiwol_step(program, bytes, vertices.0, vertices.1, edges.0, edges.1, tally, edition.into(), vertex) })
 }
 
 /// Steps the lowest vertex that can step until all are finished, none can step or the budget is used. Jobs count as run where they
 /// are named.
-pub fn run(program: &[u8], vertices: &mut [u32], edges: &mut [u32], tally: &mut Tally, budget: u32) -> Run {
+pub fn run(program: &[u8], vertices: &mut [u32], edges: &mut [u32], tally: &mut Tally, edition: impl Into<u32>, budget: u32) -> Run {
     let (mut no_vertex, mut no_edge) = ([0], [0]);
     let (vertices, edges) = (lend(vertices, &mut no_vertex), lend(edges, &mut no_edge));
+    let (program, bytes) = (start(program, &[0]), program.len());
     // SAFETY: as in `load`.
-    let reply = unsafe { raw::keshtiwol_run(start(program, &[0]), program.len(), vertices.0, vertices.1, edges.0, edges.1, tally, budget) };
+    let reply = unsafe { raw::keshtiwol_run(program, bytes, vertices.0, vertices.1, edges.0, edges.1, tally, edition.into(), budget) };
     Run {
         ending: match reply.ending.said {
             raw::DONE => Ending::Done,
@@ -234,12 +269,13 @@ pub fn run(program: &[u8], vertices: &mut [u32], edges: &mut [u32], tally: &mut 
 }
 
 /// The lowest vertex that can step.
-pub fn lowest(program: &[u8], vertices: &[u32], edges: &[u32], tally: &Tally) -> Lowest {
+pub fn lowest(program: &[u8], vertices: &[u32], edges: &[u32], tally: &Tally, edition: impl Into<u32>) -> Lowest {
     let (no_vertex, no_edge) = ([0], [0]);
     let (vertices, vertex_words) = (start(vertices, &no_vertex), vertices.len());
     let (edges, edge_words) = (start(edges, &no_edge), edges.len());
+    let (program, bytes) = (start(program, &[0]), program.len());
     // SAFETY: as in `load`. Everything is shared, so it may overlap, and other threads may ask too, but the engine only reads it.
-    let reply = unsafe { raw::keshtiwol_lowest(start(program, &[0]), program.len(), vertices, vertex_words, edges, edge_words, tally) };
+    let reply = unsafe { raw::keshtiwol_lowest(program, bytes, vertices, vertex_words, edges, edge_words, tally, edition.into()) };
     match reply.said {
         raw::VERTEX => Lowest::Vertex(reply.first),
         raw::NONE => Lowest::NoVertex,
@@ -265,6 +301,7 @@ pub fn command(vertices: &mut [u32], edges: &mut [u32], tally: &mut Tally, comma
         Command::Transfer { caller, vertex } => (raw::DO_TRANSFER, caller, vertex, 0),
         Command::Start { vertex } => (raw::DO_START, vertex, 0, 0),
         Command::Stop { caller } => (raw::DO_STOP, caller, 0, 0),
+        Command::Yield { caller } => (raw::DO_YIELD, caller, 0, 0),
     };
     answer(numbered(vertices, edges, tally, number, caller, first, second))
 }
@@ -344,6 +381,7 @@ fn answer(reply: raw::Reply) -> Answer {
         raw::TRANSFER => Answer::Transfer(first),
         raw::JOB => Answer::Job { number: first, offset: second },
         raw::STOP => Answer::Stop,
+        raw::YIELD => Answer::Yield,
         _ => unknown("a step", reply),
     }
 }
@@ -365,6 +403,7 @@ impl fmt::Display for Answer {
             Answer::Transfer(vertex) => write!(f, "transfer {vertex}"),
             Answer::Job { number, .. } => write!(f, "job {number}"),
             Answer::Stop => write!(f, "stop"),
+            Answer::Yield => write!(f, "yield"),
             Answer::Refused { number, place } => write!(f, "refused {number} {place}"),
         }
     }
@@ -379,7 +418,7 @@ mod tests {
     fn a_command_number_that_no_command_has() {
         let (mut vertices, mut edges, mut tally) = ([0; 2 * VERTEX_WORDS], [0; 2 * EDGE_WORDS], Tally::default());
         assert_eq!(open(&mut vertices, &mut edges, &mut tally), Answer::Ready);
-        for number in [0, 7, 99, u32::MAX] {
+        for number in [0, 8, 99, u32::MAX] {
             let before = (vertices, edges, tally);
             let reply = answer(numbered(&mut vertices, &mut edges, &mut tally, number, 0, 0, 0));
             assert_eq!(reply, Answer::Refused { number: refusal::NO_SUCH_COMMAND, place: 0 });
@@ -390,6 +429,6 @@ mod tests {
     #[test]
     #[should_panic(expected = "libkeshtiwol.a answered a step with")]
     fn an_answer_that_the_header_does_not_name() {
-        answer(raw::Reply { said: 15, first: 0, second: 0 });
+        answer(raw::Reply { said: 16, first: 0, second: 0 });
     }
 }

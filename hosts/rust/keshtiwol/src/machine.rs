@@ -1,10 +1,12 @@
 use crate::{
-    Answer, Chain, Lowest, Refusal, Run, Tally, EDGE_TABLE, EDGE_WORDS, IN_COUNT, ROWS, STATUS, VERTEX_RELEASED, VERTEX_TABLE, VERTEX_WORDS,
+    Answer, Chain, Edition, Lowest, Refusal, Run, Tally, EDGE_TABLE, EDGE_WORDS, IN_COUNT, ROWS, STATUS, VERTEX_RELEASED, VERTEX_TABLE,
+    VERTEX_WORDS,
 };
 
-/// A loaded program with tables of its own, large enough for every program.
+/// A loaded program with tables of its own, large enough for every program, and the edition in which it was loaded and goes on.
 #[derive(Clone, Debug)]
 pub struct Machine {
+    edition: Edition,
     program: Vec<u8>,
     vertices: Vec<u32>,
     edges: Vec<u32>,
@@ -12,29 +14,35 @@ pub struct Machine {
 }
 
 impl Machine {
-    /// Loads a program, or tells what is wrong with it.
+    /// Loads a program in the first edition, or tells what is wrong with it.
     pub fn load(program: &[u8]) -> Result<Machine, Refusal> {
-        let mut machine =
-            Machine { program: program.to_vec(), vertices: vec![0; VERTEX_TABLE], edges: vec![0; EDGE_TABLE], tally: Tally::default() };
-        match crate::load(program, &mut machine.vertices, &mut machine.edges, &mut machine.tally) {
+        Machine::load_in(program, Edition::First)
+    }
+
+    /// Loads a program in either edition.
+    pub fn load_in(program: &[u8], edition: Edition) -> Result<Machine, Refusal> {
+        let (vertices, edges) = (vec![0; VERTEX_TABLE], vec![0; EDGE_TABLE]);
+        let mut machine = Machine { edition, program: program.to_vec(), vertices, edges, tally: Tally::default() };
+        match crate::load(program, &mut machine.vertices, &mut machine.edges, &mut machine.tally, edition) {
             Answer::Refused { number, place } => Err(Refusal { number, place }),
             _ => Ok(machine),
         }
     }
 
-    /// One step of a vertex. After [`Answer::Job`] run that job, and step this vertex again when it has ended.
+    /// One step of a vertex. After [`Answer::Job`] run that job, and step this vertex again when it has ended. After [`Answer::Yield`] a
+    /// step starts it again when no edge leads in.
     pub fn step(&mut self, vertex: u32) -> Answer {
-        crate::step(&self.program, &mut self.vertices, &mut self.edges, &mut self.tally, vertex)
+        crate::step(&self.program, &mut self.vertices, &mut self.edges, &mut self.tally, self.edition, vertex)
     }
 
     /// Steps lowest vertices first, at most `budget` times.
     pub fn run(&mut self, budget: u32) -> Run {
-        crate::run(&self.program, &mut self.vertices, &mut self.edges, &mut self.tally, budget)
+        crate::run(&self.program, &mut self.vertices, &mut self.edges, &mut self.tally, self.edition, budget)
     }
 
     /// The lowest vertex that can step.
     pub fn lowest(&self) -> Lowest {
-        crate::lowest(&self.program, &self.vertices, &self.edges, &self.tally)
+        crate::lowest(&self.program, &self.vertices, &self.edges, &self.tally, self.edition)
     }
 
     /// Whether a vertex can start: it is released, and no edge leads into it. That stands in two words of its row, so the engine is not
@@ -64,6 +72,10 @@ impl Machine {
 
     pub fn program(&self) -> &[u8] {
         &self.program
+    }
+
+    pub fn edition(&self) -> Edition {
+        self.edition
     }
 
     /// The rows of the vertices made, [`VERTEX_WORDS`] words each.

@@ -19,6 +19,10 @@ pub struct RunReply {
     pub taken: u32,
 }
 
+// The editions.
+pub const FIRST_EDITION: u32 = 1;
+pub const SECOND_EDITION: u32 = 2;
+
 // What is said.
 pub const REFUSED: u32 = 0;
 pub const READY: u32 = 1;
@@ -35,6 +39,7 @@ pub const DONE: u32 = 11;
 pub const STUCK: u32 = 12;
 pub const SPENT: u32 = 13;
 pub const CHAIN: u32 = 14;
+pub const YIELD: u32 = 15;
 
 // The commands.
 pub const DO_NEW: u32 = 1;
@@ -43,6 +48,7 @@ pub const DO_RELEASE: u32 = 3;
 pub const DO_TRANSFER: u32 = 4;
 pub const DO_START: u32 = 5;
 pub const DO_STOP: u32 = 6;
+pub const DO_YIELD: u32 = 7;
 
 extern "C" {
     pub fn keshtiwol_version() -> u32;
@@ -55,6 +61,7 @@ extern "C" {
         edges: *mut u32,
         edge_words: usize,
         tally: *mut Tally,
+        edition: u32,
     ) -> Reply;
 
     pub fn keshtiwol_step(
@@ -65,6 +72,7 @@ extern "C" {
         edges: *mut u32,
         edge_words: usize,
         tally: *mut Tally,
+        edition: u32,
         vertex: u32,
     ) -> Reply;
 
@@ -76,6 +84,7 @@ extern "C" {
         edges: *mut u32,
         edge_words: usize,
         tally: *mut Tally,
+        edition: u32,
         budget: u32,
     ) -> RunReply;
 
@@ -87,6 +96,7 @@ extern "C" {
         edges: *const u32,
         edge_words: usize,
         tally: *const Tally,
+        edition: u32,
     ) -> Reply;
 
     pub fn keshtiwol_open(vertices: *mut u32, vertex_words: usize, edges: *mut u32, edge_words: usize, tally: *mut Tally) -> Reply;
@@ -144,8 +154,9 @@ mod tests {
             VERTEX_WORDS STATUS PLACE SCOPE PHASE MADE FUTURE IN_COUNT
             EDGE_WORDS SOURCE TARGET
             VERTEX_NEW VERTEX_RELEASED VERTEX_EXECUTING VERTEX_FINISHED
+            FIRST_EDITION SECOND_EDITION
             PROGRAM_BYTES ROWS VERTEX_TABLE EDGE_TABLE STEP_LIMIT
-            REFUSED READY START NEW EDGE RELEASE TRANSFER JOB STOP NONE VERTEX DONE STUCK SPENT CHAIN
+            REFUSED READY START NEW EDGE RELEASE TRANSFER JOB STOP NONE VERTEX DONE STUCK SPENT CHAIN YIELD
             LENGTH_OUTSIDE NUMBER_MALFORMED BYTE_UNKNOWN LEVEL_TOO_DEEP BYTES_RUN_OUT BYTES_AFTER_END JOB_TOO_LARGE TOO_MANY_VERTICES
             NO_SUCH_FUTURE
             TOO_FEW_VERTEX_ROWS TOO_FEW_EDGE_ROWS UNSOUND_TABLES NOTHING_STARTS
@@ -153,8 +164,8 @@ mod tests {
             CALLER_NOT_EXECUTING NO_VERTEX_ROW NO_EDGE_ROW TARGET_NOT_WAITING CLOSES_CYCLE RELEASE_NOT_NEW
             TRANSFER_NOT_NEW TRANSFER_HAS_EDGE_OUT
             NO_CHAIN LIST_TOO_SHORT
-            NO_SUCH_COMMAND
-            DO_NEW DO_EDGE DO_RELEASE DO_TRANSFER DO_START DO_STOP
+            NO_SUCH_EDITION NO_SUCH_COMMAND
+            DO_NEW DO_EDGE DO_RELEASE DO_TRANSFER DO_START DO_STOP DO_YIELD
         ];
         assert_eq!(here, in_header);
     }

@@ -35,7 +35,8 @@ pub const TRANSFER_HAS_EDGE_OUT: u32 = 38;
 // Whoever asks for a chain.
 pub const NO_CHAIN: u32 = 41;
 pub const LIST_TOO_SHORT: u32 = 42;
-// A host that asks for a command by number.
+// A host that names an edition or a command by number.
+pub const NO_SUCH_EDITION: u32 = 98;
 pub const NO_SUCH_COMMAND: u32 = 99;
 
 /// A refusal, for hosts that want it as an error. It is shown in words, also by `{:?}`, which is how a `main` that returns it is answered.
@@ -77,6 +78,7 @@ pub fn text(number: u32) -> &'static str {
         TRANSFER_HAS_EDGE_OUT => "the vertex that would get the edges has one already",
         NO_CHAIN => "no chain of held edges leads from the target back to the source",
         LIST_TOO_SHORT => "the chain has more vertices than the list has words",
+        NO_SUCH_EDITION => "no edition has this number",
         NO_SUCH_COMMAND => "no command has this number",
         _ => "unknown",
     }

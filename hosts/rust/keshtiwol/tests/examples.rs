@@ -1,6 +1,6 @@
 //! The examples of docs/ENGINE.md, through the safe functions.
 
-use keshtiwol::{Answer, Ending, Lowest, Machine, Refusal, Run, EDGE_WORDS, FUTURE, IN_COUNT, STEP_LIMIT, TARGET, VERTEX_WORDS};
+use keshtiwol::{Answer, Edition, Ending, Lowest, Machine, Refusal, Run, EDGE_WORDS, FUTURE, IN_COUNT, STEP_LIMIT, TARGET, VERTEX_WORDS};
 
 /// Steps the lowest vertex until none can step: each step's vertex and answer.
 fn steps(machine: &mut Machine) -> Vec<(u32, Answer)> {
@@ -12,7 +12,11 @@ fn steps(machine: &mut Machine) -> Vec<(u32, Answer)> {
 }
 
 fn jobs(program: &[u8]) -> Vec<u32> {
-    let mut machine = Machine::load(program).unwrap();
+    jobs_in(Edition::First, program)
+}
+
+fn jobs_in(edition: Edition, program: &[u8]) -> Vec<u32> {
+    let mut machine = Machine::load_in(program, edition).unwrap();
     let number = |(_, answer)| match answer {
         Answer::Job { number, .. } => Some(number),
         _ => None,
@@ -21,7 +25,11 @@ fn jobs(program: &[u8]) -> Vec<u32> {
 }
 
 fn listing(program: &[u8]) -> String {
-    let mut machine = match Machine::load(program) {
+    listing_in(Edition::First, program)
+}
+
+fn listing_in(edition: Edition, program: &[u8]) -> String {
+    let mut machine = match Machine::load_in(program, edition) {
         Ok(machine) => machine,
         Err(Refusal { number, place }) => return format!("refused {number} {place}\n"),
     };
@@ -117,12 +125,44 @@ fn words_for_futures() {
     assert_eq!(words(&machine), [4, 0, 0, 0, 2, 2, 4]);
 }
 
+/// The second edition's fork makes no third vertex: the forking one yields, and starts again behind its branches.
+#[test]
+fn forks_of_the_second_edition() {
+    let fork = [4, 1, 1, 0, 1, 2, 0, 1, 3, 0];
+    let mut machine = Machine::load_in(&fork, Edition::Second).unwrap();
+    assert_eq!((machine.edition(), Machine::load(&fork).unwrap().edition()), (Edition::Second, Edition::default()));
+    assert_eq!(machine.run(8), Run { ending: Ending::Spent, last: Some(Answer::Yield), taken: 8 });
+    assert!(!machine.may_start(0) && machine.may_start(2) && machine.may_start(3));
+    assert_eq!(machine.chain(0, 2).unwrap(), [2, 0]);
+    assert_eq!(machine.run(STEP_LIMIT), Run { ending: Ending::Done, last: Some(Answer::Stop), taken: 11 });
+    assert_eq!(jobs_in(Edition::Second, &fork), [1, 2, 3]);
+    assert_eq!(
+        listing_in(Edition::Second, &fork),
+        "vertices 4 jobs 3 steps 19\n0 start\n0 new 2\n0 new 3\n0 edge 2 0\n0 edge 3 0\n0 release 2\n0 release 3\n0 yield\n2 start\n\
+         2 job 1\n2 stop\n3 start\n3 job 2\n3 stop\n0 start\n0 job 3\n0 stop\n1 start\n1 stop\n"
+    );
+    // All else is as in the first.
+    assert_eq!(listing_in(Edition::Second, &LISTED), listing(&LISTED));
+    let forks = |times| [[4, 0, 0].repeat(times), vec![0]].concat();
+    for (times, second) in [(340, true), (341, true), (511, true), (512, false)] {
+        assert_eq!(Machine::load(&forks(times)).is_ok(), times == 340);
+        match Machine::load_in(&forks(times), Edition::Second) {
+            Ok(mut machine) if second => {
+                assert_eq!(machine.run(STEP_LIMIT).taken as usize, 4 + 12 * times);
+                assert_eq!(machine.tally().made as usize, 2 + 2 * times);
+            }
+            loaded => assert_eq!(loaded.unwrap_err(), Refusal { number: 8, place: 0 }),
+        }
+    }
+}
+
 /// At each moment of some programs: a vertex may start exactly where its next step starts it, and its word is the number of edges into it.
 #[test]
 fn which_vertices_may_start() {
-    let programs: [&[u8]; 3] = [&LISTED, &[4, 1, 1, 0, 1, 2, 0, 1, 3, 0], &[5, 0, 5, 0, 6, 1, 0]];
-    for program in programs {
-        let mut machine = Machine::load(program).unwrap();
+    let fork: &[u8] = &[4, 1, 1, 0, 1, 2, 0, 1, 3, 0];
+    let first = Edition::First;
+    for (program, edition) in [(&LISTED[..], first), (fork, first), (fork, Edition::Second), (&[5, 0, 5, 0, 6, 1, 0], first)] {
+        let mut machine = Machine::load_in(program, edition).unwrap();
         loop {
             for (vertex, row) in (0..).zip(machine.vertices().chunks(VERTEX_WORDS)) {
                 let edges_in = machine.edges().chunks(EDGE_WORDS).filter(|edge| edge[TARGET] == vertex).count();

@@ -1,5 +1,5 @@
-//! Refusals of lent tables, of the host's choices and of single commands; each must change nothing. (Those of programs are among the
-//! examples; 99 is in the crate, below the safe functions.)
+//! Refusals of lent tables, of the host's choices, of editions' numbers and of single commands; each must change nothing. (Those of
+//! programs are among the examples; 99 is in the crate, below the safe functions.)
 
 use keshtiwol::*;
 
@@ -37,12 +37,21 @@ impl Lent {
         self.call(open)
     }
 
+    /// In the first edition, as is a step without another.
     fn load(&mut self, program: &[u8]) -> Answer {
-        self.call(|vertices, edges, tally| load(program, vertices, edges, tally))
+        self.load_in(Edition::First, program)
+    }
+
+    fn load_in(&mut self, edition: impl Into<u32>, program: &[u8]) -> Answer {
+        self.call(|vertices, edges, tally| load(program, vertices, edges, tally, edition))
     }
 
     fn step(&mut self, program: &[u8], vertex: u32) -> Answer {
-        self.call(|vertices, edges, tally| step(program, vertices, edges, tally, vertex))
+        self.step_in(Edition::First, program, vertex)
+    }
+
+    fn step_in(&mut self, edition: impl Into<u32>, program: &[u8], vertex: u32) -> Answer {
+        self.call(|vertices, edges, tally| step(program, vertices, edges, tally, edition, vertex))
     }
 
     fn command(&mut self, what: Command) -> Answer {
@@ -79,6 +88,10 @@ impl Lent {
     fn stop(&mut self, caller: u32) -> Answer {
         self.command(Command::Stop { caller })
     }
+
+    fn yields(&mut self, caller: u32) -> Answer {
+        self.command(Command::Yield { caller })
+    }
 }
 
 fn refused(number: u32) -> Answer {
@@ -114,10 +127,12 @@ fn commands() {
     assert_eq!(lent.transfer(1), refused(refusal::TRANSFER_NOT_NEW));
     assert_eq!(lent.edge(2, 1), Answer::Edge(2, 1));
     assert_eq!(lent.edge(2, 3), refused(refusal::NO_EDGE_ROW));
-    assert_eq!(lent.edge(1, 0), refused(refusal::TARGET_NOT_WAITING));
+    assert_eq!(lent.edge(1, 0), refused(refusal::NO_EDGE_ROW));
     assert_eq!(lent.start(1), refused(refusal::EDGE_LEADS_IN));
     assert_eq!(lent.start(0), refused(refusal::VERTEX_IS_EXECUTING));
     assert_eq!(lent.stop(1), refused(refusal::CALLER_NOT_EXECUTING));
+    assert_eq!(lent.yields(1), refused(refusal::CALLER_NOT_EXECUTING));
+    assert_eq!(lent.yields(4), refused(refusal::NO_SUCH_VERTEX));
     assert_eq!(lent.edge(4, 1), refused(refusal::NO_SUCH_VERTEX));
     assert_eq!(lent.start(u32::MAX), refused(refusal::NO_SUCH_VERTEX));
     assert_eq!(lent.release(2), Answer::Release(2));
@@ -130,6 +145,51 @@ fn commands() {
     assert_eq!(lent.tally.held, 0);
     assert_eq!(lent.edge(1, 3), Answer::Edge(1, 3));
     assert_eq!(lent.edges, [1, 3]);
+}
+
+/// The caller waits for another vertex: an edge onto itself, a yield, and a start when the other has finished.
+#[test]
+fn a_caller_that_yields() {
+    let mut lent = Lent::bare(3, 3);
+    assert_eq!([lent.new_vertex(), lent.new_vertex()], [Answer::New(1), Answer::New(2)]);
+    assert_eq!(lent.edge(1, 0), Answer::Edge(1, 0));
+    lent.edge_held_already(1, 0);
+    assert_eq!(lent.edge(0, 0), refused(refusal::CLOSES_CYCLE));
+    assert_eq!(lent.edge(0, 1), refused(refusal::CLOSES_CYCLE));
+    assert_eq!(lent.release(1), Answer::Release(1));
+    let mut yielded = lent.clone();
+    assert_eq!(yielded.yields(0), Answer::Yield);
+    assert_eq!(Answer::Yield.to_string(), "yield");
+    // Nothing but the status has changed.
+    assert_eq!((lent.vertices[STATUS], yielded.vertices[STATUS]), (VERTEX_EXECUTING, VERTEX_RELEASED));
+    lent.vertices[STATUS] = VERTEX_RELEASED;
+    assert_eq!(lent, yielded);
+    assert_eq!(lent.start(0), refused(refusal::EDGE_LEADS_IN));
+    assert_eq!(lent.start(1), Answer::Start);
+    // Only a caller is spared, and not another vertex that executes.
+    let edge = |caller, source, target| Command::NewEdge { caller, source, target };
+    assert_eq!(lent.command(edge(1, 2, 0)), Answer::Edge(2, 0));
+    lent.vertices[2 * VERTEX_WORDS + STATUS] = VERTEX_EXECUTING;
+    assert_eq!(lent.command(edge(2, 0, 1)), refused(refusal::TARGET_NOT_WAITING));
+    assert_eq!([lent.stop(1), lent.stop(2)], [Answer::Stop; 2]);
+    assert_eq!(lent.start(0), Answer::Start);
+    assert_eq!(lent.edge(1, 0), Answer::Edge(1, 0));
+    assert_eq!(lent.tally, Tally { made: 3, held: 0, steps: 0 });
+}
+
+/// A vertex stops, and one hands its edges on, while edges lead into it: those stay held.
+#[test]
+fn edges_into_a_vertex_that_stops() {
+    let mut lent = Lent::bare(4, 2);
+    for vertex in 1..4 {
+        assert_eq!(lent.new_vertex(), Answer::New(vertex));
+    }
+    assert_eq!([lent.edge(1, 0), lent.edge(0, 2)], [Answer::Edge(1, 0), Answer::Edge(0, 2)]);
+    let mut handed_on = lent.clone();
+    assert_eq!(handed_on.transfer(3), Answer::Transfer(3));
+    assert_eq!((handed_on.edges, handed_on.tally.held), (vec![1, 0, 3, 2], 2));
+    assert_eq!(lent.stop(0), Answer::Stop);
+    assert_eq!((&lent.edges[..], lent.tally.held, lent.vertices[IN_COUNT]), (&[1, 0, 0, 0][..], 1, 1));
 }
 
 #[test]
@@ -240,7 +300,7 @@ fn words_for_futures_that_lead_nowhere() {
             }
         }
     }
-    for (target, answer) in [(7, refused(refusal::NO_SUCH_VERTEX)), (0, refused(refusal::TARGET_NOT_WAITING)), (6, Answer::Edge(2, 6))] {
+    for (target, answer) in [(7, refused(refusal::NO_SUCH_VERTEX)), (2, refused(refusal::CLOSES_CYCLE)), (6, Answer::Edge(2, 6))] {
         lent.vertices[MADE] = target;
         assert_eq!(lent.step(&program, 0), answer);
     }
@@ -313,9 +373,9 @@ fn unsound_tables() {
         assert_eq!(lent.step(&program, 0), refused(refusal::UNSOUND_TABLES));
         assert_eq!(lent.stop(0), refused(refusal::UNSOUND_TABLES));
         let Lent { vertices, edges, tally } = &mut lent;
-        assert_eq!(lowest(&program, vertices, edges, tally), Lowest::Refused { number: 12, place: 0 });
+        assert_eq!(lowest(&program, vertices, edges, tally, Edition::First), Lowest::Refused { number: 12, place: 0 });
         let refused = Run { ending: Ending::Refused { number: 12, place: 0 }, last: None, taken: 0 };
-        assert_eq!(run(&program, vertices, edges, tally, 5), refused);
+        assert_eq!(run(&program, vertices, edges, tally, Edition::First, 5), refused);
         let mut list = [77; 2];
         assert_eq!(chain(vertices, edges, tally, 0, 0, &mut list), Chain::Refused { number: 12, place: 0 });
         assert_eq!(list, [77; 2]);
@@ -351,8 +411,8 @@ fn something_wrong_elsewhere() {
         // It executes now, and all else looks at everything.
         assert_eq!(lent.start(0), refused(refusal::VERTEX_IS_EXECUTING));
         assert_eq!(lent.step(&program, 0), refused(refusal::UNSOUND_TABLES));
-        let others = [lent.new_vertex(), lent.edge(0, 1), lent.release(1), lent.transfer(1), lent.stop(0)];
-        assert_eq!(others, [refused(refusal::UNSOUND_TABLES); 5]);
+        let others = [lent.new_vertex(), lent.edge(0, 1), lent.release(1), lent.transfer(1), lent.stop(0), lent.yields(0)];
+        assert_eq!(others, [refused(refusal::UNSOUND_TABLES); 6]);
     }
     // Its own row, and the tally.
     let own: [fn(&mut Lent); 5] = [
@@ -416,11 +476,56 @@ fn tables_of_no_words() {
     assert_eq!(none.step(&[0], 0), refused(refusal::NO_SUCH_VERTEX));
     assert_eq!(none.start(0), refused(refusal::NO_SUCH_VERTEX));
     let Lent { vertices, edges, tally } = &mut none;
-    assert_eq!(lowest(&[], vertices, edges, tally), Lowest::NoVertex);
+    assert_eq!(lowest(&[], vertices, edges, tally, Edition::First), Lowest::NoVertex);
     assert_eq!(chain(vertices, edges, tally, 0, 0, &mut []), Chain::Refused { number: 20, place: 0 });
-    assert_eq!(run(&[], vertices, edges, tally, 5), Run { ending: Ending::Done, last: None, taken: 0 });
+    assert_eq!(run(&[], vertices, edges, tally, Edition::First, 5), Run { ending: Ending::Done, last: None, taken: 0 });
     // One row of vertices and none of edges is a machine already.
     let mut lent = Lent::bare(1, 0);
     assert_eq!(lent.new_vertex(), refused(refusal::NO_VERTEX_ROW));
     assert_eq!(lent.stop(0), Answer::Stop);
+}
+
+/// Before all else that could be wrong, and nothing changes. The numbers that editions have do as the editions.
+#[test]
+fn a_number_that_no_edition_has() {
+    let program = [4, 0, 0, 0];
+    for number in [0, 3, 98, u32::MAX] {
+        let mut lent = Lent::new(4 * VERTEX_WORDS, 3 * EDGE_WORDS);
+        for program in [&program[..], &[], &[7]] {
+            assert_eq!(lent.load_in(number, program), refused(refusal::NO_SUCH_EDITION));
+            assert_eq!(lent.step_in(number, program, 0), refused(refusal::NO_SUCH_EDITION));
+            let before = lent.clone();
+            let Lent { vertices, edges, tally } = &mut lent;
+            assert_eq!(lowest(program, vertices, edges, tally, number), Lowest::Refused { number: 98, place: 0 });
+            let refused = Run { ending: Ending::Refused { number: 98, place: 0 }, last: None, taken: 0 };
+            assert_eq!(run(program, vertices, edges, tally, number, 5), refused);
+            assert_eq!(lent, before);
+        }
+    }
+    assert_eq!((u32::from(Edition::First), u32::from(Edition::Second)), (1, 2));
+    let mut lent = Lent::new(4 * VERTEX_WORDS, 3 * EDGE_WORDS);
+    assert_eq!(lent.load_in(1u32, &program), refused(refusal::TOO_FEW_VERTEX_ROWS));
+    assert_eq!(lent.load_in(2u32, &program), Answer::Ready);
+}
+
+/// A fork begun in the second edition, and phases that it lacks: steps of either edition go by their own.
+#[test]
+fn a_step_of_the_other_edition() {
+    let program = [4, 0, 0, 0];
+    let mut lent = Lent::new(4 * VERTEX_WORDS, 3 * EDGE_WORDS);
+    assert_eq!(lent.load_in(Edition::Second, &program), Answer::Ready);
+    for answer in [Answer::Start, Answer::New(2), Answer::New(3)] {
+        assert_eq!(lent.step_in(Edition::Second, &program, 0), answer);
+    }
+    assert_eq!(lent.step(&program, 0), refused(refusal::NO_VERTEX_ROW));
+    assert_eq!(lent.step_in(Edition::Second, &program, 0), Answer::Edge(2, 0));
+    for (phase, first, second) in [
+        (6, refused(refusal::RELEASE_NOT_NEW), Answer::Yield),
+        (7, Answer::Release(2), refused(refusal::NOTHING_STARTS)),
+        (8, Answer::Release(3), refused(refusal::NOTHING_STARTS)),
+        (9, refused(refusal::NOTHING_STARTS), refused(refusal::NOTHING_STARTS)),
+    ] {
+        lent.vertices[PHASE] = phase;
+        assert_eq!([lent.clone().step(&program, 0), lent.clone().step_in(Edition::Second, &program, 0)], [first, second], "{phase}");
+    }
 }

@@ -1,4 +1,4 @@
-//! The lent tables, their soundness (12) and the six commands: what refuses them and what they do.
+//! The lent tables, their soundness (12) and the seven commands: what refuses them and what they do.
 
 use crate::{Answer, Command, Tally};
 
@@ -152,11 +152,12 @@ impl<'a> View<'a> {
             }
             // "newEdge 30, 33, (finished source accepted), 34, 35, 32", and now "Refusal 34 is never given"
             Command::NewEdge { caller, source, target } => {
-                let caller = self.status(caller)?;
+                let caller_status = self.status(caller)?;
                 let source_status = self.status(source)?;
                 let target_status = self.status(target)?;
-                executing(caller)?;
-                if target_status == EXECUTING || target_status == FINISHED {
+                executing(caller_status)?;
+                // "33 target executing or finished", and now "33 spares the caller"
+                if target != caller && (target_status == EXECUTING || target_status == FINISHED) {
                     return Err(33);
                 }
                 // "A finished t1 adds nothing and is accepted." "An edge held already is now accepted and changes nothing, tested
@@ -208,8 +209,8 @@ impl<'a> View<'a> {
                     _ => return Err(12),
                 }
             }
-            // "stop 30"
-            Command::Stop { caller } => executing(self.status(caller)?)?,
+            // "stop 30", and "yield meets 12, 20 and 30 only"
+            Command::Stop { caller } | Command::Yield { caller } => executing(self.status(caller)?)?,
         }
         Ok(Act::Do(command))
     }
@@ -343,6 +344,11 @@ impl<'a> Tables<'a> {
                 held[kept..].fill([0; EDGE_WORDS]);
                 self.tally.held = kept as u32;
                 Answer::Stop
+            }
+            // "turns the executing caller released"
+            Command::Yield { caller } => {
+                self.rows[caller as usize][STATUS] = RELEASED;
+                Answer::Yield
             }
         }
     }

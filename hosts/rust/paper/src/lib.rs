@@ -23,8 +23,16 @@ pub struct Tally {
     pub steps: u32,
 }
 
-/// What a call answers: one of the seven things an accepted step says, `Ready` for an accepted
-/// opening or loading, or the refusal.
+/// "V and the commands of a fork are counted by the edition"; all else is shared.
+#[derive(Clone, Copy, PartialEq, Eq, Debug)]
+pub enum Edition {
+    First,
+    /// "In the new edition a fork is newTd t1, newTd t2, newEdge of each to the forking vertex, release t1, release t2, yield".
+    Second,
+}
+
+/// What a call answers: one of the seven things an accepted step says, or yield, which "an accepted
+/// step may then also say"; `Ready` for an accepted opening or loading; or the refusal.
 #[derive(Clone, Copy, PartialEq, Eq, Debug)]
 pub enum Answer {
     Ready,
@@ -35,6 +43,7 @@ pub enum Answer {
     Transfer(u32),
     Job { number: u32, offset: u32 },
     Stop,
+    Yield,
     Refused { number: u32, place: u32 },
 }
 
@@ -55,7 +64,7 @@ pub struct Run {
     pub taken: u32,
 }
 
-/// The six commands.
+/// The commands: those of the slides, and yield.
 #[derive(Clone, Copy, PartialEq, Eq, Debug)]
 pub enum Command {
     NewTd { caller: u32, place: u32, scope: u32 },
@@ -64,6 +73,7 @@ pub enum Command {
     Transfer { caller: u32, vertex: u32 },
     Start { vertex: u32 },
     Stop { caller: u32 },
+    Yield { caller: u32 },
 }
 
 /// The lowest vertex whose step would be accepted.
@@ -120,14 +130,14 @@ pub fn command(vertices: &mut [u32], edges: &mut [u32], tally: &mut Tally, comma
 
 /// "Loading clears the used rows and the tally, then sets vertex 0 (released, place 0, scope 1),
 /// vertex 1 (released, place of the last byte, scope 1) and the edge 0 to 1." So one edge leads into vertex 1.
-pub fn load(program: &[u8], vertices: &mut [u32], edges: &mut [u32], tally: &mut Tally) -> Answer {
+pub fn load(program: &[u8], vertices: &mut [u32], edges: &mut [u32], tally: &mut Tally, edition: Edition) -> Answer {
     // Order: "1; the first of 2 to 7 by place [...]; 8; 10; 11"; 43 stands "by place among 2 to 7".
-    let counts = match read(program, |_, _| ()) {
+    let counts = match read(program, edition, |_, _| ()) {
         Ok(counts) => counts,
         Err((number, place)) => return Answer::Refused { number, place },
     };
     let mut tables = Tables::new(vertices, edges, tally);
-    if tables.rows.len() < counts.vertices() as usize {
+    if tables.rows.len() < counts.vertices(edition) as usize {
         return refused(10);
     }
     if tables.edges.len() < counts.edge_rows() as usize {
@@ -145,23 +155,23 @@ pub fn load(program: &[u8], vertices: &mut [u32], edges: &mut [u32], tally: &mut
 
 /// "A step names a vertex. A released one is started. An executing one does the next command of
 /// the item at its place."
-pub fn step(program: &[u8], vertices: &mut [u32], edges: &mut [u32], tally: &mut Tally, vertex: u32) -> Answer {
+pub fn step(program: &[u8], vertices: &mut [u32], edges: &mut [u32], tally: &mut Tally, edition: Edition, vertex: u32) -> Answer {
     let mut tables = Tables::new(vertices, edges, tally);
-    match tables.view().step_of(program, vertex) {
+    match tables.view().step_of(program, edition, vertex) {
         Ok(due) => tables.take(vertex, due),
         Err(number) => refused(number),
     }
 }
 
 /// "A run takes a budget of steps and steps the lowest vertex whose step would be accepted."
-pub fn run(program: &[u8], vertices: &mut [u32], edges: &mut [u32], tally: &mut Tally, budget: u32) -> Run {
+pub fn run(program: &[u8], vertices: &mut [u32], edges: &mut [u32], tally: &mut Tally, edition: Edition, budget: u32) -> Run {
     let mut tables = Tables::new(vertices, edges, tally);
     let mut run = Run { ending: Ending::Refused { number: 12, place: 0 }, last: None, taken: 0 };
     // Accepted steps keep the tables sound, so this is asked once.
     if !tables.view().sound_to_step() {
         return run;
     }
-    let book = Book::new(program);
+    let book = Book::new(program, edition);
     // "Before each step it looks: done if all vertices made are finished; stuck if no step would
     // be accepted; spent if the budget is used."
     loop {
@@ -180,12 +190,12 @@ pub fn run(program: &[u8], vertices: &mut [u32], edges: &mut [u32], tally: &mut 
 }
 
 /// The lowest vertex whose step would be accepted; refused exactly where a run is.
-pub fn lowest(program: &[u8], vertices: &[u32], edges: &[u32], tally: &Tally) -> Lowest {
+pub fn lowest(program: &[u8], vertices: &[u32], edges: &[u32], tally: &Tally, edition: Edition) -> Lowest {
     let view = View::new(vertices, edges, tally);
     if !view.sound_to_step() {
         return Lowest::Refused { number: 12, place: 0 };
     }
-    match view.seek(&Book::new(program)) {
+    match view.seek(&Book::new(program, edition)) {
         Seek::Found(vertex, _) => Lowest::Vertex(vertex),
         Seek::Done | Seek::Stuck => Lowest::NoVertex,
     }

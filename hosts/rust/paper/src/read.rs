@@ -1,5 +1,7 @@
 //! "Program bytes": the reader. One pass, no recursion; the open bodies stand on a small stack.
 
+use crate::Edition;
+
 /// "A program has 1 to 4,096 bytes."
 const LONGEST: usize = 4096;
 /// "The main body is level 1. A body inside a body counts one level deeper, to 32": 31 openers.
@@ -33,12 +35,17 @@ pub(crate) struct Counts {
 }
 
 impl Counts {
-    /// "V = 2 + a + 2f + 3k", and "A future adds 2 vertices, 1 edge and 9 steps; a force 1, 1 and 6."
-    pub fn vertices(&self) -> u32 {
-        2 + self.asyncs + 2 * self.finishes + 3 * self.forks + 2 * self.futures + self.forces
+    /// "V = 2 + a + 2f + 3k", and "A future adds 2 vertices, 1 edge and 9 steps; a force 1, 1 and 6." In the second edition a fork
+    /// "makes 2 vertices and 2 edges".
+    pub fn vertices(&self, edition: Edition) -> u32 {
+        let by_a_fork = match edition {
+            Edition::First => 3,
+            Edition::Second => 2,
+        };
+        2 + self.asyncs + 2 * self.finishes + by_a_fork * self.forks + 2 * self.futures + self.forces
     }
 
-    /// "Edge rows needed: 1 + a + f + 2k.", with one for each future and each force.
+    /// "Edge rows needed: 1 + a + f + 2k.", with one for each future and each force, in either edition.
     pub fn edge_rows(&self) -> u32 {
         1 + self.asyncs + self.finishes + 2 * self.forks + self.futures + self.forces
     }
@@ -57,8 +64,9 @@ struct Opener {
 }
 
 /// Reads the whole program and hands each item and end byte with its place to `found`, each when
-/// it has been read to its end. Answers the counts, or the refusal of 1 to 8 or 43 that is due.
-pub(crate) fn read(program: &[u8], mut found: impl FnMut(usize, Item)) -> Result<Counts, Refusal> {
+/// it has been read to its end. Answers the counts, or the refusal of 1 to 8 or 43 that is due; of
+/// these only 8 goes by the edition.
+pub(crate) fn read(program: &[u8], edition: Edition, mut found: impl FnMut(usize, Item)) -> Result<Counts, Refusal> {
     if program.is_empty() || program.len() > LONGEST {
         return Err((1, 0));
     }
@@ -143,7 +151,7 @@ pub(crate) fn read(program: &[u8], mut found: impl FnMut(usize, Item)) -> Result
         return Err((6, at as u32));
     }
     // "8 V above 1,024"
-    if counts.vertices() > MOST_VERTICES {
+    if counts.vertices(edition) > MOST_VERTICES {
         return Err((8, 0));
     }
     Ok(counts)

@@ -6,7 +6,7 @@ use crate::graph::{
     may_start, Act, Row, Tables, View, EXECUTING, FINISHED, FUTURE, MADE, MADE_WORDS, MOST_STEPS, NEW, PHASE, PLACE, RELEASED, STATUS,
 };
 use crate::read::{read, Item};
-use crate::{Answer, Command};
+use crate::{Answer, Command, Edition};
 
 /// A step that would be accepted: what it does, and what becomes of the stepping vertex's row.
 #[derive(Clone, Copy)]
@@ -33,20 +33,21 @@ enum Then {
 /// The items of a program by place, read at most once, when first asked for.
 pub(crate) struct Book<'p> {
     program: &'p [u8],
+    edition: Edition,
     items: OnceCell<Vec<Option<Item>>>,
 }
 
 impl<'p> Book<'p> {
-    pub fn new(program: &'p [u8]) -> Book<'p> {
-        Book { program, items: OnceCell::new() }
+    pub fn new(program: &'p [u8], edition: Edition) -> Book<'p> {
+        Book { program, edition, items: OnceCell::new() }
     }
 
-    /// What starts at a place; nothing anywhere in a program that loading refuses by 1 to 8 or 43.
+    /// What starts at a place; nothing anywhere in a program that loading refuses by 1 to 8 or 43 in this edition.
     fn item(&self, place: u32) -> Option<Item> {
         let items = self.items.get_or_init(|| {
             // A program longer than 4,096 bytes is refused before anything is found in it.
             let mut items = vec![None; self.program.len().min(4096)];
-            match read(self.program, |place, item| items[place] = Some(item)) {
+            match read(self.program, self.edition, |place, item| items[place] = Some(item)) {
                 Ok(_) => items,
                 Err(_) => Vec::new(),
             }
@@ -65,7 +66,7 @@ pub(crate) enum Seek {
 /// The next command of the item at an executing vertex's place, or nothing where the phase is "not
 /// below that item's commands" or the words that a force follows lead to no future. `end` is the
 /// program's last byte.
-fn next_command(view: &View, caller: u32, row: &Row, item: Item, end: u32) -> Option<Due> {
+fn next_command(view: &View, edition: Edition, caller: u32, row: &Row, item: Item, end: u32) -> Option<Due> {
     let [_, place, scope, phase, first, second, third, ..] = *row;
     let new = |word, place: u32, scope| (Act::Do(Command::NewTd { caller, place, scope }), Then::Keep(word));
     let edge = |source, target| (Act::Do(Command::NewEdge { caller, source, target }), Then::Next);
@@ -89,17 +90,28 @@ fn next_command(view: &View, caller: u32, row: &Row, item: Item, end: u32) -> Op
         (Item::Finish { .. }, 3) => transfer(first),
         (Item::Finish { .. }, 4) => (release(first), Then::Next),
         (Item::Finish { .. }, 5) => (release(second), Then::Move(end)),
-        // "fork: newTd t1 (left), t2 (right), t (past the item), all with own scope; newEdge t1 to
-        // t; newEdge t2 to t; transfer to t; release t, t1, t2; then the last byte."
+        // Of either edition: "fork: newTd t1 (left), t2 (right), [...] with own scope".
         (Item::Fork { .. }, 0) => new(0, body, scope),
         (Item::Fork { right, .. }, 1) => new(1, right.into(), scope),
-        (Item::Fork { past, .. }, 2) => new(2, past.into(), scope),
-        (Item::Fork { .. }, 3) => edge(first, third),
-        (Item::Fork { .. }, 4) => edge(second, third),
-        (Item::Fork { .. }, 5) => transfer(third),
-        (Item::Fork { .. }, 6) => (release(third), Then::Next),
-        (Item::Fork { .. }, 7) => (release(first), Then::Next),
-        (Item::Fork { .. }, 8) => (release(second), Then::Move(end)),
+        (Item::Fork { past, .. }, phase) => match (edition, phase) {
+            // "t (past the item), all with own scope; newEdge t1 to t; newEdge t2 to t; transfer to
+            // t; release t, t1, t2; then the last byte."
+            (Edition::First, 2) => new(2, past.into(), scope),
+            (Edition::First, 3) => edge(first, third),
+            (Edition::First, 4) => edge(second, third),
+            (Edition::First, 5) => transfer(third),
+            (Edition::First, 6) => (release(third), Then::Next),
+            (Edition::First, 7) => (release(first), Then::Next),
+            (Edition::First, 8) => (release(second), Then::Move(end)),
+            // "newEdge of each to the forking vertex, release t1, release t2, yield, and then past
+            // the item; the vertex starts again."
+            (Edition::Second, 2) => edge(first, caller),
+            (Edition::Second, 3) => edge(second, caller),
+            (Edition::Second, 4) => (release(first), Then::Next),
+            (Edition::Second, 5) => (release(second), Then::Next),
+            (Edition::Second, 6) => (Act::Do(Command::Yield { caller }), Then::Move(past.into())),
+            _ => return None,
+        },
         // "newTd t (last byte, own scope), newTd t' (the future's body, scope t), newEdge t' to t, release t, release t'"; then past
         // the item.
         (Item::Future { .. }, 0) => new(0, end, scope),
@@ -123,11 +135,11 @@ fn next_command(view: &View, caller: u32, row: &Row, item: Item, end: u32) -> Op
 impl View<'_> {
     /// The step of an executing vertex with the item found at its place: "13 and the command's
     /// own, 20 for the other vertices it names included".
-    fn executing_step(&self, vertex: u32, row: &Row, item: Option<Item>, program: &[u8]) -> Result<Due, u32> {
+    fn executing_step(&self, vertex: u32, row: &Row, item: Option<Item>, program: &[u8], edition: Edition) -> Result<Due, u32> {
         let item = item.ok_or(13u32)?;
         // The program reads, so it has 1 to 4,096 bytes.
         let end = program.len() as u32 - 1;
-        let mut due = next_command(self, vertex, row, item, end).ok_or(13u32)?;
+        let mut due = next_command(self, edition, vertex, row, item, end).ok_or(13u32)?;
         if let Act::Do(command) = due.act {
             due.act = self.check(command)?;
         }
@@ -156,7 +168,7 @@ impl View<'_> {
     /// The step that names a vertex, or its refusal: "Step: 12, 20, 22, 23, then 21, or 13 and the
     /// command's own"; "for a step of a released vertex, 12 then looks at the tally and that
     /// vertex's row only", and any other looks at all of it.
-    pub fn step_of(&self, program: &[u8], vertex: u32) -> Result<Due, u32> {
+    pub fn step_of(&self, program: &[u8], edition: Edition, vertex: u32) -> Result<Due, u32> {
         if let Some(row) = self.released(vertex) {
             may_start(row)?;
             return Ok(start(vertex));
@@ -172,13 +184,13 @@ impl View<'_> {
                 // 13 speaks of the whole program, so all of it is read.
                 let mut item = None;
                 let place = row[PLACE] as usize;
-                read(program, |at, found| {
+                read(program, edition, |at, found| {
                     if at == place {
                         item = Some(found)
                     }
                 })
                 .map_err(|_| 13u32)?;
-                self.executing_step(vertex, row, item, program)
+                self.executing_step(vertex, row, item, program, edition)
             }
         }
     }
@@ -194,7 +206,7 @@ impl View<'_> {
                     RELEASED if may_start(row).is_ok() => return Seek::Found(vertex, start(vertex)),
                     EXECUTING => {
                         let item = book.item(row[PLACE]);
-                        if let Ok(due) = self.executing_step(vertex, row, item, book.program) {
+                        if let Ok(due) = self.executing_step(vertex, row, item, book.program, book.edition) {
                             return Seek::Found(vertex, due);
                         }
                     }

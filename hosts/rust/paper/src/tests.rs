@@ -1,7 +1,9 @@
 use crate::graph::{Edge, Row, EDGE_WORDS, FINISHED, FUTURE, MOST_ROWS, NEW, PHASE, PLACE, SCOPE, VERTEX_WORDS};
 use crate::read::{read, Counts, Item};
 use crate::*;
+use std::collections::BTreeSet;
 
+mod editions;
 mod futures;
 mod in_counts;
 mod order;
@@ -28,17 +30,32 @@ impl Dice {
     }
 }
 
-/// What is lent.
+const EDITIONS: [Edition; 2] = [Edition::First, Edition::Second];
+
+/// What is lent, and the edition of the calls on it.
 #[derive(Clone, PartialEq, Eq, Debug)]
 struct Lent {
+    edition: Edition,
     vertices: Vec<u32>,
     edges: Vec<u32>,
     tally: Tally,
 }
 
 impl Lent {
+    /// In the first edition.
     fn rows(vertices: usize, edges: usize) -> Lent {
-        Lent { vertices: vec![9; VERTEX_WORDS * vertices], edges: vec![9; EDGE_WORDS * edges], tally: Tally { made: 9, held: 9, steps: 9 } }
+        Lent::rows_in(Edition::First, vertices, edges)
+    }
+
+    fn rows_in(edition: Edition, vertices: usize, edges: usize) -> Lent {
+        let (vertices, edges) = (vec![9; VERTEX_WORDS * vertices], vec![9; EDGE_WORDS * edges]);
+        Lent { edition, vertices, edges, tally: Tally { made: 9, held: 9, steps: 9 } }
+    }
+
+    /// No more rows than a program needs (docs/ENGINE.md, "Limits").
+    fn rows_for(edition: Edition, program: &[u8]) -> Lent {
+        let c = counts(program);
+        Lent::rows_in(edition, c.vertices(edition) as usize, c.edge_rows() as usize)
     }
 
     fn open(&mut self) -> Answer {
@@ -50,19 +67,19 @@ impl Lent {
     }
 
     fn load(&mut self, program: &[u8]) -> Answer {
-        load(program, &mut self.vertices, &mut self.edges, &mut self.tally)
+        load(program, &mut self.vertices, &mut self.edges, &mut self.tally, self.edition)
     }
 
     fn step(&mut self, program: &[u8], vertex: u32) -> Answer {
-        step(program, &mut self.vertices, &mut self.edges, &mut self.tally, vertex)
+        step(program, &mut self.vertices, &mut self.edges, &mut self.tally, self.edition, vertex)
     }
 
     fn run(&mut self, program: &[u8], budget: u32) -> Run {
-        run(program, &mut self.vertices, &mut self.edges, &mut self.tally, budget)
+        run(program, &mut self.vertices, &mut self.edges, &mut self.tally, self.edition, budget)
     }
 
     fn lowest(&self, program: &[u8]) -> Lowest {
-        lowest(program, &self.vertices, &self.edges, &self.tally)
+        lowest(program, &self.vertices, &self.edges, &self.tally, self.edition)
     }
 
     /// Into a list of so many words: the chain or the refusal's number. Behind the list stand words that are looked at afterwards.
@@ -126,18 +143,29 @@ fn is_refused(answer: Answer) -> bool {
     matches!(answer, Answer::Refused { .. })
 }
 
+/// The same in either edition, of which the second refuses fewer programs.
 fn counts(program: &[u8]) -> Counts {
-    read(program, |_, _| ()).unwrap()
+    read(program, Edition::Second, |_, _| ()).unwrap()
 }
 
 /// 4 + w + 5a + 10f + 15k, with 9 for each future and 6 for each force
 fn full_count(program: &[u8]) -> u32 {
+    full_count_in(Edition::First, program)
+}
+
+/// In the second edition a fork "costs 12 steps in place of 15".
+fn full_count_in(edition: Edition, program: &[u8]) -> u32 {
     let c = counts(program);
-    4 + c.jobs + 5 * c.asyncs + 10 * c.finishes + 15 * c.forks + 9 * c.futures + 6 * c.forces
+    let by_a_fork = if edition == Edition::First { 15 } else { 12 };
+    4 + c.jobs + 5 * c.asyncs + 10 * c.finishes + by_a_fork * c.forks + 9 * c.futures + 6 * c.forces
 }
 
 fn loaded(program: &[u8]) -> Lent {
-    let mut lent = Lent::rows(1024, 1024);
+    loaded_in(Edition::First, program)
+}
+
+fn loaded_in(edition: Edition, program: &[u8]) -> Lent {
+    let mut lent = Lent::rows_in(edition, 1024, 1024);
     assert_eq!(lent.load(program), Answer::Ready);
     lent
 }
@@ -150,10 +178,10 @@ fn load_refusal(program: &[u8]) -> Answer {
 }
 
 /// The jobs of a program in the order in which a random schedule answers them.
-fn jobs_at_random(program: &[u8], dice: &mut Dice) -> Vec<u32> {
-    let mut lent = loaded(program);
+fn jobs_at_random(edition: Edition, program: &[u8], dice: &mut Dice) -> Vec<u32> {
+    let mut lent = loaded_in(edition, program);
     let mut jobs = Vec::new();
-    while lent.tally.steps < full_count(program) {
+    while lent.tally.steps < full_count_in(edition, program) {
         let vertex = dice.below(lent.tally.made as usize) as u32;
         if let Answer::Job { number, .. } = lent.step(program, vertex) {
             jobs.push(number);
@@ -163,13 +191,13 @@ fn jobs_at_random(program: &[u8], dice: &mut Dice) -> Vec<u32> {
 }
 
 /// The lister: heading, then each step of the lowest vertex.
-fn listing(program: &[u8]) -> String {
-    let mut lent = Lent::rows(1024, 1024);
+fn listing(edition: Edition, program: &[u8]) -> String {
+    let mut lent = Lent::rows_in(edition, 1024, 1024);
     if let Answer::Refused { number, place } = lent.load(program) {
         return format!("refused {number} {place}\n");
     }
     let c = counts(program);
-    let mut out = format!("vertices {} jobs {} steps {}\n", c.vertices(), c.jobs, full_count(program));
+    let mut out = format!("vertices {} jobs {} steps {}\n", c.vertices(edition), c.jobs, full_count_in(edition, program));
     while let Lowest::Vertex(v) = lent.lowest(program) {
         out += &match lent.step(program, v) {
             Answer::Start => format!("{v} start\n"),
@@ -179,6 +207,7 @@ fn listing(program: &[u8]) -> String {
             Answer::Transfer(a) => format!("{v} transfer {a}\n"),
             Answer::Job { number, .. } => format!("{v} job {number}\n"),
             Answer::Stop => format!("{v} stop\n"),
+            Answer::Yield => format!("{v} yield\n"),
             other => panic!("{other:?}"),
         };
     }
@@ -295,25 +324,23 @@ fn bench_examples_take_their_steps() {
         let run = lent.run(program, steps - 1);
         assert_eq!((run.ending, run.taken), (Ending::Spent, steps - 1));
         assert_eq!(lent.run(program, 1), Run { ending: Ending::Done, last: Some(Answer::Stop), taken: 1 });
-        assert_eq!(jobs_at_random(program, &mut Dice(77)).len(), jobs);
+        assert_eq!(jobs_at_random(Edition::First, program, &mut Dice(77)).len(), jobs);
     }
 }
 
 #[test]
 fn bench_examples_order_their_jobs() {
     let mut dice = Dice(5);
-    let mut seen = Vec::new();
-    for _ in 0..100 {
-        let jobs = jobs_at_random(&[2, 1, 1, 0, 1, 2, 0], &mut dice);
-        if !seen.contains(&jobs) {
-            seen.push(jobs);
+    for edition in EDITIONS {
+        let (mut asyncs, mut forks) = (BTreeSet::new(), BTreeSet::new());
+        for _ in 0..100 {
+            asyncs.insert(jobs_at_random(edition, &[2, 1, 1, 0, 1, 2, 0], &mut dice));
+            forks.insert(jobs_at_random(edition, &[4, 1, 1, 0, 1, 2, 0, 1, 3, 0], &mut dice));
+            assert_eq!(jobs_at_random(edition, &[3, 2, 1, 5, 0, 0, 1, 6, 0], &mut dice), [5, 6]);
         }
-        let jobs = jobs_at_random(&[4, 1, 1, 0, 1, 2, 0, 1, 3, 0], &mut dice);
-        assert_eq!((jobs.len(), jobs[2]), (3, 3));
-        assert_eq!(jobs_at_random(&[3, 2, 1, 5, 0, 0, 1, 6, 0], &mut dice), [5, 6]);
+        assert_eq!(asyncs, [vec![1, 2], vec![2, 1]].into());
+        assert_eq!(forks, [vec![1, 2, 3], vec![2, 1, 3]].into());
     }
-    seen.sort();
-    assert_eq!(seen, [[1, 2], [2, 1]]);
 }
 
 #[test]
@@ -405,8 +432,11 @@ fn listing_of_the_paper() {
     let expected = "vertices 5 jobs 2 steps 21\n0 start\n0 new 2\n0 new 3\n0 edge 3 2\n0 transfer 2\n\
         0 release 2\n0 release 3\n0 stop\n3 start\n3 new 4\n3 edge 4 2\n3 release 4\n3 stop\n4 start\n\
         4 job 5\n4 stop\n2 start\n2 job 6\n2 stop\n1 start\n1 stop\n";
-    assert_eq!(listing(&[3, 2, 1, 5, 0, 0, 1, 6, 0]), expected);
-    assert_eq!(listing(&[3, 0]), "refused 5 2\n");
+    // "Only fork changes".
+    for edition in EDITIONS {
+        assert_eq!(listing(edition, &[3, 2, 1, 5, 0, 0, 1, 6, 0]), expected);
+        assert_eq!(listing(edition, &[3, 0]), "refused 5 2\n");
+    }
 }
 
 // --- Reading -----------------------------------------------------------------------------------
@@ -537,11 +567,15 @@ fn commands_refuse_in_order() {
         (edge(1, 6, 0), 20),
         (edge(1, 0, 6), 20),
         (edge(1, 0, 0), 30),
+        (edge(1, 0, 1), 30),
         (edge(0, 1, 3), 33),
+        (edge(3, 1, 0), 33),
         (edge(0, 4, 4), 33),
         (edge(0, 2, 1), 35),
         (edge(0, 2, 2), 35),
+        (edge(0, 0, 0), 35),
         (edge(0, 0, 1), 32),
+        (edge(0, 1, 0), 32),
         (release(6, 1), 20),
         (release(0, 6), 20),
         (release(1, 2), 30),
@@ -559,11 +593,16 @@ fn commands_refuse_in_order() {
         (start(2), 21),
         (Command::Stop { caller: 6 }, 20),
         (Command::Stop { caller: 1 }, 30),
+        (Command::Yield { caller: 6 }, 20),
+        (Command::Yield { caller: u32::MAX }, 20),
+        (Command::Yield { caller: 1 }, 30),
+        (Command::Yield { caller: 2 }, 30),
+        (Command::Yield { caller: 4 }, 30),
     ] {
         assert_eq!(try_one(&lent, c), refusal(number, 0), "{c:?}");
     }
-    // A finished source needs no row, and adds nothing; nor does an edge held already.
-    for (source, target) in [(4, 1), (1, 2)] {
+    // A finished source needs no row, and adds nothing, onto the caller too; nor does an edge held already.
+    for (source, target) in [(4, 1), (4, 0), (1, 2)] {
         let mut after = lent.clone();
         assert_eq!(after.command(edge(0, source, target)), Answer::Edge(source, target));
         assert_eq!(after, lent);
@@ -573,11 +612,13 @@ fn commands_refuse_in_order() {
         let mut bad = lent.clone();
         bad.vertices[word] = value;
         assert_eq!(try_one(&bad, new(6)), refusal(12, 0));
+        assert_eq!(try_one(&bad, Command::Yield { caller: 3 }), refusal(12, 0));
     }
     for word in [0, 1] {
         let mut bad = lent.clone();
         bad.edges[word] = 6;
         assert_eq!(try_one(&bad, new(6)), refusal(12, 0));
+        assert_eq!(try_one(&bad, Command::Yield { caller: 3 }), refusal(12, 0));
     }
     for (made, held) in [(7, 1), (6, 2), (u32::MAX, 0), (0, u32::MAX)] {
         let mut bad = lent.clone();
@@ -743,7 +784,9 @@ fn what_a_held_edge_is_refused_for() {
         (edge(4, 1, 4), refusal(30, 0)),
         (edge(0, 1, 3), refusal(33, 0)),
         (edge(0, 1, 4), refusal(33, 0)),
-        (edge(3, 3, 3), refusal(33, 0)),
+        (edge(0, 3, 3), refusal(33, 0)),
+        (edge(3, 3, 3), Answer::Edge(3, 3)),
+        (edge(3, 1, 3), Answer::Edge(1, 3)),
         (edge(0, 4, 2), Answer::Edge(4, 2)),
     ] {
         let mut after = lent.clone();
@@ -1055,13 +1098,14 @@ fn runs_look_in_order() {
 #[test]
 fn any_schedule_takes_the_full_count() {
     let mut dice = Dice(2024);
-    for round in 0..1500 {
+    let mut yields = 0;
+    for round in 0..2000 {
+        let edition = EDITIONS[round % 2];
         let program = random_program(&mut dice);
         let c = counts(&program);
-        // No more rows than are needed (docs/ENGINE.md, "Limits").
-        let mut lent = Lent::rows(c.vertices() as usize, c.edge_rows() as usize);
+        let mut lent = Lent::rows_for(edition, &program);
         assert_eq!(lent.load(&program), Answer::Ready);
-        let mut jobs = 0;
+        let (mut jobs, mut yielded) = (0, 0);
         let mut accepted = 0;
         while lent.vertices.chunks(VERTEX_WORDS).take(lent.tally.made as usize).any(|row| row[STATUS] != FINISHED) {
             assert_ne!(lent.lowest(&program), Lowest::NoVertex);
@@ -1075,18 +1119,21 @@ fn any_schedule_takes_the_full_count() {
                     continue;
                 }
                 Answer::Job { .. } => jobs += 1,
+                Answer::Yield => yielded += 1,
                 _ => {}
             }
             accepted += 1;
             assert_eq!(lent.tally.steps, accepted);
-            if round < 200 {
+            if round < 400 {
                 assert!(!has_cycle(&lent.held()));
             }
         }
-        assert_eq!(accepted, full_count(&program));
-        assert_eq!((jobs, lent.tally.made, lent.tally.held), (c.jobs, c.vertices(), 0));
+        assert_eq!(accepted, full_count_in(edition, &program));
+        assert_eq!((jobs, lent.tally.made, lent.tally.held), (c.jobs, c.vertices(edition), 0));
+        assert_eq!(yielded, if edition == Edition::First { 0 } else { c.forks });
+        yields += yielded;
         // So does a run, in parts of any size.
-        let mut lent = loaded(&program);
+        let mut lent = loaded_in(edition, &program);
         let mut taken = 0;
         loop {
             let run = lent.run(&program, dice.below(20) as u32);
@@ -1096,8 +1143,9 @@ fn any_schedule_takes_the_full_count() {
                 ending => assert_eq!(ending, Ending::Spent),
             }
         }
-        assert_eq!(taken, full_count(&program));
+        assert_eq!(taken, full_count_in(edition, &program));
     }
+    assert!(yields > 300, "{yields}");
 }
 
 /// A run by its words alone: try each vertex by a full step on a copy.
@@ -1135,8 +1183,9 @@ fn word(dice: &mut Dice, bound: usize) -> u32 {
 fn any_words_are_answered() {
     let mut dice = Dice(99);
     let (mut stuck, mut done, mut spent, mut unsound, mut repeated) = (0, 0, 0, 0, 0);
-    let mut refusals = [0; 40];
-    for _ in 0..6000 {
+    let (mut refusals, mut yields) = ([0; 40], [0; 2]);
+    for round in 0..8000 {
+        let edition = EDITIONS[round % 2];
         let mut program = random_program(&mut dice);
         if dice.one_in(10) {
             let at = dice.below(program.len());
@@ -1144,16 +1193,17 @@ fn any_words_are_answered() {
         }
         // Places where something starts, the long items more often.
         let mut places = vec![0];
-        let _ = read(&program, |place, item| {
+        let _ = read(&program, edition, |place, item| {
             let often = match item {
                 Item::Job { .. } | Item::End => 1,
+                Item::Fork { .. } => 10,
                 _ => 5,
             };
             places.extend(vec![place as u32; often]);
         });
         let made = 1 + dice.below(8);
         let held = dice.below(8);
-        let mut lent = Lent::rows(made + dice.below(6), held + dice.below(5));
+        let mut lent = Lent::rows_in(edition, made + dice.below(6), held + dice.below(5));
         for (i, w) in lent.vertices.iter_mut().enumerate() {
             *w = match i % VERTEX_WORDS {
                 STATUS if dice.one_in(300) => dice.roll() as u32,
@@ -1188,16 +1238,19 @@ fn any_words_are_answered() {
         }
         // A single command and a step on copies.
         let (a, b, c) = (word(&mut dice, made + 1), word(&mut dice, made + 1), word(&mut dice, made + 1));
-        let command = match dice.below(6) {
+        let command = match dice.below(8) {
             0 => Command::NewTd { caller: a, place: b, scope: c },
             1 => Command::NewEdge { caller: a, source: b, target: c },
-            2 => Command::Release { caller: a, vertex: b },
-            3 => Command::Transfer { caller: a, vertex: b },
-            4 => Command::Start { vertex: a },
-            _ => Command::Stop { caller: a },
+            2 => Command::NewEdge { caller: a, source: b, target: a },
+            3 => Command::Release { caller: a, vertex: b },
+            4 => Command::Transfer { caller: a, vertex: b },
+            5 => Command::Start { vertex: a },
+            6 => Command::Stop { caller: a },
+            _ => Command::Yield { caller: a },
         };
         let mut after = lent.clone();
         let answer = after.command(command);
+        yields[0] += u32::from(answer == Answer::Yield);
         assert_eq!(after.tally.steps, lent.tally.steps);
         assert!(!is_refused(answer) || after == lent);
         let mut after = lent.clone();
@@ -1209,6 +1262,7 @@ fn any_words_are_answered() {
                     refusals[number as usize] += 1;
                 }
                 answer => {
+                    yields[1] += u32::from(answer == Answer::Yield);
                     assert_eq!(after.tally.steps, lent.tally.steps + 1);
                     if let Answer::Edge(source, target) = answer {
                         if lent.held().contains(&(source, target)) {
@@ -1246,6 +1300,7 @@ fn any_words_are_answered() {
     }
     assert!(stuck > 100 && done > 100 && spent > 100 && unsound > 100, "{stuck} {done} {spent} {unsound}");
     assert!(repeated > 0);
+    assert!(yields.iter().all(|&times| times > 30), "{yields:?}");
     for number in [12, 13, 20, 21, 22, 23, 31, 32, 33, 35, 36, 37, 38] {
         assert!(refusals[number] > 0, "{number}: {refusals:?}");
     }
@@ -1258,13 +1313,15 @@ fn any_bytes_are_answered() {
     for _ in 0..20_000 {
         let program: Vec<u8> =
             (0..dice.below(14)).map(|_| if dice.one_in(12) { dice.roll() as u8 } else { dice.below(11).saturating_sub(4) as u8 }).collect();
-        let mut lent = Lent::rows(60, 60);
-        if lent.load(&program) == Answer::Ready {
-            taken += 1;
-            assert_eq!(lent.run(&program, u32::MAX).taken, full_count(&program));
-        } else {
-            assert_eq!(lent, Lent::rows(60, 60));
+        for edition in EDITIONS {
+            let mut lent = Lent::rows_in(edition, 60, 60);
+            if lent.load(&program) == Answer::Ready {
+                taken += 1;
+                assert_eq!(lent.run(&program, u32::MAX).taken, full_count_in(edition, &program));
+            } else {
+                assert_eq!(lent, Lent::rows_in(edition, 60, 60));
+            }
         }
     }
-    assert!(taken > 300, "{taken}");
+    assert!(taken > 600, "{taken}");
 }

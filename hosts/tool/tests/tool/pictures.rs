@@ -55,6 +55,7 @@ fn told(lines: &[&str]) -> (Vec<&'static str>, Vec<(usize, usize)>) {
             "edge" => edges.push((number(2), number(3))),
             "release" => statuses[number(2)] = "released",
             "transfer" => edges.iter_mut().filter(|edge| edge.0 == vertex).for_each(|edge| edge.0 = number(2)),
+            "yield" => statuses[vertex] = "released",
             "stop" => {
                 statuses[vertex] = "finished";
                 edges.retain(|edge| edge.0 != vertex);
@@ -68,22 +69,22 @@ fn told(lines: &[&str]) -> (Vec<&'static str>, Vec<(usize, usize)>) {
 /// After every number of steps both forms are well formed and show the graph that the listing tells.
 #[test]
 fn every_moment() {
-    for program in [NESTED, FORCED] {
-        every_moment_of(program);
+    for (program, edition) in [(NESTED, "1"), (NESTED, "2"), (FORCED, "1")] {
+        every_moment_of(program, edition);
     }
 }
 
-fn every_moment_of(program: &str) {
-    let listing = written(&["list", program], b"");
+fn every_moment_of(program: &str, edition: &str) {
+    let listing = written(&["list", program, "--edition", edition], b"");
     let lines: Vec<&str> = listing.lines().skip(1).collect();
     for steps in 0..=lines.len() {
         let (statuses, edges) = told(&lines[..steps]);
         let steps = steps.to_string();
         let title = format!("After {steps} of {} steps", lines.len());
 
-        let dot = written(&["dot", "--steps", &steps, program], b"");
+        let dot = written(&["dot", "--steps", &steps, "--edition", edition, program], b"");
         assert_eq!(graphviz(&dot), edges);
-        let svg = written(&["svg", "--steps", &steps, program], b"");
+        let svg = written(&["svg", "--steps", &steps, "--edition", edition, program], b"");
         let drawn = drawn(&svg);
         assert_eq!(drawn.edges(), edges);
         assert_eq!(drawn.boxes.len(), statuses.len());

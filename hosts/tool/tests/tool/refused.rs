@@ -69,6 +69,18 @@ fn a_force_of_no_future() {
 }
 
 #[test]
+fn forks_that_only_the_second_edition_has_vertices_for() {
+    let program = "040000".repeat(400) + "00";
+    let refused = keshtiwol(&["show", &program], b"");
+    assert_eq!((refused.status, refused.out.as_str()), (1, ""));
+    assert!(refused.error.contains("refused with 8: ") && refused.error.contains("3 for each of 400 forks"), "{}", refused.error);
+    assert!(refused.error.ends_with("In the second edition it makes 802, and loads: --edition 2.\n"), "{}", refused.error);
+    for command in ["show", "list", "check", "dot", "svg"] {
+        assert_eq!(keshtiwol(&[command, "--edition", "2", &program], b"").status, 0, "{command}");
+    }
+}
+
+#[test]
 fn no_bytes_at_all() {
     for said in [keshtiwol(&["list", ""], b""), keshtiwol(&["list", "--file", "-"], b""), keshtiwol(&["list", "--hex-file", "-"], b" \n")] {
         assert_eq!((said.status, said.out.as_str()), (1, ""));

@@ -8,6 +8,7 @@ use std::time::Instant;
 
 use bench::bare;
 use bench::side::{Do, Engine, Paper, Side};
+use keshtiwol::Edition;
 
 const TRIES: usize = 1001;
 /// So many calls in each try, since one takes no longer than to read the clock.
@@ -58,7 +59,7 @@ impl<S: Side> Starts<S> {
         for _ in 0..CALLS {
             let said = match self.ask {
                 Ask::Start => side.command(Do::Start(self.vertex)),
-                Ask::Step => side.step(&self.program, self.vertex),
+                Ask::Step => side.step(&self.program, Edition::First, self.vertex),
             };
             assert_eq!(said, self.said);
             side.unstart(self.vertex);

@@ -39,7 +39,7 @@ fn examples_of_the_note() {
     assert_eq!(full_count(&program), 19);
     assert_eq!(loaded(&program).run(&program, u32::MAX), Run { ending: Ending::Done, last: Some(Answer::Stop), taken: 19 });
     assert_eq!(
-        listing(&program),
+        listing(Edition::First, &program),
         "vertices 5 jobs 0 steps 19\n0 start\n0 new 2\n0 new 3\n0 edge 3 2\n0 release 2\n0 release 3\n0 new 4\n0 edge 2 4\n\
          0 transfer 4\n0 release 4\n0 stop\n3 start\n3 stop\n2 start\n2 stop\n4 start\n4 stop\n1 start\n1 stop\n"
     );
@@ -140,7 +140,7 @@ fn what_they_add() {
         (at_the_limit(&[5, 0, 6, 0], 340), 1022, 681, 4 + 15 * 340),
     ] {
         let c = counts(&program);
-        assert_eq!((c.vertices(), c.edge_rows(), full_count(&program)), (vertices, edge_rows, steps));
+        assert_eq!((c.vertices(Edition::First), c.edge_rows(), full_count(&program)), (vertices, edge_rows, steps));
         let (vertices, edge_rows) = (vertices as usize, edge_rows as usize);
         assert_eq!(Lent::rows(vertices - 1, edge_rows).load(&program), refusal(10, 0));
         assert_eq!(Lent::rows(vertices, edge_rows - 1).load(&program), refusal(11, 0));
@@ -322,7 +322,7 @@ fn words_that_lead_to_no_future() {
         for word in [0, 9, 10, 1023, 1024, u32::MAX] {
             let mut altered = lent.clone();
             altered.vertices[VERTEX_WORDS * vertex + FUTURE] = word;
-            // Before the command's own: 20 for the target, 33, 35, 32.
+            // Before the command's own: 20 for the target, 35, 32.
             for target in [8, 99, 0, 2, 4, 6] {
                 altered.vertices[MADE] = target;
                 let before = altered.clone();
@@ -344,11 +344,16 @@ fn words_that_lead_to_no_future() {
         assert_eq!(altered.step(&program, 0), Answer::Edge(2, 8));
     }
     // Where the words lead to a vertex made, the command's own are due.
-    for (target, number) in [(9, 20), (u32::MAX, 20), (0, 33), (2, 35), (1, 32)] {
+    for (target, number) in [(9, 20), (u32::MAX, 20), (0, 32), (2, 35), (1, 32)] {
         let mut altered = lent.clone();
         altered.vertices[MADE] = target;
         altered.edges.truncate(EDGE_WORDS * lent.tally.held as usize);
         assert_eq!(altered.step(&program, 0), refusal(number, 0));
+    }
+    for status in [EXECUTING, FINISHED] {
+        let mut altered = lent.clone();
+        altered.vertices[VERTEX_WORDS * 8 + STATUS] = status;
+        assert_eq!(altered.step(&program, 0), refusal(33, 0));
     }
     // A run meets it as well: no other vertex can step.
     let program = [5, 0, 6, 0, 0];

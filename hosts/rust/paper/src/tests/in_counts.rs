@@ -47,7 +47,7 @@ fn what_each_call_does_to_it() {
     // One that is held already does not, nor does one that is refused.
     accepted(&mut lent, edge(1, 2));
     assert_eq!(lent.command(edge(2, 1)), refusal(35, 0));
-    assert_eq!(lent.command(edge(1, 0)), refusal(33, 0));
+    assert_eq!(lent.command(edge(1, 0)), refusal(35, 0));
     assert_eq!(lent.in_counts(), [0, 1, 3, 0, 0, 0]);
     // A transfer moves sources, and no target.
     accepted(&mut lent, Command::Transfer { caller: 0, vertex: 4 });
@@ -259,6 +259,8 @@ fn something_wrong_elsewhere() {
             stop(0),
             stop(1),
             stop(6),
+            Command::Yield { caller: 0 },
+            Command::Yield { caller: 1 },
         ] {
             let mut after = lent.clone();
             assert_eq!(after.command(command), refusal(12, 0), "{command:?}");
@@ -340,12 +342,14 @@ fn random_command(dice: &mut Dice, caller: u32, made: usize) -> Command {
         dice.below(made + more) as u32
     };
     let (a, b) = (name(), name());
-    match dice.below(20) {
+    match dice.below(24) {
         0..=2 => Command::NewTd { caller, place: a, scope: b },
         3..=10 => Command::NewEdge { caller, source: a, target: b },
-        11..=13 => Command::Release { caller, vertex: a },
-        14 | 15 => Command::Transfer { caller, vertex: a },
-        16..=18 => start(a),
+        11 | 12 => Command::NewEdge { caller, source: a, target: caller },
+        13..=15 => Command::Release { caller, vertex: a },
+        16 | 17 => Command::Transfer { caller, vertex: a },
+        18..=21 => start(a),
+        22 => Command::Yield { caller },
         _ => stop(caller),
     }
 }
@@ -379,7 +383,9 @@ fn assert_true(lent: &Lent) -> [u32; 2] {
 fn kept_true_from_an_opening_on() {
     let mut dice = Dice(66);
     let (mut starts, mut dropped, mut most, mut refused) = ([0; 2], 0, 0, 0);
-    for _ in 0..1500 {
+    // Yields, edges taken onto the caller, and stops and transfers of vertices that edges lead into.
+    let (mut yields, mut onto_caller, mut stops, mut transfers) = (0, 0, 0, 0);
+    for _ in 0..3000 {
         let rows = 2 + dice.below(9);
         let edge_rows = dice.below(2 * rows + 1);
         let mut lent = Lent::rows(rows, edge_rows);
@@ -401,12 +407,19 @@ fn kept_true_from_an_opening_on() {
                 assert_eq!(lent, before);
             }
             dropped += u32::from(answer == Answer::Stop && lent.tally.held < before.tally.held);
+            yields += u32::from(answer == Answer::Yield);
+            onto_caller += u32::from(matches!(answer, Answer::Edge(_, target) if target == caller));
+            let edges_in = before.edges_into()[caller as usize] > 0;
+            stops += u32::from(edges_in && answer == Answer::Stop);
+            transfers += u32::from(edges_in && matches!(answer, Answer::Transfer(_)));
             most = lent.in_counts().into_iter().fold(most, u32::max);
             let seen = assert_true(&lent);
             (starts[0], starts[1]) = (starts[0] + seen[0], starts[1] + seen[1]);
         }
     }
     assert!(starts[0] > 5000 && starts[1] > 5000 && dropped > 500 && most > 3 && refused > 5000, "{starts:?} {dropped} {most} {refused}");
+    let seen = [yields, onto_caller, stops, transfers];
+    assert!(seen.iter().all(|&times| times > 100), "{seen:?}");
 }
 
 /// "kept true by every command from loading [...] on": by steps of any vertices, the refused ones included, and by runs.
@@ -414,12 +427,12 @@ fn kept_true_from_an_opening_on() {
 fn kept_true_from_a_loading_on() {
     let mut dice = Dice(67);
     let (mut starts, mut refused) = ([0; 2], 0);
-    for _ in 0..600 {
+    for round in 0..800 {
+        let edition = EDITIONS[round % 2];
         let program = random_program(&mut dice);
-        let c = counts(&program);
-        let mut lent = Lent::rows(c.vertices() as usize, c.edge_rows() as usize);
+        let mut lent = Lent::rows_for(edition, &program);
         assert_eq!(lent.load(&program), Answer::Ready);
-        while lent.tally.steps < full_count(&program) {
+        while lent.tally.steps < full_count_in(edition, &program) {
             if dice.one_in(20) {
                 lent.run(&program, dice.below(6) as u32);
             } else {

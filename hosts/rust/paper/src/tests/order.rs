@@ -1,7 +1,7 @@
-//! "Which job comes ahead", with futures: what the machine does in all orders of steps, against the note's words.
+//! "Which job comes ahead", with futures: what the machine does in all orders of steps, in either edition, against the notes' words.
 
 use super::*;
-use std::collections::{BTreeSet, HashSet};
+use std::collections::HashSet;
 use std::fmt::Write;
 use std::rc::Rc;
 
@@ -174,12 +174,12 @@ struct Orders {
 
 /// Takes every step that is accepted in every state that steps lead to from loading, with no more rows than are needed. Each order ends
 /// at the full count, and meets no refusal but 21 to 23 and no cycle.
-fn all_orders(program: &[u8]) -> Orders {
+fn all_orders(edition: Edition, program: &[u8]) -> Orders {
     let c = counts(program);
-    let mut first = Lent::rows(c.vertices() as usize, c.edge_rows() as usize);
+    let mut first = Lent::rows_for(edition, program);
     assert_eq!(first.load(program), Answer::Ready);
     let mut jobs = Vec::new();
-    let _ = read(program, |_, item| {
+    let _ = read(program, edition, |_, item| {
         if let Item::Job { number, .. } = item {
             assert!(!jobs.contains(&number), "the jobs of these programs have numbers of their own");
             jobs.push(number);
@@ -219,8 +219,8 @@ fn all_orders(program: &[u8]) -> Orders {
         }
         assert_eq!(steps == 0, all_finished, "{program:02x?}");
         if all_finished {
-            assert_eq!((lent.tally.steps, lent.tally.held), (full_count(program), 0));
-            assert_eq!((lent.tally.made, answered.count_ones()), (c.vertices(), c.jobs));
+            assert_eq!((lent.tally.steps, lent.tally.held), (full_count_in(edition, program), 0));
+            assert_eq!((lent.tally.made, answered.count_ones()), (c.vertices(edition), c.jobs));
         }
     }
     Orders { before, jobs_before_vertex_1, states: seen.len() }
@@ -236,7 +236,32 @@ fn state(lent: &Lent, answered: u32) -> Vec<u8> {
 // --- One against the other ---------------------------------------------------------------------
 
 /// Programs in hexadecimal and in words, and their ordered pairs of jobs.
-const TABLE: [(&str, &str, &[(u32, u32)]); 38] = [
+const TABLE: [(&str, &str, &[(u32, u32)]); 50] = [
+    // Forks: nested, one after the other, and with asyncs and finishes in their branches.
+    ("04 01 01 00 01 02 00 01 03 00", "fork { job 1 } { job 2 } job 3", &[(1, 3), (2, 3)]),
+    ("04 00 00 01 01 04 00 00 00", "fork { } { } job 1 fork { } { }", &[]),
+    (
+        "04 04 01 01 00 01 02 00 01 03 00 01 04 00 01 05 00",
+        "fork { fork { job 1 } { job 2 } job 3 } { job 4 } job 5",
+        &[(1, 3), (1, 5), (2, 3), (2, 5), (3, 5), (4, 5)],
+    ),
+    ("04 01 01 00 04 01 02 00 01 03 00 00 01 04 00", "fork { job 1 } { fork { job 2 } { job 3 } } job 4", &[(1, 4), (2, 4), (3, 4)]),
+    (
+        "04 01 01 00 01 02 00 04 01 03 00 01 04 00 00",
+        "fork { job 1 } { job 2 } fork { job 3 } { job 4 }",
+        &[(1, 3), (1, 4), (2, 3), (2, 4)],
+    ),
+    ("04 02 01 01 00 00 01 02 00 01 03 00", "fork { async { job 1 } } { job 2 } job 3", &[(2, 3)]),
+    ("04 02 01 01 00 01 02 00 01 03 00 01 04 00", "fork { async { job 1 } job 2 } { job 3 } job 4", &[(2, 4), (3, 4)]),
+    ("04 03 02 01 01 00 00 00 01 02 00 01 03 00", "fork { finish { async { job 1 } } } { job 2 } job 3", &[(1, 3), (2, 3)]),
+    ("03 04 02 01 01 00 00 01 02 00 00 01 03 00", "finish { fork { async { job 1 } } { job 2 } } job 3", &[(1, 3), (2, 3)]),
+    ("02 04 01 01 00 01 02 00 01 03 00 01 04 00", "async { fork { job 1 } { job 2 } job 3 } job 4", &[(1, 3), (2, 3)]),
+    ("05 04 01 01 00 01 02 00 01 03 00 01 04 00", "future { fork { job 1 } { job 2 } job 3 } job 4", &[(1, 3), (2, 3)]),
+    (
+        "04 05 01 01 00 06 00 01 02 00 01 03 00 01 04 00",
+        "fork { future { job 1 } force 0 job 2 } { job 3 } job 4",
+        &[(1, 2), (1, 4), (2, 4), (3, 4)],
+    ),
     // A future never forced.
     ("05 01 01 00 01 02 00", "future { job 1 } job 2", &[]),
     ("01 01 05 01 02 00 01 03 00", "job 1 future { job 2 } job 3", &[(1, 2), (1, 3)]),
@@ -324,7 +349,9 @@ fn orders_of_the_table() {
         assert_eq!(words(&tree(&program)).trim_end(), in_words, "{hexadecimal}");
         let pairs: Pairs = pairs.iter().copied().collect();
         assert_eq!(ahead(&program), pairs, "{in_words}");
-        assert_eq!(all_orders(&program).before, pairs, "{in_words}");
+        for edition in EDITIONS {
+            assert_eq!(all_orders(edition, &program).before, pairs, "{edition:?}: {in_words}");
+        }
     }
 }
 
@@ -360,39 +387,59 @@ fn small_body(dice: &mut Dice, level: usize, mut open: usize, room: &mut usize, 
     out.push(0);
 }
 
-/// A small program with a future, with three to six jobs, and mostly with a force.
-fn small_program(dice: &mut Dice, most_steps: u32) -> Vec<u8> {
+/// A small program with three to six jobs.
+fn small_program(dice: &mut Dice, most_steps: u32, wanted: impl Fn(Counts) -> bool) -> Vec<u8> {
     loop {
         let (mut room, mut jobs, mut program) = (4 + dice.below(4), 0, Vec::new());
         small_body(dice, 1, 0, &mut room, &mut jobs, &mut program);
         let c = counts(&program);
-        let forced = c.forces > 0 || dice.one_in(10);
-        if c.futures > 0 && forced && (3..=6).contains(&c.jobs) && full_count(&program) <= most_steps {
+        if wanted(c) && (3..=6).contains(&c.jobs) && full_count(&program) <= most_steps {
             return program;
         }
     }
 }
 
-#[test]
-fn orders_of_random_programs() {
-    let mut dice = Dice(505);
+/// All orders of so many random programs, in each of these editions.
+fn orders_at_random(programs: usize, editions: &[Edition], mut draw: impl FnMut() -> Vec<u8>) {
     let (mut states, mut ordered, mut unordered) = (0, 0, 0);
     let mut tried = HashSet::new();
-    while tried.len() < 400 {
-        let program = small_program(&mut dice, 48);
+    while tried.len() < programs {
+        let program = draw();
         if !tried.insert(program.clone()) {
             continue;
         }
         let pairs = ahead(&program);
-        let orders = all_orders(&program);
-        assert_eq!(orders.before, pairs, "{program:02x?}: {}", words(&tree(&program)));
+        for &edition in editions {
+            let orders = all_orders(edition, &program);
+            assert_eq!(orders.before, pairs, "{edition:?}, {program:02x?}: {}", words(&tree(&program)));
+            states += orders.states;
+        }
         let jobs = counts(&program).jobs as usize;
-        states += orders.states;
         ordered += pairs.len();
         unordered += jobs * (jobs - 1) / 2 - pairs.len();
     }
-    println!("{states} states of {} programs; {ordered} pairs ordered, {unordered} not", tried.len());
-    assert!(ordered > 500 && unordered > 500, "{ordered} {unordered}");
+    println!("{states} states of {} programs, {editions:?}; {ordered} pairs ordered, {unordered} not", tried.len());
+    assert!(ordered > programs && unordered > programs, "{ordered} {unordered}");
+}
+
+/// With a future, mostly with a force.
+#[test]
+fn orders_of_programs_with_futures() {
+    let (mut dice, mut unforced) = (Dice(505), Dice(506));
+    orders_at_random(400, &EDITIONS, || {
+        let forced = !unforced.one_in(10);
+        small_program(&mut dice, 48, |c| c.futures > 0 && (c.forces > 0 || !forced))
+    });
+}
+
+/// With a fork, often with several.
+#[test]
+fn orders_of_programs_with_forks() {
+    let (mut dice, mut alone) = (Dice(1010), Dice(1011));
+    orders_at_random(200, &EDITIONS, || {
+        let forks = if alone.one_in(2) { 1 } else { 2 };
+        small_program(&mut dice, 52, |c| c.forks >= forks)
+    });
 }
 
 /// "An unforced future still ends, but vertex 1 need not finish last."
@@ -404,12 +451,16 @@ fn vertex_1_need_not_finish_last() {
         ("05 01 01 00 06 00 00", true),
         ("05 01 01 00 02 06 00 00 00", true),
         ("05 01 01 00 05 06 00 00 06 00 00", true),
+        ("04 02 01 01 00 00 01 02 00 00", true),
+        ("04 05 01 01 00 00 01 02 00 00", false),
         ("05 01 01 00 00", false),
         ("03 05 01 01 00 00 00", false),
         ("05 05 01 01 00 00 06 00 00", false),
         ("05 01 01 00 05 06 00 00 00", false),
     ] {
-        assert_eq!(all_orders(&bytes(program)).jobs_before_vertex_1, last, "{program}");
+        for edition in EDITIONS {
+            assert_eq!(all_orders(edition, &bytes(program)).jobs_before_vertex_1, last, "{edition:?}: {program}");
+        }
     }
     // Lowest first, vertex 1 stops before the future's body starts; the run is done when all vertices are finished.
     let program = bytes("05 01 07 00 00");
@@ -434,7 +485,8 @@ fn vertex_1_need_not_finish_last() {
 fn larger_programs_keep_the_order() {
     let mut dice = Dice(77);
     let mut ordered = 0;
-    for _ in 0..300 {
+    for round in 0..400 {
+        let edition = EDITIONS[round % 2];
         let (mut room, mut jobs, mut program) = (20 + dice.below(20), 0, Vec::new());
         small_body(&mut dice, 1, 0, &mut room, &mut jobs, &mut program);
         // The roads of forces in futures can double again and again.
@@ -443,7 +495,7 @@ fn larger_programs_keep_the_order() {
         }
         let pairs = ahead(&program);
         for _ in 0..4 {
-            let order = jobs_at_random(&program, &mut dice);
+            let order = jobs_at_random(edition, &program, &mut dice);
             let at = |job: u32| order.iter().position(|&answered| answered == job).unwrap();
             for &(p, q) in &pairs {
                 ordered += 1;
