@@ -5,6 +5,7 @@
 -- The theorems:
 --     Demand3         demand 3, of whatever is reached from an accepted loading
 --     Traces          demand 3 of every list of calls, and of every trace of an engine, which is the plain machine's
+--     FairOrders      every fair order of the jobs can happen, and no other (note 7)
 --     Calls           a list of calls, runs among them, reaches what its steps reach; what a run answers of these steps
 --     LoadLaws        demand 2 of loading: what is accepted, that a refusal changes nothing, and that no word past the usable rows changes
 --     StepDemand2     demand 2 of a step: it is what is due, taken where its command is
@@ -17,6 +18,7 @@
 --                     waiting for, the same of the force; two branches of a fork are not ordered
 --     AheadExamples   this order, on two of the example programs, and on two with a future
 --     OrderExamples   and in every list of steps of two of them
+--     JobsAnswered    the order in which answers name jobs
 --     ReachedLaws     more of whatever is reached: the rows suffice, an executing vertex can step, and a step's edge is a new one
 -- In rooms of their own, each with its list:
 --     GhostMachine    the ghost machine, and what holds of every state that it reaches
@@ -25,6 +27,7 @@
 --     TablesFollow    the tables follow the ghost machine
 pub mod Demand3
 pub mod Traces
+pub mod FairOrders
 pub mod Calls
 pub mod LoadLaws
 pub mod StepDemand2
@@ -36,6 +39,7 @@ pub mod AheadIsPre
 pub mod AheadUnique
 pub mod AheadExamples
 pub mod OrderExamples
+pub mod JobsAnswered
 pub mod ReachedLaws
 pub mod GhostMachine
 pub mod Counting

@@ -9,6 +9,7 @@
 --     Reached    what can be reached from a loading, and lists of calls
 --     Demand3    demand 3
 --     Traces     traces of an engine, as the contracts of its calls tie them
+--     FairOrders every fair order of the jobs can happen, and a schedule for each
 --     Examples   the bench examples that are proved, as one table
 pub mod Answers
 pub mod Loading
@@ -19,4 +20,5 @@ pub mod Ahead
 pub mod Reached
 pub mod Demand3
 pub mod Traces
+pub mod FairOrders
 pub mod Examples

@@ -16,6 +16,7 @@
 --     job-once          it is at most 1
 --     job-past          it is 1, if a job is written at q and total (jobAt q) S ≡ 0
 --     job-done          it is 1, if a job is written at q and total each S ≡ 0
+--     job-gone          if it is 1, nothing of the job is left to any vertex
 -- Of any state S:
 --     all-over          total each S ≡ 0 → every vertex is over
 --     over-all          every vertex is over → total ω S ≡ 0, for any ω
@@ -284,7 +285,7 @@ jobs-le ed q c l = go (told ed q c l)
     go (one-there e s i) = omega arith
 
 -- and one is counted if it is written
-jobs-one : (ed : Edition) (q : ℕ) (c : Code) → Laid c → Job c q → jobsAt ed q c ≡ 1
+pub jobs-one : (ed : Edition) (q : ℕ) (c : Code) → Laid c → Job c q → jobsAt ed q c ≡ 1
 jobs-one ed q c l j = go (told ed q c l)
   where
     go : Told q (jobsAt ed q c) (Job c q) (startOf c) (last c) → jobsAt ed q c ≡ 1
@@ -397,3 +398,12 @@ pub job-done :
     (q : ℕ) (p : Code) (Γ : Setting) {es : List Event} {S : State} → Laid p → Job p q → Runs (beginning p Γ) es S → total each S ≡ 0
     → spent (jobAt q) es ≡ 1
 job-done q p Γ {S = S} l j r z = job-past q p Γ l j r (over-all (jobAt q) S (all-over S z))
+
+-- and once it is done, nothing of it is left to any vertex
+pub job-gone :
+    (q : ℕ) (p : Code) (Γ : Setting) {es : List Event} {S : State} → Laid p → Runs (beginning p Γ) es S → spent (jobAt q) es ≡ 1
+    → (v : ℕ) → v < S .count → left (S .setting) (jobAt q) (S .control v) ≡ 0
+unfolding total
+job-gone q p Γ {S = S} l r one v lt =
+    sum-zero (λ v. left (S .setting) (jobAt q) (S .control v)) (S .count)
+    (omega (arith, one, runs-on (jobAt q) p Γ r, jobs-total q p Γ, jobs-le (Γ .edition) q p l)) v lt

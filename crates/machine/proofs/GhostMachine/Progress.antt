@@ -1,5 +1,5 @@
 -- Some vertex can move on as long as one is not over: one that executes can; a new one was made by one that executes; and from a released
--- one the edges are followed back, to lower and lower ranks, up to one that executes or to a released one that nothing leads to.
+-- one the edges are followed back, to lower and lower ranks, up to one that executes, to a new one, or to a released one that nothing leads to.
 use Prim.Native.Nat.{ℕ, zero, suc, _<_, _≤_}
 use mathlib.Core.Path.{_≡_, refl, _∙_, ap}
 use mathlib.Core.Bool.{Bool, true, false}
@@ -10,8 +10,8 @@ use native.Mathlib.Omega.{arith}
 use Rattle.graph.proofs.TestLaws.{not-so, true-false}
 use Rattle.program.specs.Located.{Code}
 use Rattle.machine.proofs.GhostMachine.Ghost.{Do, Control, draft, fresh, ready, busy, joining, over, State}
-use Rattle.machine.proofs.GhostMachine.Invariant.{In, Shape, Ranks, tasks, tasksOf}
-use Rattle.machine.proofs.GhostMachine.GhostLaws.{in-none}
+use Rattle.machine.proofs.GhostMachine.Invariant.{In, Shape, Ranks, tasks, tasksOf, isNew}
+use Rattle.machine.proofs.GhostMachine.GhostLaws.{in-none, draft-new, fresh-new}
 use Rattle.machine.proofs.GhostMachine.Ended.{Ended}
 
 -- v can move on
@@ -32,8 +32,14 @@ seek f (suc n) = go (f n) refl (seek f n)
     go true e (inr none) = inl (n, e)
     go false e (inr none) = inr (λ u lt. ⊎-elim (λ p. ap f p ∙ e) (λ l. none u l) (eq-or-lt-of-le (le-of-suc-le-suc lt)))
 
+-- back from v along held edges, up to a vertex that can move on, or to a new one whose maker can
+pub data Back (S : State) : ℕ → Type 0 where
+  itself : {v : ℕ} → Free S v → Back S v
+  at-maker : {v : ℕ} → isNew (S .control v) ≡ true → Free S (S .maker v) → Back S v
+  along : {u v : ℕ} → S .edge u v ≡ true → Back S u → Back S v
+
 -- whoever has something left to do executes
-busy-with : {S : State} (t : ℕ) {d : Do} → In d (tasksOf S t) → Free S t
+pub busy-with : {S : State} (t : ℕ) {d : Do} → In d (tasksOf S t) → Free S t
 unfolding tasks
 busy-with {S} t {d} i = go (S .control t) refl i
   where
@@ -48,10 +54,12 @@ busy-with {S} t {d} i = go (S .control t) refl i
 -- from one vertex, where it is known from those of a rank below n
 one-back :
     {S : State} → Shape S → Ranks S → Ended S → (n v : ℕ) → S .rank v ≤ n
-    → ((u : ℕ) → S .rank u < n → (S .control u ≡ over → ⊥) → (w : ℕ) × Free S w) → (x : Control) → S .control v ≡ x → (x ≡ over → ⊥)
-    → (w : ℕ) × Free S w
-one-back {S} shape ranks ended n v le again (draft c) e live = let (c', ms, at, i) = shape .drafts v c e in (S .maker v, at-code at)
-one-back {S} shape ranks ended n v le again (fresh c) e live = (S .maker v, busy-with (S .maker v) (shape .freshes v c e))
+    → ((u : ℕ) → S .rank u < n → (S .control u ≡ over → ⊥) → Back S u) → (x : Control) → S .control v ≡ x → (x ≡ over → ⊥) → Back S v
+one-back shape ranks ended n v le again (draft c) e live =
+    let (c', ms, at, i) = shape .drafts v c e in
+    at-maker (draft-new e) (at-code at)
+one-back {S} shape ranks ended n v le again (fresh c) e live =
+    at-maker (fresh-new e) (busy-with (S .maker v) (shape .freshes v c e))
 one-back {S} shape ranks ended n v le again (ready c) e live = go (seek (λ u. S .edge u v) (S .count))
   where
     lower : (u : ℕ) → S .edge u v ≡ true → S .rank u < n
@@ -60,19 +68,28 @@ one-back {S} shape ranks ended n v le again (ready c) e live = go (seek (λ u. S
         let b : S .fin u < S .rank v = ranks .edge-rank u v p in
         omega arith
 
-    go : ((u : ℕ) × (S .edge u v ≡ true)) ⊎ ((u : ℕ) → u < S .count → S .edge u v ≡ false) → (w : ℕ) × Free S w
-    go (inl (u, p)) = again u (lower u p) (λ o. true-false p (ended u v o))
-    go (inr none) = (v, unblocked e (λ u. not-so (S .edge u v) (λ p. true-false p (none u (shape .within u v p .0)))))
-one-back shape ranks ended n v le again (busy c ms) e live = (v, at-code e)
-one-back shape ranks ended n v le again (joining c d ds) e live = (v, at-work e)
+    go : ((u : ℕ) × (S .edge u v ≡ true)) ⊎ ((u : ℕ) → u < S .count → S .edge u v ≡ false) → Back S v
+    go (inl (u, p)) = along p (again u (lower u p) (λ o. true-false p (ended u v o)))
+    go (inr none) = itself (unblocked e (λ u. not-so (S .edge u v) (λ p. true-false p (none u (shape .within u v p .0)))))
+one-back shape ranks ended n v le again (busy c ms) e live = itself (at-code e)
+one-back shape ranks ended n v le again (joining c d ds) e live = itself (at-work e)
 one-back shape ranks ended n v le again over e live = absurd (live refl)
 
 -- from a vertex of a rank below n
-back : {S : State} → Shape S → Ranks S → Ended S → (n v : ℕ) → S .rank v < n → (S .control v ≡ over → ⊥) → (w : ℕ) × Free S w
+back : {S : State} → Shape S → Ranks S → Ended S → (n v : ℕ) → S .rank v < n → (S .control v ≡ over → ⊥) → Back S v
 back {S} shape ranks ended zero v lt live = absurd (let z : S .rank v < 0 = lt in omega arith)
 back {S} shape ranks ended (suc n) v lt live =
     one-back shape ranks ended n v (le-of-suc-le-suc lt) (λ u l o. back shape ranks ended n u l o) (S .control v) refl live
 
+-- From each vertex that is not over one can go back so.
+pub goes-back : {S : State} → Shape S → Ranks S → Ended S → (v : ℕ) → (S .control v ≡ over → ⊥) → Back S v
+goes-back {S} shape ranks ended v live = back shape ranks ended (suc (S .rank v)) v (omega arith) live
+
+back-free : {S : State} {v : ℕ} → Back S v → (w : ℕ) × Free S w
+back-free (itself {v} f) = (v, f)
+back-free {S} (at-maker {v} n f) = (S .maker v, f)
+back-free (along e b) = back-free b
+
 -- Where some vertex is not over, one can move on.
 pub can-go-on : {S : State} → Shape S → Ranks S → Ended S → (v : ℕ) → (S .control v ≡ over → ⊥) → (w : ℕ) × Free S w
-can-go-on {S} shape ranks ended v live = back shape ranks ended (suc (S .rank v)) v (omega arith) live
+can-go-on shape ranks ended v live = back-free (goes-back shape ranks ended v live)

@@ -13,6 +13,11 @@ use Rattle.machine.proofs.GhostMachine.GhostLaws.{clash, draft-new, in-
 use Rattle.machine.proofs.GhostMachine.ShapeStep.{joined-old}
 use Rattle.machine.proofs.GhostMachine.SettledLaws.{source-idle}
 
+-- one way behind another
+pub way-join : {R : ℕ → ℕ → Type 0} {a b c : ℕ} → Way R a b → Way R b c → Way R a c
+way-join (one r) w = more r w
+way-join (more r w) w' = more r (way-join w w')
+
 -- a way by edges that are still there
 pub way-map : {R R' : ℕ → ℕ → Type 0} {a b : ℕ} → ((x y : ℕ) → R x y → R' x y) → Way R a b → Way R' a b
 way-map f (one r) = one (f _ _ r)

@@ -11,7 +11,7 @@
 --     pre-not-first    Pre c p (startOf c) → ⊥
 -- and in any code
 --     code-job         Job c p → Job m p, where codeAt m o ≡ some c
---     written-job      Written t p n → Job (located t) p
+--     written-job      Written t p n → Job (located t) p; job-written: and the other way round
 -- and where each force has the body of its future, `Opens env c`, and so have the forces in these bodies, `Nested env`
 --     open-nth         the body of a force is one of env, and its own forces have bodies of those behind it
 --     ina-job          InA c p → Job c p, or the job at p is in one of the bodies of env
@@ -25,7 +25,7 @@ use native.Mathlib.Omega.{arith}
 use Rattle.program.specs.Trees.{Body}
 use Rattle.program.specs.Located.{Code, end-at, job-at, async-at, finish-at, fork-at, future-at, force-at, located, startOf, last, codeAt}
 use Rattle.program.proofs.LocatedLaws.{Inner, job-rest, async-body, async-rest, finish-body, finish-rest, fork-left, fork-right, fork-rest}
-use Rattle.program.proofs.LocatedLaws.{future-body, future-rest, force-rest, Part, itself, inside, Laid, code-part}
+use Rattle.program.proofs.LocatedLaws.{future-body, future-rest, force-rest, Part, itself, inside, Laid, laid-located, code-part, part-code}
 use Rattle.program.proofs.OpenLaws.{nthOpen, Opens}
 use Rattle.machine.specs.Demand3.{Written, written}
 use Rattle.machine.proofs.GhostMachine.Invariant.{isItem}
@@ -217,6 +217,34 @@ code-job m o p h j = part-job p (code-part m o h) j
 pub written-job : (t : Body) (p n : ℕ) → Written t p n → Job (located t) p
 unfolding Job
 written-job t p n (written r h) = code-job (located t) p p h (inl refl)
+
+-- in what is right inside, and so in the whole
+in-part :
+    {m c : Code} {p : ℕ} → Inner m c → (n : ℕ) × (r : Code) × Part c (job-at p n r) → (n : ℕ) × (r : Code) × Part m (job-at p n r)
+in-part i (n, r, part) = (n, r, inside i part)
+
+-- a job of code is a part of it
+job-part : (c : Code) (p : ℕ) → Job c p → (n : ℕ) × (r : Code) × Part c (job-at p n r)
+unfolding Job
+job-part (job-at o n r) p (inl e) = (n, r, subst (λ (x : ℕ). Part (job-at o n r) (job-at x n r)) (sym e) itself)
+job-part (job-at o n r) p (inr j) = in-part job-rest (job-part r p j)
+job-part (async-at o b r) p (inl j) = in-part async-body (job-part b p j)
+job-part (async-at o b r) p (inr j) = in-part async-rest (job-part r p j)
+job-part (finish-at o b r) p (inl j) = in-part finish-body (job-part b p j)
+job-part (finish-at o b r) p (inr j) = in-part finish-rest (job-part r p j)
+job-part (fork-at o b c r) p (inl j) = in-part fork-left (job-part b p j)
+job-part (fork-at o b c r) p (inr (inl j)) = in-part fork-right (job-part c p j)
+job-part (fork-at o b c r) p (inr (inr j)) = in-part fork-rest (job-part r p j)
+job-part (future-at o b r) p (inl j) = in-part future-body (job-part b p j)
+job-part (future-at o b r) p (inr j) = in-part future-rest (job-part r p j)
+job-part (force-at o n b r) p j = in-part force-rest (job-part r p j)
+
+-- so one of the program's is written
+pub job-written : (t : Body) (p : ℕ) → Job (located t) p → (n : ℕ) × Written t p n
+unfolding startOf
+job-written t p j =
+    let (n, r, part) = job-part (located t) p j in
+    (n, written r (part-code part (laid-located t)))
 
 -- the job at p is in one of these bodies
 unfoldable pub JobIn : List Code → ℕ → Type 0

@@ -14,7 +14,7 @@ use Rattle.graph.proofs.TestLaws.{equal?}
 use Rattle.program.specs.Located.{Code}
 use Rattle.machine.proofs.GhostMachine.Ghost.{State}
 use Rattle.machine.proofs.GhostMachine.Invariant.{In, waits, isItem, Settled, Way, one, more, Roads}
-use Rattle.machine.proofs.GhostMachine.Ways.{way-past, nothing-to}
+use Rattle.machine.proofs.GhostMachine.Ways.{way-join, way-past, nothing-to}
 use Rattle.machine.proofs.JobOrder.Order.{Job, InA, InS, Pre, holds, Held, held, Waits, for-way, for-scope, for-scopes-way, Orders}
 use Rattle.machine.proofs.JobOrder.OrderLaws.{ins-ina, pre-job, job-item, ina-item, ins-item}
 use Rattle.machine.proofs.JobOrder.WaitLaws.{holds-one, held-way, scope-led, waits-led, waits-none}
@@ -130,11 +130,6 @@ waits-known :
     {S : State} (u w p σ : ℕ) (c : Code) → holds (S .control u) ≡ some c → S .scope u ≡ σ → (σ ≡ w) ⊎ Way (Settled S) σ w → InA c p
     → Waits S w p
 waits-known {S} u w p σ c h e r j = waits-scope u w p c h (subst (λ (z : ℕ). (z ≡ w) ⊎ Way (Settled S) z w) (sym e) r) j
-
--- one way behind another
-way-join : {R : ℕ → ℕ → Type 0} {a b c : ℕ} → Way R a b → Way R b c → Way R a c
-way-join (one r) w = more r w
-way-join (more r w) w' = more r (way-join w w')
 
 -- a way from a vertex, from the same vertex
 way-from : {R : ℕ → ℕ → Type 0} {a b w : ℕ} → a ≡ b → Way R b w → Way R a w

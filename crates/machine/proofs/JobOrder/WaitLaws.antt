@@ -33,6 +33,11 @@ holds-code (busy c ms) h = (h, refl)
 holds-code (joining c d ds) h = (h, refl)
 holds-code over h = absurd (Option·none-ne-some _ h)
 
+-- a vertex that is over holds nothing
+pub over-holds : {x : Control} {c : Code} → x ≡ over → holds x ≡ some c → ⊥
+unfolding holds
+over-holds {c = c} e h = Option·none-ne-some c (sym (ap holds e) ∙ h)
+
 -- it holds one code
 pub holds-one : (x : Control) {c d : Code} → holds x ≡ some c → holds x ≡ some d → c ≡ d
 holds-one x {c} {d} h k = Option·some-injective c d (sym h ∙ k)

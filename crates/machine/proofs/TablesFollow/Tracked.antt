@@ -49,12 +49,12 @@ use Rattle.machine.proofs.TablesFollow.StepFollows.{step-follows}
 use Rattle.machine.proofs.TablesFollow.LoadFollows.{load-follows, last-byte}
 
 -- one answer more
-accepted-snoc : (answers : List StepSaid) (a : StepSaid) → acceptedIn (answers ++ (a ∷ [])) ≡ acceptedIn answers + cond (accepted a) 1 0
+pub accepted-snoc : (answers : List StepSaid) (a : StepSaid) → acceptedIn (answers ++ (a ∷ [])) ≡ acceptedIn answers + cond (accepted a) 1 0
 unfolding acceptedIn
 accepted-snoc [] a = omega arith
 accepted-snoc (b ∷ answers) a = let h = accepted-snoc answers a in omega (arith, h)
 
-ran-snoc : (o : ℕ) (answers : List StepSaid) (a : StepSaid) → ranIn o (answers ++ (a ∷ [])) ≡ ranIn o answers + answersJob o a
+pub ran-snoc : (o : ℕ) (answers : List StepSaid) (a : StepSaid) → ranIn o (answers ++ (a ∷ [])) ≡ ranIn o answers + answersJob o a
 unfolding ranIn
 ran-snoc o [] a = omega arith
 ran-snoc o (b ∷ answers) a = let h = ran-snoc o answers a in omega (arith, h)
