@@ -298,7 +298,7 @@ ahead-fork : {m b r : Code} {p q : ℕ} → HoldsBody m forks b → ClosedWays b
 ahead-fork h (c', ks, f, w, k) e j = ahead-first (forks ∷ ks) (ReadWay.down (own h) f w) (closed-fork k) e j
 
 -- the order by recursion is in the one defined
-pre-ahead : (m : Code) (p q : ℕ) → Pre m p q → Ahead m p q
+pub pre-ahead : (m : Code) (p q : ℕ) → Pre m p q → Ahead m p q
 unfolding Pre
 pre-ahead (job-at o n r) p q (inl (e, j)) =
     ahead-first [] (own-way (way-itself o n r e)) closed-nil job-behind (job-way r q j)
@@ -355,7 +355,7 @@ within-pre p q (behind e i) h = behind-pre p q e (within-pre p q i h)
 within-pre p q (inside e i) h = held-pre p q e (within-pre p q i h)
 
 -- the order as defined is in that by recursion
-ahead-pre : (m : Code) (p q : ℕ) → Ahead m p q → Pre m p q
+pub ahead-pre : (m : Code) (p q : ℕ) → Ahead m p q → Pre m p q
 ahead-pre m p q (ahead c ks (apart r c' ks' i w e f w') k) = within-pre p q i (first-pre q w k e (from-job q f (way-job w')))
 
 -- so they are the same

@@ -35,7 +35,7 @@ use Rattle.machine.specs.Demand3.{Written}
 use Rattle.machine.proofs.JobOrder.Order.{Job, Pre}
 use Rattle.machine.proofs.JobOrder.OrderLaws.{job-before, async-before, finish-before, fork-before, future-before, left-before}
 use Rattle.machine.proofs.JobOrder.OrderLaws.{right-before, written-job, ins-ina, pre-job, JobIn, Nested, open-nth, ina-job}
-use Rattle.machine.proofs.AheadIsPre.{Ways, behind-job, held-job, from-job, way-job, job-way, ahead-is-pre}
+use Rattle.machine.proofs.AheadIsPre.{Ways, behind-job, held-job, from-job, way-job, job-way, ahead-pre}
 
 -- what is behind a first item is laid, and so is a body that it holds
 behind-laid : {c r : Code} → Behind c r → Laid c → Laid r
@@ -372,7 +372,7 @@ unfolding Nested JobIn
 pre-apart m p q h f = ⊎-elim (λ a. a) (λ n. absurd n) (pre-earlier [] m p q h tt f)
 
 pub ahead-apart : (m : Code) (p q : ℕ) → Opens [] m → Ahead m p q → Earlier m p q
-ahead-apart m p q h a = pre-apart m p q h (ahead-is-pre m p q .0 a)
+ahead-apart m p q h a = pre-apart m p q h (ahead-pre m p q a)
 
 -- so both are written
 pub pre-jobs : (m : Code) (p q : ℕ) → Opens [] m → Pre m p q → Job m p × Job m q

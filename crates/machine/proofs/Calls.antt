@@ -1,7 +1,7 @@
 -- A list of calls, runs among them, reaches what its steps reach: a run is the steps that it makes, one after the other (`calls-reached`). All
 -- of these are accepted, and the run answers with the last of them and their number (`run-stands`).
 use Prim.Native.Nat.{ℕ, zero, suc, _+_}
-use mathlib.Core.Path.{_≡_, refl, sym, subst}
+use mathlib.Core.Path.{_≡_, refl, sym, _∙_, ap, subst}
 use mathlib.Core.Bool.{Bool, true, false, cond}
 use mathlib.Core.List.{List, [], _∷_, _++_, append-nil, append-assoc}
 use mathlib.Core.Option.{Option, none, some}
@@ -98,6 +98,23 @@ module _ (ed : Edition) (bytes : List ℕ) (s₀ : Lent) where
       subst (λ (l : List StepSaid). Reached ed bytes s₀ l (leavesOf ed bytes (callLeaves ed bytes s c) cs))
       (append-assoc answers (callAnswers ed bytes s c) (answersOf ed bytes (callLeaves ed bytes s c) cs))
       (calls-reached cs (callLeaves ed bytes s c) (call-reached s c q))
+
+-- one call more at the end of a list
+pub answers-snoc :
+    (ed : Edition) (bytes : List ℕ) (s : Lent) (cs : List Call) (c : Call)
+    → answersOf ed bytes s (cs ++ (c ∷ [])) ≡ answersOf ed bytes s cs ++ callAnswers ed bytes (leavesOf ed bytes s cs) c
+unfolding answersOf leavesOf
+answers-snoc ed bytes s [] c = append-nil (callAnswers ed bytes s c)
+answers-snoc ed bytes s (d ∷ cs) c =
+    ap (λ (l : List StepSaid). callAnswers ed bytes s d ++ l) (answers-snoc ed bytes (callLeaves ed bytes s d) cs c)
+    ∙ sym (append-assoc (callAnswers ed bytes s d) _ _)
+
+pub leaves-snoc :
+    (ed : Edition) (bytes : List ℕ) (s : Lent) (cs : List Call) (c : Call)
+    → leavesOf ed bytes s (cs ++ (c ∷ [])) ≡ callLeaves ed bytes (leavesOf ed bytes s cs) c
+unfolding leavesOf
+leaves-snoc ed bytes s [] c = refl
+leaves-snoc ed bytes s (d ∷ cs) c = leaves-snoc ed bytes (callLeaves ed bytes s d) cs c
 
 -- the same answers, with the run that makes these steps, from where it has come to
 record Along (before : Option StepSaid) (taken : ℕ) (answers : List StepSaid) (o : RunOutcome) : Type 0 where

@@ -33,7 +33,7 @@ use Rattle.machine.specs.Demand3.{acceptedIn, ranIn, Written, Throughout
 use Rattle.machine.proofs.Calls.{run-reached}
 use Rattle.machine.proofs.LoadLaws.{load-exact}
 use Rattle.machine.proofs.RunDemand2.{run-ran}
-use Rattle.machine.proofs.AheadIsPre.{ahead-is-pre}
+use Rattle.machine.proofs.AheadIsPre.{ahead-pre}
 use Rattle.machine.proofs.AheadUnique.{pre-jobs}
 use Rattle.machine.proofs.GhostMachine.Ghost.{Control, draft, fresh, ready, busy, joining, over, State, Event}
 use Rattle.machine.proofs.GhostMachine.Invariant.{Shape, isNew}
@@ -168,7 +168,7 @@ module _ (ed : Edition) (bytes : List ℕ) (t : Body) {s₀ : Lent} {answers : L
     was-answered v n o p h a = go (step ed bytes s v) h (seen v)
       where
         before : Pre (located t) p o
-        before = ahead-is-pre (located t) p o .0 a
+        before = ahead-pre (located t) p o a
 
         now :
             (r' : Code) × (T .state .control v ≡ busy (job-at o n r') [])

@@ -15,12 +15,14 @@ use Rattle.machine.specs.Loading.{load, loadRead, loadedTables}
 use Rattle.machine.specs.Stepping.{steppable, startDue, openFuture, further, followed, orZero, named, isVertex, stands, allStand, spots, task, nth}
 use Rattle.machine.specs.Stepping.{ownOf, withMade, withKept, withPhase, pastItem, movedOn, dueIf, filledIn, nextOf, nextAt, due, stored, step}
 use Rattle.machine.specs.Running.{run, runOn, look, lowest, allFinished}
+use Rattle.machine.specs.Demand3.{answersJob}
+use Rattle.machine.specs.FairOrders.{jobNamed, lowestWith, isNoJob, isJobAt, naming, namingJob, schedule}
 use Rattle.machine.specs.Examples.{anything, cycleLent, saidBy, leftBy, edgeWritten, wordWritten, saidBare, leftBare, runs}
-use Rattle.machine.specs.Examples.{takesSteps, commands, commandsOn, table, Each, none, _&_}
+use Rattle.machine.specs.Examples.{takesSteps, namesInTurn, commands, commandsOn, table, Each, none, _&_}
 
 -- Every example of the table holds.
 pub examples : Each table
-unfolding anything cycleLent runs takesSteps edgeWritten wordWritten commands commandsOn saidBy leftBy saidBare leftBare run runOn look lowest
+unfolding anything cycleLent runs takesSteps namesInTurn schedule naming namingJob lowestWith isNoJob isJobAt jobNamed answersJob edgeWritten wordWritten commands commandsOn saidBy leftBy saidBare leftBare run runOn look lowest
     lowestBelow orThis allFinished step stored due nextAt nextOf filledIn dueIf movedOn pastItem withPhase withKept withMade ownOf nth
     task spots named allStand stands isVertex orZero followed further openFuture startDue steppable load loadRead loadedTables r.reading r.whole
     r.body r.bodyOf r.item r.itemOf r.deeper r.kindOf r.number r.groups r.andThen r.takeIf r.jobOf r.forceOf r.counted verticesMade
@@ -33,6 +35,10 @@ unfolding anything cycleLent runs takesSteps edgeWritten wordWritten commands co
     statusKnown statusesKnown endsMade edgesMade both either every any holds leadsOutOf reaches a.decided a.unless
 examples =
     refl
+    & refl
+    & refl
+    & refl
+    & refl
     & refl
     & refl
     & refl

@@ -6,7 +6,7 @@
 --                       wrong turn
 --     nothing-waits     where jobs are all that can be stepped next, a job of which all that are ahead were answered is one of them
 --     trace-fair        a trace of an engine that ends at the full count answers the jobs in a fair order
---     schedule-steps    an engine that steps the vertices of a fair order's schedule answers the jobs in that order
+--     trace-scheduled   a trace of an engine whose calls are the steps of a fair order's schedule answers the jobs in that order
 --
 -- From left to right it is demand 3. From right to left the schedule takes steps that are no jobs until there is none; then jobs are all that can
 -- be stepped next, and the next job of a fair order is one of them (`at-hand`). The full count ends it.
@@ -31,24 +31,24 @@ use Rattle.program.specs.Encodings.{stepFormula}
 use Rattle.program.specs.Reader.{reading, program}
 use Rattle.program.specs.Located.{Code, job-at, located}
 use Rattle.program.proofs.LocatedLaws.{laid-located}
-use Rattle.machine.specs.Answers.{StepSaid, LoadingSaid, accepted, isLoaded}
+use Rattle.machine.specs.Answers.{StepSaid, accepted, isLoaded}
 use Rattle.machine.specs.Answers as said
 use Rattle.machine.specs.Ahead.{Ahead}
 use Rattle.machine.specs.Loading.{load}
 use Rattle.machine.specs.Stepping.{step}
-use Rattle.machine.specs.Reached.{Reached, begun, stepped, AllAccepted, a-step, callAnswers, callLeaves, answersOf, leavesOf}
+use Rattle.machine.specs.Reached.{Reached, begun, stepped, AllAccepted, Call, callAnswers, callLeaves, answersOf, leavesOf}
 use Rattle.machine.specs.Demand3.{acceptedIn, answersJob, ranIn, Written, Answered, first, later, Demand3}
-use Rattle.machine.specs.Traces.{Loaded, Stepped, Trace}
+use Rattle.machine.specs.Traces.{Trace}
 use Rattle.machine.specs.FairOrders.{jobNamed, jobsOf, Happens, timesIn, Fair, lowestWith, isNoJob, isJobAt, naming, namingJob, schedule}
-use Rattle.machine.specs.FairOrders.{stepsOf, AnswersIn, FairOrders, SteppedAll, no-step, then-step}
+use Rattle.machine.specs.FairOrders.{stepsOf, AnswersIn, FairOrders}
 use Rattle.machine.proofs.JobsAnswered.{IsJob, times-append, times-here, times-other, times-ran, jobs-snoc, answers-own, answered-last, none-in}
 use Rattle.machine.proofs.JobsAnswered.{times-answered, NamedBehind, named-behind, jobs-split, no-job-is, job-at-is, job-of}
-use Rattle.machine.proofs.AheadIsPre.{ahead-is-pre}
+use Rattle.machine.proofs.AheadIsPre.{ahead-pre, pre-ahead}
 use Rattle.machine.proofs.AheadUnique.{apart-order, ahead-apart, pre-jobs}
 use Rattle.machine.proofs.Calls.{calls-reached}
 use Rattle.machine.proofs.StepDemand2.{can-ready}
 use Rattle.machine.proofs.Demand3.{demand3, free-steps, reached-program}
-use Rattle.machine.proofs.Traces.{trace-reached}
+use Rattle.machine.proofs.Traces.{trace-loaded, trace-reached, trace-answers}
 use Rattle.machine.proofs.GhostMachine.Ghost.{State, Event}
 use Rattle.machine.proofs.GhostMachine.Progress.{at-code}
 use Rattle.machine.proofs.GhostMachine.GhostLaws.{clash, below}
@@ -172,7 +172,7 @@ module _ (ed : Edition) (bytes : List ℕ) (t : Body) {s₀ : Lent} {answers : L
             let inv = T .inv in
             standing u
             (at-hand (inv .shape) only-jobs (inv .ranks) (inv .ended) (inv .orders) u o h
-            (λ x p k before. not-held x p (ahead-ran p (ahead-is-pre (located t) p o .1 before)) k))
+            (λ x p k before. not-held x p (ahead-ran p (pre-ahead (located t) p o before)) k))
 
 -- no step, and one in front
 answers-none : AnswersIn [] 0 []
@@ -233,7 +233,7 @@ module _ (ed : Edition) (bytes : List ℕ) (t : Body) (s₀ : Lent) (r : reading
       {answers : List StepSaid} {left o : ℕ} {rest : List ℕ} → Left answers left (o ∷ rest) → (p : ℕ) → Ahead (located t) p o → ranIn p answers ≡ 1
   ahead-ran {answers} {left} {o} {rest} x p h =
       let opens = opens-located ed bytes t r in
-      let (m, w) = job-written t p (pre-jobs (located t) p o opens (ahead-is-pre (located t) p o .0 h) .0) in
+      let (m, w) = job-written t p (pre-jobs (located t) p o opens (ahead-pre (located t) p o h) .0) in
       let none-behind = fair .none-early (jobsOf answers) rest p o (x .jobs-left) h in
       omega (arith, fair .each-once m p w, answered-or-left x p, none-behind, times-other p o rest (λ e. not-itself e))
     where
@@ -369,33 +369,19 @@ fair-orders ed bytes s₀ loads =
       },
     )
 
--- AN ENGINE'S STEPS
+-- TRACES OF AN ENGINE
 
--- A trace of an engine that ends at the full count answers the jobs in a fair order.
-pub trace-fair :
-    {ed : Edition} {bytes : List ℕ} {t : Body} {s₀ : Lent} {answers : List StepSaid} {s : Lent} → reading ed bytes ≡ program t
-    → Trace ed bytes s₀ answers s → acceptedIn answers ≡ stepFormula ed (counts t) → Fair t (jobsOf answers)
-trace-fair {ed} {bytes} {t} r tr full = full-fair ed bytes t r (trace-reached tr) full
+module _ {ed : Edition} {bytes : List ℕ} {t : Body} {s₀ : Lent} {answers : List StepSaid} {s : Lent} (r : reading ed bytes ≡ program t) where
+  -- One that ends at the full count answers the jobs in a fair order, whatever its calls are.
+  pub trace-fair :
+      {cs : List Call} → Trace ed bytes s₀ cs answers s → acceptedIn answers ≡ stepFormula ed (counts t) → Fair t (jobsOf answers)
+  trace-fair tr full = full-fair ed bytes t r (trace-reached tr) full
 
--- what an engine's steps of these vertices answer
-all-answers :
-    {ed : Edition} {bytes : List ℕ} {s s' : Lent} {vs : List ℕ} {answers : List StepSaid} → SteppedAll ed bytes s vs answers s'
-    → answers ≡ answersOf ed bytes s (stepsOf vs)
-unfolding answersOf callAnswers callLeaves
-all-answers no-step = refl
-all-answers {ed} {bytes} (then-step {s} {s'} {vs} {answers} v answer h more) =
-    ap (λ (a : StepSaid). a ∷ answers) (h .says)
-    ∙ ap (λ (l : List StepSaid). step ed bytes s v .answer ∷ l)
-    (all-answers more ∙ ap (λ (x : Lent). answersOf ed bytes x (stepsOf vs)) (h .leaves))
-
--- An engine that loads a program and steps the vertices of a fair order's schedule answers the jobs in that order.
-pub schedule-steps :
-    {ed : Edition} {bytes : List ℕ} {t : Body} {s₀ s s' : Lent} {loading : LoadingSaid} {order : List ℕ} {answers : List StepSaid}
-    → reading ed bytes ≡ program t → Loaded ed bytes s₀ loading s → isLoaded loading ≡ true → Fair t order
-    → SteppedAll ed bytes s (schedule ed bytes (stepFormula ed (counts t)) s order) answers s'
-    → AnswersIn order (stepFormula ed (counts t)) answers
-schedule-steps {ed} {bytes} {t} {s₀} {s} {order = order} {answers} r l loads fair steps =
-    let full = stepFormula ed (counts t) in
-    subst (AnswersIn order full) (sym (all-answers steps))
-    (subst (λ (x : Lent). AnswersIn order full (answersOf ed bytes x (stepsOf (schedule ed bytes full x order)))) (sym (l .leaves))
-    (schedule-answers ed bytes t s₀ r (sym (ap isLoaded (l .says)) ∙ loads) order fair))
+  -- One whose calls are the steps of a fair order's schedule answers the jobs in that order.
+  pub trace-scheduled :
+      (order : List ℕ) → Fair t order
+      → Trace ed bytes s₀ (stepsOf (schedule ed bytes (stepFormula ed (counts t)) (load ed bytes s₀ .after) order)) answers s
+      → AnswersIn order (stepFormula ed (counts t)) answers
+  trace-scheduled order fair tr =
+      subst (AnswersIn order (stepFormula ed (counts t))) (sym (trace-answers tr .0))
+      (schedule-answers ed bytes t s₀ r (trace-loaded tr) order fair)

@@ -44,7 +44,9 @@ pub calls-true :
 calls-true ed bytes s₀ h cs = reached-true (calls-reached ed bytes s₀ cs (load ed bytes s₀ .after) (begun h))
 
 -- and in every trace.
-pub trace-true : {ed : Edition} {bytes : List ℕ} {s₀ : Lent} {answers : List StepSaid} {s : Lent} → Trace ed bytes s₀ answers s → CountsTrue s
+pub trace-true :
+    {ed : Edition} {bytes : List ℕ} {s₀ : Lent} {cs : List Call} {answers : List StepSaid} {s : Lent} → Trace ed bytes s₀ cs answers s
+    → CountsTrue s
 trace-true tr = reached-true (trace-reached tr)
 
 -- So start answers there, and leaves, what the full search would.

@@ -87,4 +87,5 @@ pub data Stand (m : Code) (p q : ℕ) : Type 0 where
 -- reading." (note 5) Readings order no jobs of two branches: in a program each force has the body of a future that is open there (`Opens` of
 -- `program`), and so what is ahead in a reading is in an earlier item at its own place too (`ahead-apart`).
 pub data Ahead (m : Code) (p q : ℕ) : Type 0 where
+  -- and no other way: two branches of a fork aren't ordered
   ahead : (c : Code) (ks : List Kind) → Apart ReadWay m p q c ks → Closed ks → Ahead m p q

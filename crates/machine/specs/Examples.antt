@@ -18,6 +18,7 @@ use Rattle.machine.specs.Answers.{StepSaid, start, new, edge, release, t
 use Rattle.machine.specs.Loading.{load}
 use Rattle.machine.specs.Stepping.{step}
 use Rattle.machine.specs.Running.{Ending, done, spent, allFinished, run}
+use Rattle.machine.specs.FairOrders.{schedule}
 
 -- An example: calls, and what they are to come to. Those of a program are of an edition.
 pub data Example : Type 0 where
@@ -29,6 +30,8 @@ pub data Example : Type 0 where
   comes : Edition → List ℕ → ℕ → StepSaid → Example
   -- this program loads, steps that name these vertices say this, one after the other, and then all are finished
   goes : Edition → List ℕ → List (ℕ × StepSaid) → Example
+  -- this program loads, and the schedule for this order of its jobs, by their offsets, names these vertices
+  schedules : Edition → List ℕ → List ℕ → List ℕ → Example
   -- this program loads and takes steps of these vertices, then the host writes this edge into its table and counts it, and steps that
   -- name these vertices say this, one after the other, and then all are finished
   altered : Edition → List ℕ → List ℕ → ℕ × ℕ → List (ℕ × StepSaid) → Example
@@ -105,20 +108,24 @@ abbrev pub seconds : {A B : Type 0} → List (A × B) → List B
 seconds l = map (λ x. x .1) l
 
 -- What the calls of an example come to: loading's answer, then the run's ending, last step and number of steps; or what the steps say,
--- and whether all are finished then; or the opening's answer and what the commands say; or what commands say and leave.
+-- and whether all are finished then; or which vertices are named; or the opening's answer and what the commands say; or what commands say and leave.
 pub data Result : Type 0 where
   ran : LoadingSaid → Ending → Option StepSaid → ℕ → Result
   stepped : LoadingSaid → List StepSaid → Bool → Result
+  scheduled : LoadingSaid → List ℕ → Result
   commanded : of-graph.OpeningSaid → List of-graph.CommandSaid → Result
   left : List of-graph.CommandSaid → Lent → Result
 
--- a run of a program that was loaded; steps of it; commands after the opening, and on tables as they are lent
+-- a run of a program that was loaded; steps of it; its schedule for an order; commands after the opening, and on tables as they are lent
 unfoldable pub runs : Edition → List ℕ → ℕ → Outcome LoadingSaid → Result
 runs ed p budget o =
     ran (o .answer) (run ed p (o .after) budget .ending) (run ed p (o .after) budget .last) (run ed p (o .after) budget .taken)
 
 unfoldable pub takesSteps : Edition → List ℕ → List ℕ → Outcome LoadingSaid → Result
 takesSteps ed p vs o = stepped (o .answer) (saidBy ed p (o .after) vs) (allFinished (leftBy ed p (o .after) vs))
+
+unfoldable pub namesInTurn : Edition → List ℕ → List ℕ → Outcome LoadingSaid → Result
+namesInTurn ed p order o = scheduled (o .answer) (schedule ed p enough (o .after) order)
 
 unfoldable pub commands : List single.Command → Outcome of-graph.OpeningSaid → Result
 commands cs o = commanded (o .answer) (saidBare (o .after) cs)
@@ -132,6 +139,7 @@ ComesTrue (refuses ed p n q) = load ed p anything ≡ refuseLoading anything n q
 ComesTrue (takes ed p n) = runs ed p enough (load ed p anything) ≡ ran loaded done (some stop) n
 ComesTrue (comes ed p n said) = runs ed p n (load ed p anything) ≡ ran loaded spent (some said) n
 ComesTrue (goes ed p turns) = takesSteps ed p (firsts turns) (load ed p anything) ≡ stepped loaded (seconds turns) true
+ComesTrue (schedules ed p order vs) = namesInTurn ed p order (load ed p anything) ≡ scheduled loaded vs
 ComesTrue (altered ed p vs ends turns) =
     takesSteps ed p (firsts turns) (edgeWritten ed p vs ends (load ed p anything)) ≡ stepped loaded (seconds turns) true
 ComesTrue (rewritten ed p at turns all) =
@@ -407,6 +415,16 @@ table =
     -- "for a step of a released vertex, 12 then looks at the tally and that vertex's row only": where vertex 1 has no status, vertex 0 starts,
     -- and no other step is taken
     ∷ rewritten First (0x00 ∷ []) (1, statusWord, 9) ((0, start) ∷ (0, refused 12 0) ∷ (1, refused 12 0) ∷ []) false
+    -- "Every fair order can happen" (note 7): the jobs of the fork with job 2 first, in either edition; with job 3 first, which is not fair, the
+    -- schedule ends where jobs 1 and 2 are all that can be stepped next; and those of a future and what follows it, the future's last
+    ∷ schedules First (0x04 ∷ 0x01 ∷ 0x01 ∷ 0x00 ∷ 0x01 ∷ 0x02 ∷ 0x00 ∷ 0x01 ∷ 0x03 ∷ 0x00 ∷ []) (4 ∷ 1 ∷ 7 ∷ [])
+    (0 ∷ 0 ∷ 0 ∷ 0 ∷ 0 ∷ 0 ∷ 0 ∷ 0 ∷ 0 ∷ 0 ∷ 0 ∷ 2 ∷ 3 ∷ 3 ∷ 3 ∷ 2 ∷ 2 ∷ 4 ∷ 4 ∷ 4 ∷ 1 ∷ 1 ∷ [])
+    ∷ schedules Second (0x04 ∷ 0x01 ∷ 0x01 ∷ 0x00 ∷ 0x01 ∷ 0x02 ∷ 0x00 ∷ 0x01 ∷ 0x03 ∷ 0x00 ∷ []) (4 ∷ 1 ∷ 7 ∷ [])
+    (0 ∷ 0 ∷ 0 ∷ 0 ∷ 0 ∷ 0 ∷ 0 ∷ 0 ∷ 2 ∷ 3 ∷ 3 ∷ 3 ∷ 2 ∷ 2 ∷ 0 ∷ 0 ∷ 0 ∷ 1 ∷ 1 ∷ [])
+    ∷ schedules First (0x04 ∷ 0x01 ∷ 0x01 ∷ 0x00 ∷ 0x01 ∷ 0x02 ∷ 0x00 ∷ 0x01 ∷ 0x03 ∷ 0x00 ∷ []) (7 ∷ 1 ∷ 4 ∷ [])
+    (0 ∷ 0 ∷ 0 ∷ 0 ∷ 0 ∷ 0 ∷ 0 ∷ 0 ∷ 0 ∷ 0 ∷ 0 ∷ 2 ∷ 3 ∷ [])
+    ∷ schedules First (0x05 ∷ 0x01 ∷ 0x01 ∷ 0x00 ∷ 0x01 ∷ 0x02 ∷ 0x00 ∷ []) (4 ∷ 1 ∷ [])
+    (0 ∷ 0 ∷ 0 ∷ 0 ∷ 0 ∷ 0 ∷ 3 ∷ 0 ∷ 0 ∷ 1 ∷ 1 ∷ 3 ∷ 3 ∷ 2 ∷ 2 ∷ [])
     ∷ []
 
 -- each example of a list holds

@@ -23,7 +23,6 @@ use Rattle.machine.specs.Stepping.{step}
 use Rattle.machine.specs.Ahead.{Ahead}
 use Rattle.machine.specs.Reached.{Reached, AllAccepted, Call, a-step, answersOf}
 use Rattle.machine.specs.Demand3.{acceptedIn, answersJob, Written}
-use Rattle.machine.specs.Traces.{Stepped}
 
 -- THE ORDER IN WHICH STEPS ANSWER JOBS
 
@@ -116,13 +115,3 @@ pub record FairOrders (ed : Edition) (bytes : List ℕ) (t : Body) (s₀ : Lent)
       (order : List ℕ) → Fair t order
       → AnswersIn order (stepFormula ed (counts t))
       (answersOf ed bytes (load ed bytes s₀ .after) (stepsOf (schedule ed bytes (stepFormula ed (counts t)) (load ed bytes s₀ .after) order)))
-
--- AN ENGINE'S STEPS
-
--- An engine's steps of these vertices, with their answers and what is lent at the end, each tied to the one before it by the contract of an
--- engine's `step` alone, as in a trace.
-pub data SteppedAll (ed : Edition) (bytes : List ℕ) : Lent → List ℕ → List StepSaid → Lent → Type 0 where
-  no-step : {s : Lent} → SteppedAll ed bytes s [] [] s
-  then-step :
-      {s s' s'' : Lent} {vs : List ℕ} {answers : List StepSaid} (v : ℕ) (answer : StepSaid) → Stepped ed bytes s v answer s'
-      → SteppedAll ed bytes s' vs answers s'' → SteppedAll ed bytes s (v ∷ vs) (answer ∷ answers) s''

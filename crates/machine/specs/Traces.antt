@@ -1,4 +1,4 @@
--- Traces of an engine: lists of calls with their answers and what was lent after each, where each entry is tied to the one before it by one
+-- Traces of an engine: lists of calls with their answers and what was lent at the end, where each call is tied to the one before it by one
 -- of these predicates alone. The contracts of an engine's load, step and run are these predicates, so a trace is all that such an engine
 -- can do. Every trace is the plain machine's, and demand 3 holds of it: proofs/Traces.antt.
 use Prim.Native.Nat.{ℕ}
@@ -12,7 +12,7 @@ use Rattle.machine.specs.Answers.{StepSaid, LoadingSaid, isLoaded}
 use Rattle.machine.specs.Loading.{load}
 use Rattle.machine.specs.Stepping.{step}
 use Rattle.machine.specs.Running.{Ending, run}
-use Rattle.machine.specs.Reached.{a-run, callAnswers}
+use Rattle.machine.specs.Reached.{Call, a-step, a-run, callAnswers}
 
 -- loading these bytes onto what was lent before
 pub record Loaded (ed : Edition) (bytes : List ℕ) (before : Lent) (answer : LoadingSaid) (after : Lent) : Type 0 where
@@ -31,12 +31,13 @@ pub record Ran (ed : Edition) (bytes : List ℕ) (before : Lent) (budget : ℕ) 
   pub takes : taken ≡ run ed bytes before budget .taken
   pub leaves : after ≡ run ed bytes before budget .after
 
--- A trace from a loading onto s₀: the steps' answers, a run's steps among them, and what is lent at its end.
-pub data Trace (ed : Edition) (bytes : List ℕ) (s₀ : Lent) : List StepSaid → Lent → Type 0 where
-  load-first : {answer : LoadingSaid} {s : Lent} → Loaded ed bytes s₀ answer s → isLoaded answer ≡ true → Trace ed bytes s₀ [] s
+-- A trace from a loading onto s₀: the calls behind it, their steps' answers, a run's steps among them, and what is lent at its end.
+pub data Trace (ed : Edition) (bytes : List ℕ) (s₀ : Lent) : List Call → List StepSaid → Lent → Type 0 where
+  load-first : {answer : LoadingSaid} {s : Lent} → Loaded ed bytes s₀ answer s → isLoaded answer ≡ true → Trace ed bytes s₀ [] [] s
   then-step :
-      {answers : List StepSaid} {s s' : Lent} (v : ℕ) (answer : StepSaid) → Trace ed bytes s₀ answers s → Stepped ed bytes s v answer s'
-      → Trace ed bytes s₀ (answers ++ (answer ∷ [])) s'
+      {cs : List Call} {answers : List StepSaid} {s s' : Lent} (v : ℕ) (answer : StepSaid) → Trace ed bytes s₀ cs answers s
+      → Stepped ed bytes s v answer s' → Trace ed bytes s₀ (cs ++ (a-step v ∷ [])) (answers ++ (answer ∷ [])) s'
   then-run :
-      {answers : List StepSaid} {s s' : Lent} (budget : ℕ) (ending : Ending) (last : Option StepSaid) (taken : ℕ) → Trace ed bytes s₀ answers s
-      → Ran ed bytes s budget ending last taken s' → Trace ed bytes s₀ (answers ++ callAnswers ed bytes s (a-run budget)) s'
+      {cs : List Call} {answers : List StepSaid} {s s' : Lent} (budget : ℕ) (ending : Ending) (last : Option StepSaid) (taken : ℕ)
+      → Trace ed bytes s₀ cs answers s → Ran ed bytes s budget ending last taken s'
+      → Trace ed bytes s₀ (cs ++ (a-run budget ∷ [])) (answers ++ callAnswers ed bytes s (a-run budget)) s'
