@@ -3,7 +3,7 @@
 --     job-is-way      Job c p exactly if some item of the body c has a way down to p, at its own place
 --     ina-is-way      InA c p exactly if some item of it has a way down to p, there or in the reading of a force, with no future on it
 --     ins-is-way      InS c p exactly if some item of it has such a way that is closed
---     ahead-is-pre    Ahead m p q exactly if Pre m p q
+--     ahead-is-pre    Ahead m p q exactly if Pre m p q: ahead-pre from left to right, pre-ahead from right to left
 --
 -- Each is an induction on the one side's derivation. A way is closed by its first kind: a finish closes it where no future is below, an
 -- async and a future never do, and a fork leaves it to what is below.
@@ -17,7 +17,7 @@ use Rattle.program.specs.Located.{Code, job-at, async-at, finish-at, fork-at, f
 use Rattle.machine.specs.Ahead.{Behind, job-behind, async-behind, finish-behind, fork-behind, future-behind, force-behind, HoldsBody}
 use Rattle.machine.specs.Ahead.{async-holds, finish-holds, fork-holds-left, fork-holds-right, future-holds, From, start, on, Way}
 use Rattle.machine.specs.Ahead.{ReadsBody, own, force-reads, ReadWay, Within, whole, behind, inside, AFinish, this, further, Closed}
-use Rattle.machine.specs.Ahead.{apart, Ahead, ahead}
+use Rattle.machine.specs.Ahead.{Apart, apart, Ahead, ahead}
 use Rattle.machine.proofs.JobOrder.Order.{Job, InA, InS, Pre}
 
 -- no future is among these
@@ -277,46 +277,54 @@ ina-is-way c p = (ina-way c p, λ (c', ks, f, w, k). from-ina p f (way-ina w k))
 pub ins-is-way : (c : Code) (p : ℕ) → InS c p ↔ ClosedWays c p
 ins-is-way c p = (ins-way c p, λ (c', ks, f, w, k). from-ins p f (way-ins w k))
 
--- what is ahead behind the first item
-ahead-behind : {m r : Code} {p q : ℕ} → Behind m r → Ahead r p q → Ahead m p q
-ahead-behind e (ahead c ks (apart r c' ks' i w e' f w') k) = ahead c ks (apart r c' ks' (behind e i) w e' f w') k
+-- p is ahead by a closed way, the one thing that the order is defined by
+abbrev ByWay : Code → ℕ → ℕ → Type 0
+ByWay m p q = (c : Code) × (ks : List Kind) × Apart ReadWay m p q c ks × Closed ks
+
+-- behind the first item
+by-behind : {m r : Code} {p q : ℕ} → Behind m r → ByWay r p q → ByWay m p q
+by-behind e (c, ks, apart r c' ks' i w e' f w', k) = (c, ks, apart r c' ks' (behind e i) w e' f w', k)
 
 -- or in a body that it holds
-ahead-inside : {m b : Code} {k : Kind} {p q : ℕ} → HoldsBody m k b → Ahead b p q → Ahead m p q
-ahead-inside h (ahead c ks (apart r c' ks' i w e' f w') k) = ahead c ks (apart r c' ks' (inside h i) w e' f w') k
+by-inside : {m b : Code} {k : Kind} {p q : ℕ} → HoldsBody m k b → ByWay b p q → ByWay m p q
+by-inside h (c, ks, apart r c' ks' i w e' f w', k) = (c, ks, apart r c' ks' (inside h i) w e' f w', k)
 
 -- the first item has a closed way to p, and q is behind it
-ahead-first : {m r : Code} {p q : ℕ} (ks : List Kind) → ReadWay m p ks → Closed ks → Behind m r → Ways r q → Ahead m p q
-ahead-first {m} {r} ks w k e (c', ks', f, w') = ahead m ks (apart r c' ks' whole w e f w') k
+by-first : {m r : Code} {p q : ℕ} (ks : List Kind) → ReadWay m p ks → Closed ks → Behind m r → Ways r q → ByWay m p q
+by-first {m} {r} ks w k e (c', ks', f, w') = (m, ks, apart r c' ks' whole w e f w', k)
 
 -- through a finish, or a force
-ahead-finish : {m b r : Code} {p q : ℕ} → ReadsBody m finishes b → FreeWays b p → Behind m r → Ways r q → Ahead m p q
-ahead-finish h (c', ks, f, w, none) e j = ahead-first (finishes ∷ ks) (ReadWay.down h f w) (closed-finish none) e j
+by-finish : {m b r : Code} {p q : ℕ} → ReadsBody m finishes b → FreeWays b p → Behind m r → Ways r q → ByWay m p q
+by-finish h (c', ks, f, w, none) e j = by-first (finishes ∷ ks) (ReadWay.down h f w) (closed-finish none) e j
 
 -- or through a fork
-ahead-fork : {m b r : Code} {p q : ℕ} → HoldsBody m forks b → ClosedWays b p → Behind m r → Ways r q → Ahead m p q
-ahead-fork h (c', ks, f, w, k) e j = ahead-first (forks ∷ ks) (ReadWay.down (own h) f w) (closed-fork k) e j
+by-fork : {m b r : Code} {p q : ℕ} → HoldsBody m forks b → ClosedWays b p → Behind m r → Ways r q → ByWay m p q
+by-fork h (c', ks, f, w, k) e j = by-first (forks ∷ ks) (ReadWay.down (own h) f w) (closed-fork k) e j
 
--- the order by recursion is in the one defined
-pub pre-ahead : (m : Code) (p q : ℕ) → Pre m p q → Ahead m p q
+-- what is ahead by recursion is ahead by a closed way
+pre-by-way : (m : Code) (p q : ℕ) → Pre m p q → ByWay m p q
 unfolding Pre
-pre-ahead (job-at o n r) p q (inl (e, j)) =
-    ahead-first [] (own-way (way-itself o n r e)) closed-nil job-behind (job-way r q j)
-pre-ahead (job-at o n r) p q (inr h) = ahead-behind job-behind (pre-ahead r p q h)
-pre-ahead (async-at o b r) p q (inl h) = ahead-inside async-holds (pre-ahead b p q h)
-pre-ahead (async-at o b r) p q (inr h) = ahead-behind async-behind (pre-ahead r p q h)
-pre-ahead (finish-at o b r) p q (inl (i, j)) = ahead-finish (own finish-holds) (ina-way b p i) finish-behind (job-way r q j)
-pre-ahead (finish-at o b r) p q (inr (inl h)) = ahead-inside finish-holds (pre-ahead b p q h)
-pre-ahead (finish-at o b r) p q (inr (inr h)) = ahead-behind finish-behind (pre-ahead r p q h)
-pre-ahead (fork-at o b c r) p q (inl (inl i, j)) = ahead-fork fork-holds-left (ins-way b p i) fork-behind (job-way r q j)
-pre-ahead (fork-at o b c r) p q (inl (inr i, j)) = ahead-fork fork-holds-right (ins-way c p i) fork-behind (job-way r q j)
-pre-ahead (fork-at o b c r) p q (inr (inl h)) = ahead-inside fork-holds-left (pre-ahead b p q h)
-pre-ahead (fork-at o b c r) p q (inr (inr (inl h))) = ahead-inside fork-holds-right (pre-ahead c p q h)
-pre-ahead (fork-at o b c r) p q (inr (inr (inr h))) = ahead-behind fork-behind (pre-ahead r p q h)
-pre-ahead (future-at o b r) p q (inl h) = ahead-inside future-holds (pre-ahead b p q h)
-pre-ahead (future-at o b r) p q (inr h) = ahead-behind future-behind (pre-ahead r p q h)
-pre-ahead (force-at o n b r) p q (inl (i, j)) = ahead-finish force-reads (ina-way b p i) force-behind (job-way r q j)
-pre-ahead (force-at o n b r) p q (inr h) = ahead-behind force-behind (pre-ahead r p q h)
+pre-by-way (job-at o n r) p q (inl (e, j)) =
+    by-first [] (own-way (way-itself o n r e)) closed-nil job-behind (job-way r q j)
+pre-by-way (job-at o n r) p q (inr h) = by-behind job-behind (pre-by-way r p q h)
+pre-by-way (async-at o b r) p q (inl h) = by-inside async-holds (pre-by-way b p q h)
+pre-by-way (async-at o b r) p q (inr h) = by-behind async-behind (pre-by-way r p q h)
+pre-by-way (finish-at o b r) p q (inl (i, j)) = by-finish (own finish-holds) (ina-way b p i) finish-behind (job-way r q j)
+pre-by-way (finish-at o b r) p q (inr (inl h)) = by-inside finish-holds (pre-by-way b p q h)
+pre-by-way (finish-at o b r) p q (inr (inr h)) = by-behind finish-behind (pre-by-way r p q h)
+pre-by-way (fork-at o b c r) p q (inl (inl i, j)) = by-fork fork-holds-left (ins-way b p i) fork-behind (job-way r q j)
+pre-by-way (fork-at o b c r) p q (inl (inr i, j)) = by-fork fork-holds-right (ins-way c p i) fork-behind (job-way r q j)
+pre-by-way (fork-at o b c r) p q (inr (inl h)) = by-inside fork-holds-left (pre-by-way b p q h)
+pre-by-way (fork-at o b c r) p q (inr (inr (inl h))) = by-inside fork-holds-right (pre-by-way c p q h)
+pre-by-way (fork-at o b c r) p q (inr (inr (inr h))) = by-behind fork-behind (pre-by-way r p q h)
+pre-by-way (future-at o b r) p q (inl h) = by-inside future-holds (pre-by-way b p q h)
+pre-by-way (future-at o b r) p q (inr h) = by-behind future-behind (pre-by-way r p q h)
+pre-by-way (force-at o n b r) p q (inl (i, j)) = by-finish force-reads (ina-way b p i) force-behind (job-way r q j)
+pre-by-way (force-at o n b r) p q (inr h) = by-behind force-behind (pre-by-way r p q h)
+
+-- so the order by recursion is in the one defined
+pub pre-ahead : (m : Code) (p q : ℕ) → Pre m p q → Ahead m p q
+pre-ahead m p q h = let (c, ks, a, k) = pre-by-way m p q h in ahead c ks a k
 
 -- what is ahead behind the first item, by recursion
 behind-pre : {m r : Code} (p q : ℕ) → Behind m r → Pre r p q → Pre m p q

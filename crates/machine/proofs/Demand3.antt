@@ -189,8 +189,20 @@ module _ (ed : Edition) (bytes : List ℕ) (t : Body) {s₀ : Lent} {answers : L
         go x e (refused k why eq) = let g : said.refused k 0 ≡ said.job n o = sym (ap (λ (y : Outcome StepSaid). y .answer) eq) ∙ e in clash cc
         go x e (moved ev S' m f says tally) = now (answers-at says e) (nothing-or-held (T .state) p (T .inv .shape))
 
+    -- before the full count some vertex can step
+    pub some-step : acceptedIn answers < stepFormula ed (counts t) → (v : ℕ) × (canStep ed bytes s v ≡ true)
+    some-step lt =
+        let inv = T .inv in
+        let (v, l) = live lt in
+        let (w, f) = can-go-on (inv .shape) (inv .ranks) (inv .ended) v l in
+        (w, free-steps w f)
+
+    -- no job was answered twice
+    pub at-most-once : (o : ℕ) → ranIn o answers ≤ 1
+    at-most-once o = subst (λ (n : ℕ). n ≤ 1) (sym (T .jobs-are o)) (job-once o (located t) (settingOf ed bytes) (laid-located t) (T .runs))
+
     -- at the full count each written job was answered once
-    runs-once : (n o : ℕ) → Written t o n → acceptedIn answers ≡ stepFormula ed (counts t) → ranIn o answers ≡ 1
+    pub runs-once : (n o : ℕ) → Written t o n → acceptedIn answers ≡ stepFormula ed (counts t) → ranIn o answers ≡ 1
     runs-once n o w h =
         T .jobs-are o
         ∙ job-done o (located t) (settingOf ed bytes) (laid-located t) (written-job t o n w) (T .runs) (nothing h)
@@ -224,11 +236,7 @@ none-left :
 none-left ed bytes t {s₀} {answers} {s} r q none = go (ltb (acceptedIn answers) (stepFormula ed (counts t))) refl (tracked ed bytes t r q)
   where
     over-count : acceptedIn answers < stepFormula ed (counts t) → ⊥
-    over-count lt =
-        let U = tracked ed bytes t r q in
-        let (v, l) = live ed bytes t r q lt in
-        let (w, f) = can-go-on (U .inv .shape) (U .inv .ranks) (U .inv .ended) v l in
-        true-false (free-steps ed bytes t r q w f) (none w)
+    over-count lt = let (v, can) = some-step ed bytes t r q lt in true-false can (none v)
 
     go :
         (b : Bool) → ltb (acceptedIn answers) (stepFormula ed (counts t)) ≡ b → Tracked ed bytes t s₀ answers s
@@ -298,14 +306,8 @@ demand3 ed bytes t {answers} r q =
     record {
       at-most = omega (arith, U .accepted-are, steps-bound t (settingOf ed bytes) (U .runs), steps-formula ed t);
       tally-tells = U .steps-are ∙ sym (U .accepted-are);
-      progress = (
-        λ (v, h). one-left ed bytes t r q v h,
-        λ lt.
-            let (v, l) = live ed bytes t r q lt in
-            let (w, f) = can-go-on (U .inv .shape) (U .inv .ranks) (U .inv .ended) v l in
-            (w, free-steps ed bytes t r q w f),
-      );
-      once = λ o. subst (λ (n : ℕ). n ≤ 1) (sym (U .jobs-are o)) (job-once o (located t) (settingOf ed bytes) (laid-located t) (U .runs));
+      progress = (λ (v, h). one-left ed bytes t r q v h, some-step ed bytes t r q);
+      once = at-most-once ed bytes t r q;
       only-written = U .only-written;
       in-order = ordered ed bytes t r q;
       all-run = λ h n o w. runs-once ed bytes t r q n o w h;

@@ -12,24 +12,22 @@
 -- be stepped next, and the next job of a fair order is one of them (`at-hand`). The full count ends it.
 use Prim.Native.Nat.{ℕ, zero, suc, _+_, _<_, _≤_}
 use mathlib.Core.Path.{_≡_, refl, sym, _∙_, ap, subst}
-use mathlib.Core.Bool.{Bool, true, false, cond}
-use mathlib.Core.Logic.{_⊎_, inl, inr, ⊎-elim, _↔_}
+use mathlib.Core.Bool.{true, false, cond}
+use mathlib.Core.Logic.{_⊎_, inl, inr}
 use mathlib.Core.List.{List, [], _∷_, _++_, append-assoc}
-use mathlib.Core.Option.{Option, none, some, Option·some-injective, Option·none-ne-some}
+use mathlib.Core.Option.{Option, none, some}
 use native.Mathlib.Omega.{arith}
-use lib.Dec.{eqb}
-use lib.ListN.{length}
-use borrow.Author.Tests.{eq-eqb, ne-eqb, eqb-true}
+use borrow.Author.Tests.{eq-eqb}
 use Rattle.graph.specs.Tests.{both, lowestBelow}
 use Rattle.graph.specs.Tables.{Lent}
 use Rattle.graph.specs.Answers.{Outcome}
-use Rattle.graph.proofs.TestLaws.{true-false, equal?, both-true, both-left, both-right}
+use Rattle.graph.proofs.TestLaws.{true-false}
 use Rattle.graph.proofs.LowestLaws.{Finds, below-finds}
 use Rattle.program.specs.Trees.{Body, counts}
 use Rattle.program.specs.declared.Edition.{Edition}
 use Rattle.program.specs.Encodings.{stepFormula}
 use Rattle.program.specs.Reader.{reading, program}
-use Rattle.program.specs.Located.{Code, job-at, located}
+use Rattle.program.specs.Located.{located, startOf}
 use Rattle.program.proofs.LocatedLaws.{laid-located}
 use Rattle.machine.specs.Answers.{StepSaid, accepted, isLoaded}
 use Rattle.machine.specs.Answers as said
@@ -37,17 +35,17 @@ use Rattle.machine.specs.Ahead.{Ahead}
 use Rattle.machine.specs.Loading.{load}
 use Rattle.machine.specs.Stepping.{step}
 use Rattle.machine.specs.Reached.{Reached, begun, stepped, AllAccepted, Call, callAnswers, callLeaves, answersOf, leavesOf}
-use Rattle.machine.specs.Demand3.{acceptedIn, answersJob, ranIn, Written, Answered, first, later, Demand3}
+use Rattle.machine.specs.Demand3.{acceptedIn, answersJob, ranIn, Written}
 use Rattle.machine.specs.Traces.{Trace}
 use Rattle.machine.specs.FairOrders.{jobNamed, jobsOf, Happens, timesIn, Fair, lowestWith, isNoJob, isJobAt, naming, namingJob, schedule}
 use Rattle.machine.specs.FairOrders.{stepsOf, AnswersIn, FairOrders}
 use Rattle.machine.proofs.JobsAnswered.{IsJob, times-append, times-here, times-other, times-ran, jobs-snoc, answers-own, answered-last, none-in}
 use Rattle.machine.proofs.JobsAnswered.{times-answered, NamedBehind, named-behind, jobs-split, no-job-is, job-at-is, job-of}
-use Rattle.machine.proofs.AheadIsPre.{ahead-pre, pre-ahead}
-use Rattle.machine.proofs.AheadUnique.{apart-order, ahead-apart, pre-jobs}
+use Rattle.machine.proofs.AheadIsPre.{pre-ahead}
+use Rattle.machine.proofs.AheadUnique.{apart-order, pre-apart}
 use Rattle.machine.proofs.Calls.{calls-reached}
 use Rattle.machine.proofs.StepDemand2.{can-ready}
-use Rattle.machine.proofs.Demand3.{demand3, free-steps, reached-program}
+use Rattle.machine.proofs.Demand3.{free-steps, some-step, at-most-once, runs-once, demand3, reached-program}
 use Rattle.machine.proofs.Traces.{trace-loaded, trace-reached, trace-answers}
 use Rattle.machine.proofs.GhostMachine.Ghost.{State, Event}
 use Rattle.machine.proofs.GhostMachine.Progress.{at-code}
@@ -56,8 +54,8 @@ use Rattle.machine.proofs.Counting.CountLaws.{jobs-one, job-past, job-g
 use Rattle.machine.proofs.Counting.Weights.{total, jobAt}
 use Rattle.machine.proofs.Counting.Unanswered.{nothing-or-held}
 use Rattle.machine.proofs.JobOrder.Order.{Held, Pre}
-use Rattle.machine.proofs.JobOrder.OrderLaws.{written-job, job-written}
-use Rattle.machine.proofs.JobOrder.WaitLaws.{held-laid, over-holds}
+use Rattle.machine.proofs.JobOrder.OrderLaws.{code-job, written-job, job-written}
+use Rattle.machine.proofs.JobOrder.WaitLaws.{holds-code, held-laid, over-holds}
 use Rattle.machine.proofs.JobOrder.AtHand.{AtJob, OnlyJobs, held-left, at-hand}
 use Rattle.machine.proofs.TablesFollow.Follows.{settingOf, Answers, says-start, says-new, says-edge, says-release, says-transfer, says-job}
 use Rattle.machine.proofs.TablesFollow.Follows.{says-stop, says-yield, Followed, refused, moved}
@@ -150,9 +148,15 @@ module _ (ed : Edition) (bytes : List ℕ) (t : Body) {s₀ : Lent} {answers : L
         let code = held-left (inv .shape) only-jobs p w (T .state .control w) c refl h in
         absurd (omega (arith, gone, code, jobs-one (T .state .setting .edition) p c (held-laid (located t) (T .state) w (laid-located t) (inv .coded) h) j))
 
-    -- Nothing waits needlessly: a job of which all that are ahead were answered is one of those that can be stepped.
+    -- a job that a vertex holds is written
+    held-written : (w p : ℕ) → Held (T .state) w p → (m : ℕ) × Written t p m
+    held-written w p (Held.held c h j) =
+        job-written t p (code-job (located t) (startOf c) p (T .inv .coded w c (holds-code (T .state .control w) h .0)) j)
+
+    -- Nothing waits needlessly: a job of which all others that are ahead were answered is one of those that can be stepped.
     pub nothing-waits :
-        (n o : ℕ) → Written t o n → ranIn o answers ≡ 0 → ((p : ℕ) → Ahead (located t) p o → ranIn p answers ≡ 1)
+        (n o : ℕ) → Written t o n → ranIn o answers ≡ 0
+        → ((m p : ℕ) → Written t p m → (p ≡ o → ⊥) → Ahead (located t) p o → ranIn p answers ≡ 1)
         → (v : ℕ) × (v < s .made) × (isJobAt o (step ed bytes s v .answer) ≡ true)
     nothing-waits n o w none-ran ahead-ran = go (nothing-or-held (T .state) o (T .inv .shape))
       where
@@ -160,6 +164,13 @@ module _ (ed : Edition) (bytes : List ℕ) (t : Body) {s₀ : Lent} {answers : L
         standing u (m, k, at) =
             let taken = free-steps ed bytes t r q u (at-code at) in
             (u, can-ready ed bytes s u taken .0, answered u taken (λ e says job. job-said o (m, k, at) says job))
+
+        -- none is ahead of itself
+        not-itself : (p : ℕ) → Pre (located t) p o → p ≡ o → ⊥
+        not-itself p before e =
+            let before' : Pre (located t) o o = subst (λ (y : ℕ). Pre (located t) y o) e before in
+            let (c, ks, a) = pre-apart (located t) o o (opens-located ed bytes t r) before' in
+            apart-order t o o a a
 
         go :
             (total (jobAt o) (T .state) ≡ 0) ⊎ ((u : ℕ) × Held (T .state) u o)
@@ -172,7 +183,9 @@ module _ (ed : Edition) (bytes : List ℕ) (t : Body) {s₀ : Lent} {answers : L
             let inv = T .inv in
             standing u
             (at-hand (inv .shape) only-jobs (inv .ranks) (inv .ended) (inv .orders) u o h
-            (λ x p k before. not-held x p (ahead-ran p (pre-ahead (located t) p o before)) k))
+            (λ x p k before.
+            let (m, wp) = held-written x p k in
+            not-held x p (ahead-ran m p wp (not-itself p before) (pre-ahead (located t) p o before)) k))
 
 -- no step, and one in front
 answers-none : AnswersIn [] 0 []
@@ -228,44 +241,33 @@ module _ (ed : Edition) (bytes : List ℕ) (t : Body) (s₀ : Lent) (r : reading
       let (n, w) = fair .only-jobs o (omega (arith, all, here)) in
       (n, w, omega (arith, all, here, fair .each-once n o w))
 
-  -- but those ahead of it were
+  -- but the others that are ahead of it were
   ahead-ran :
-      {answers : List StepSaid} {left o : ℕ} {rest : List ℕ} → Left answers left (o ∷ rest) → (p : ℕ) → Ahead (located t) p o → ranIn p answers ≡ 1
-  ahead-ran {answers} {left} {o} {rest} x p h =
-      let opens = opens-located ed bytes t r in
-      let (m, w) = job-written t p (pre-jobs (located t) p o opens (ahead-pre (located t) p o h) .0) in
+      {answers : List StepSaid} {left o : ℕ} {rest : List ℕ} → Left answers left (o ∷ rest) → (m p : ℕ) → Written t p m → (p ≡ o → ⊥)
+      → Ahead (located t) p o → ranIn p answers ≡ 1
+  ahead-ran {answers} {left} {o} {rest} x m p w other h =
       let none-behind = fair .none-early (jobsOf answers) rest p o (x .jobs-left) h in
-      omega (arith, fair .each-once m p w, answered-or-left x p, none-behind, times-other p o rest (λ e. not-itself e))
-    where
-      not-itself : o ≡ p → ⊥
-      not-itself e =
-          let h' : Ahead (located t) o o = subst (λ (y : ℕ). Ahead (located t) y o) (sym e) h in
-          let (c, ks, a) = ahead-apart (located t) o o (opens-located ed bytes t r) h' in
-          apart-order t o o a a
+      omega (arith, fair .each-once m p w, answered-or-left x p, none-behind, times-other p o rest (λ e. other (sym e)))
 
   -- At the full count no job is left,
   none-at-end : {answers : List StepSaid} {s : Lent} (rest : List ℕ) → Reached ed bytes s₀ answers s → Left answers 0 rest → rest ≡ []
   none-at-end [] q x = refl
   none-at-end (o ∷ rest) q x =
       let (n, w, none-ran) = next-written x in
-      let all-ran = demand3 ed bytes t r q .all-run (omega (arith, x .steps-left)) n o w in
-      absurd (omega (arith, none-ran, all-ran))
+      absurd (omega (arith, none-ran, runs-once ed bytes t r q n o w (omega (arith, x .steps-left))))
 
   -- and before it, where every step that is accepted is a job, one is.
   some-before :
       {answers : List StepSaid} {s : Lent} {left : ℕ} (q : Reached ed bytes s₀ answers s)
       → ((v : ℕ) → v < s .made → isNoJob (step ed bytes s v .answer) ≡ false) → Left answers (suc left) [] → ⊥
   some-before {answers} {s} {left} q jobs-only x =
-      let D = demand3 ed bytes t r q in
-      let (v, taken) = D .progress .1 (omega (arith, x .steps-left)) in
-      let job = jobs-only v (can-ready ed bytes s v taken .0) in
-      go v (demand3 ed bytes t r (stepped q v)) (job-of (step ed bytes s v .answer) taken job)
+      let (v, taken) = some-step ed bytes t r q (omega (arith, x .steps-left)) in
+      go v (job-of (step ed bytes s v .answer) taken (jobs-only v (can-ready ed bytes s v taken .0)))
     where
-      go :
-          (v : ℕ) → Demand3 ed bytes t (stepped q v) → IsJob (step ed bytes s v .answer) → ⊥
-      go v D (n, o, e) =
-          let w = D .only-written n o (rw (← e) (answered-last answers _)) in
-          let twice = D .once o in
+      go : (v : ℕ) → IsJob (step ed bytes s v .answer) → ⊥
+      go v (n, o, e) =
+          let w = tracked ed bytes t r (stepped q v) .only-written n o (rw (← e) (answered-last answers _)) in
+          let twice = at-most-once ed bytes t r (stepped q v) o in
           omega
           (arith, twice, ran-snoc o answers (step ed bytes s v .answer), ap (answersJob o) e, answers-own n o, fair .each-once n o w, answered-or-left x o, none-in o)
 
