@@ -3,12 +3,12 @@
 --     Came                        from a loading, steps of these vertices came to this
 --     Onward                      the same, from what the loading left
 --     onward-none, onward-more    before the first step, and one step more
---     keeps-promise               after the last step demand 3 holds
+--     keeps-promise               after the last step demand 3 holds, and note 7
 --     refused-promise             a refused loading changes nothing
 use Prim.Native.Nat.{ℕ, _+_, _<_, _≤_}
 use mathlib.Core.Path.{_≡_, refl, sym, _∙_, ap, subst}
 use mathlib.Core.Bool.{Bool, true, false, not}
-use mathlib.Core.List.{List, [], _∷_, _++_}
+use mathlib.Core.List.{List, [], _∷_, _++_, map-append}
 use native.Mathlib.Numerals.{add-one}
 use lib.ListN.{length, getD, take}
 use lib.Seq.{take-suc, take-all}
@@ -18,9 +18,12 @@ use Rattle.program.specs.declared.Edition.{Edition}
 use Rattle.machine.specs.Answers.{StepSaid, LoadingSaid, isLoaded}
 use Rattle.machine.specs.Loading.{load}
 use Rattle.machine.specs.Reached.{Reached, begun, stepped}
-use Rattle.machine.specs.Traces.{Loaded, Stepped}
+use Rattle.machine.specs.Traces.{Loaded, Stepped, Trace, load-first}
+use Rattle.machine.specs.Traces as trace
+use Rattle.machine.specs.FairOrders.{stepsOf}
 use Rattle.machine.proofs.LoadLaws.{load-keeps}
 use Rattle.machine.proofs.Demand3.{demand3, reached-program}
+use Rattle.machine.proofs.FairOrders.{trace-in-order}
 use Rattle.engine.specs.Promise.{BySteps, no-steps, then-step, Promised, not-loaded, demand-3}
 
 -- from the loading of these bytes onto s₀, steps of these vertices, in this order, came to s
@@ -61,6 +64,15 @@ onward-all :
 onward-all {ed} {bytes} {s₀} {s = s} {named} {i} (onward f) le h =
     subst (λ (x : List ℕ). Came ed bytes s₀ x s) (take-all i named le) (f s₀ h)
 
+-- such steps are a trace
+came-trace :
+    {ed : Edition} {bytes : List ℕ} {s₀ s : Lent} {named : List ℕ} {answers : List StepSaid} {q : Reached ed bytes s₀ answers s}
+    → BySteps ed bytes s₀ named answers s q → Trace ed bytes s₀ (stepsOf named) answers s
+came-trace (no-steps h) = load-first (record { says = refl; leaves = refl }) h
+came-trace {ed} {bytes} {s₀} (then-step {named} {answers} {s} b v) =
+    rw map-append
+    (trace.then-step v _ (came-trace b) (record { says = refl; leaves = refl }))
+
 promised :
     {ed : Edition} {bytes : List ℕ} {s₀ s : Lent} {named : List ℕ} {loading : LoadingSaid} → loading ≡ load ed bytes s₀ .answer
     → isLoaded loading ≡ true
@@ -68,7 +80,7 @@ promised :
 promised {ed} {bytes} says h (came answers q b) =
     let (t, r) = reached-program ed bytes q in
     let d = demand3 ed bytes t r q in
-    demand-3 says h t r answers q b (d .tally-tells) d
+    demand-3 says h t r answers q b (d .tally-tells) d (trace-in-order r _ (came-trace b))
 
 -- the loading is accepted: demand 3 of the whole list
 pub keeps-promise :

@@ -1,4 +1,4 @@
--- Demand 3 as the promise of a function that loads a program and takes a list of vertices as steps, all of one edition.
+-- Demand 3, and with it note 7, as the promise of a function that loads a program and takes a list of vertices as steps, all of one edition.
 use Prim.Native.Nat.{ℕ}
 use mathlib.Core.Path.{_≡_}
 use mathlib.Core.Bool.{true, false}
@@ -12,6 +12,7 @@ use Rattle.machine.specs.Loading.{load}
 use Rattle.machine.specs.Stepping.{step}
 use Rattle.machine.specs.Reached.{Reached, begun, stepped}
 use Rattle.machine.specs.Demand3.{acceptedIn, Demand3}
+use Rattle.machine.specs.FairOrders.{InFairOrder}
 
 -- what was reached, was reached by steps of these vertices, in this order
 pub data BySteps (ed : Edition) (bytes : List ℕ) (s₀ : Lent)
@@ -22,11 +23,12 @@ pub data BySteps (ed : Edition) (bytes : List ℕ) (s₀ : Lent)
         {named : List ℕ} {answers : List StepSaid} {s : Lent} {q : Reached ed bytes s₀ answers s} → BySteps ed bytes s₀ named answers s q → (v : ℕ)
         → BySteps ed bytes s₀ (named ++ (v ∷ [])) (answers ++ (step ed bytes s v .answer ∷ [])) (step ed bytes s v .after) (stepped q v)
 
--- A loading that is refused changes nothing. After one that is accepted, demand 3 holds of the list; so many of its steps were accepted.
+-- A loading that is refused changes nothing. After one that is accepted, demand 3 holds of the list; so many of its steps were accepted. At the
+-- full count the jobs were answered in a fair order, and by a fair order's schedule in that order.
 pub data Promised (ed : Edition) (bytes : List ℕ) (s₀ : Lent) (named : List ℕ) (loading : LoadingSaid) (count : ℕ) (after : Lent) : Type 0 where
   not-loaded :
       loading ≡ load ed bytes s₀ .answer → isLoaded loading ≡ false → count ≡ 0 → after ≡ s₀ → Promised ed bytes s₀ named loading count after
   demand-3 :
       loading ≡ load ed bytes s₀ .answer → isLoaded loading ≡ true → (t : Body) → reading ed bytes ≡ program t → (answers : List StepSaid)
       → (q : Reached ed bytes s₀ answers after) → BySteps ed bytes s₀ named answers after q → count ≡ acceptedIn answers → Demand3 ed bytes t q
-      → Promised ed bytes s₀ named loading count after
+      → InFairOrder ed bytes t s₀ named answers → Promised ed bytes s₀ named loading count after

@@ -6,7 +6,7 @@
 --                       wrong turn
 --     nothing-waits     where jobs are all that can be stepped next, a job of which all that are ahead were answered is one of them
 --     trace-fair        a trace of an engine that ends at the full count answers the jobs in a fair order
---     trace-scheduled   a trace of an engine whose calls are the steps of a fair order's schedule answers the jobs in that order
+--     trace-in-order    one whose calls are the steps of a fair order's schedule answers them in that order
 --
 -- From left to right it is demand 3. From right to left the schedule takes steps that are no jobs until there is none; then jobs are all that can
 -- be stepped next, and the next job of a fair order is one of them (`at-hand`). The full count ends it.
@@ -38,7 +38,7 @@ use Rattle.machine.specs.Reached.{Reached, begun, stepped, AllAccepted, 
 use Rattle.machine.specs.Demand3.{acceptedIn, answersJob, ranIn, Written}
 use Rattle.machine.specs.Traces.{Trace}
 use Rattle.machine.specs.FairOrders.{jobNamed, jobsOf, Happens, timesIn, Fair, lowestWith, isNoJob, isJobAt, naming, namingJob, schedule}
-use Rattle.machine.specs.FairOrders.{stepsOf, AnswersIn, FairOrders}
+use Rattle.machine.specs.FairOrders.{stepsOf, AnswersIn, FairOrders, InFairOrder}
 use Rattle.machine.proofs.JobsAnswered.{IsJob, times-append, times-here, times-other, times-ran, jobs-snoc, answers-own, answered-last, none-in}
 use Rattle.machine.proofs.JobsAnswered.{times-answered, NamedBehind, named-behind, jobs-split, no-job-is, job-at-is, job-of}
 use Rattle.machine.proofs.AheadIsPre.{pre-ahead}
@@ -379,11 +379,14 @@ module _ {ed : Edition} {bytes : List ℕ} {t : Body} {s₀ : Lent} {answers : L
       {cs : List Call} → Trace ed bytes s₀ cs answers s → acceptedIn answers ≡ stepFormula ed (counts t) → Fair t (jobsOf answers)
   trace-fair tr full = full-fair ed bytes t r (trace-reached tr) full
 
-  -- One whose calls are the steps of a fair order's schedule answers the jobs in that order.
-  pub trace-scheduled :
-      (order : List ℕ) → Fair t order
-      → Trace ed bytes s₀ (stepsOf (schedule ed bytes (stepFormula ed (counts t)) (load ed bytes s₀ .after) order)) answers s
-      → AnswersIn order (stepFormula ed (counts t)) answers
-  trace-scheduled order fair tr =
-      subst (AnswersIn order (stepFormula ed (counts t))) (sym (trace-answers tr .0))
-      (schedule-answers ed bytes t s₀ r (trace-loaded tr) order fair)
+  -- One whose calls are steps does, and where these are the steps of a fair order's schedule, in that order.
+  pub trace-in-order : (named : List ℕ) → Trace ed bytes s₀ (stepsOf named) answers s → InFairOrder ed bytes t s₀ named answers
+  trace-in-order named tr =
+      record {
+        at-full-count = trace-fair tr;
+        by-schedule =
+            λ order fair e.
+            subst (AnswersIn order (stepFormula ed (counts t)))
+            (sym (trace-answers tr .0 ∙ ap (λ (vs : List ℕ). answersOf ed bytes (load ed bytes s₀ .after) (stepsOf vs)) e))
+            (schedule-answers ed bytes t s₀ r (trace-loaded tr) order fair);
+      }

@@ -115,3 +115,11 @@ pub record FairOrders (ed : Edition) (bytes : List ℕ) (t : Body) (s₀ : Lent)
       (order : List ℕ) → Fair t order
       → AnswersIn order (stepFormula ed (counts t))
       (answersOf ed bytes (load ed bytes s₀ .after) (stepsOf (schedule ed bytes (stepFormula ed (counts t)) (load ed bytes s₀ .after) order)))
+
+-- The same of one list of steps from that loading, which named these vertices and was answered so: at the full count the jobs were answered in a
+-- fair order; and if these are the vertices of a fair order's schedule, in that order.
+pub record InFairOrder (ed : Edition) (bytes : List ℕ) (t : Body) (s₀ : Lent) (named : List ℕ) (answers : List StepSaid) : Type 0 where
+  pub at-full-count : acceptedIn answers ≡ stepFormula ed (counts t) → Fair t (jobsOf answers)
+  pub by-schedule :
+      (order : List ℕ) → Fair t order → named ≡ schedule ed bytes (stepFormula ed (counts t)) (load ed bytes s₀ .after) order
+      → AnswersIn order (stepFormula ed (counts t)) answers
