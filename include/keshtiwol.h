@@ -49,7 +49,7 @@ extern "C" {
 /* THE VERSION of this header. The first number grows where hosts must be compiled anew (a call's parameters, the shape of what is lent, the
  * meaning of an answer), the second where something is added, the third otherwise. */
 #define KESHTIWOL_VERSION_MAJOR 4
-#define KESHTIWOL_VERSION_MINOR 0
+#define KESHTIWOL_VERSION_MINOR 1
 #define KESHTIWOL_VERSION_PATCH 0
 /* As one number. */
 #define KESHTIWOL_VERSION (10000 * KESHTIWOL_VERSION_MAJOR + 100 * KESHTIWOL_VERSION_MINOR + KESHTIWOL_VERSION_PATCH)

@@ -20,7 +20,7 @@ ghost use Rattle.chains.specs.Showing.{showChain};
 ghost use Rattle.keshtiwol.specs.Numbers.{OpenReplied, Commanded, LoadReplied, Replied, RunReplied, LowestReplied, ChainReplied, byNumbers, editionOf, loadIn, stepIn, runIn, choiceIn, version};
 
 // 10,000 times the major number, 100 times the minor one, and the patch's.
-pub const VERSION: u32 = 40_000;
+pub const VERSION: u32 = 40_100;
 
 // What was said, and its values: vertices, a job's number and offset, or a refusal's number and place. `replies` has the numbers.
 #[repr(C)]
