@@ -1,8 +1,10 @@
 //! The task-graph machine of docs/ENGINE.md, written from the customer's paper and notes, which it quotes, and not from the engine.
 //!
 //! Every function works on lent tables of 32-bit words of any length and content and never panics.
-//! A refused call changes nothing.
+//! A refused call changes nothing. Only [`ahead`] has no tables: it tells by the bytes which job comes ahead of which.
 #![forbid(unsafe_code)]
+
+pub mod ahead;
 
 mod chain;
 mod graph;

@@ -43,7 +43,7 @@ impl<'p> Book<'p> {
     }
 
     /// What starts at a place; nothing anywhere in a program that loading refuses by 1 to 8 or 43 in this edition.
-    fn item(&self, place: u32) -> Option<Item> {
+    pub fn item(&self, place: u32) -> Option<Item> {
         let items = self.items.get_or_init(|| {
             // A program longer than 4,096 bytes is refused before anything is found in it.
             let mut items = vec![None; self.program.len().min(4096)];

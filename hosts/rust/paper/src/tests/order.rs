@@ -1,164 +1,70 @@
 //! "Which job comes ahead", with futures: what the machine does in all orders of steps, in either edition, against the notes' words.
 
 use super::*;
+use crate::ahead::ahead;
+use crate::steps::Book;
 use std::collections::HashSet;
-use std::fmt::Write;
-use std::rc::Rc;
 
 /// Pairs of job numbers, which tell the jobs of these programs apart: the first comes ahead of the second.
 type Pairs = BTreeSet<(u32, u32)>;
 
 // --- What the note says ------------------------------------------------------------------------
 
-type Body = Rc<Vec<Tree>>;
-
-enum Tree {
-    Job(u32),
-    Async(Body),
-    Finish(Body),
-    Fork(Body, Body),
-    Future(Body),
-    /// The number, and the body of the future that it names.
-    Force(usize, Body),
-}
-
-/// The body at the front of a valid program's bytes, where these futures are open, the nearest last; the bytes are moved past it.
-fn body(bytes: &mut &[u8], open: &[Body]) -> Body {
-    let mut open = open.to_vec();
-    let mut trees = Vec::new();
-    loop {
-        let first = bytes[0];
-        *bytes = &bytes[1..];
-        trees.push(match first {
-            0 => return Rc::new(trees),
-            1 => Tree::Job(small_number(bytes).into()),
-            2 => Tree::Async(body(bytes, &open)),
-            3 => Tree::Finish(body(bytes, &open)),
-            4 => Tree::Fork(body(bytes, &open), body(bytes, &open)),
-            5 => {
-                // "A future is open after its item, to the end of its body and in bodies inside later items."
-                let future = body(bytes, &open);
-                open.push(future.clone());
-                Tree::Future(future)
-            }
-            _ => {
-                // "0 for the nearest future open there"
-                let number = small_number(bytes).into();
-                Tree::Force(number, open[open.len() - 1 - number].clone())
-            }
-        });
-    }
-}
-
-/// A number of one byte.
-fn small_number(bytes: &mut &[u8]) -> u8 {
-    let number = bytes[0];
-    assert!(number < 128);
-    *bytes = &bytes[1..];
-    number
-}
-
-fn tree(program: &[u8]) -> Body {
-    let mut bytes = program;
-    let tree = body(&mut bytes, &[]);
-    assert!(bytes.is_empty());
-    tree
-}
-
-/// A body in words.
-fn words(body: &[Tree]) -> String {
-    let mut text = String::new();
-    for tree in body {
-        let _ = match tree {
-            Tree::Job(number) => write!(text, "job {number} "),
-            Tree::Async(body) => write!(text, "async {{ {}}} ", words(body)),
-            Tree::Finish(body) => write!(text, "finish {{ {}}} ", words(body)),
-            Tree::Fork(left, right) => write!(text, "fork {{ {}}} {{ {}}} ", words(left), words(right)),
-            Tree::Future(body) => write!(text, "future {{ {}}} ", words(body)),
-            Tree::Force(number, _) => write!(text, "force {number} "),
-        };
-    }
-    text
-}
-
-/// An item on the way down to a job.
-#[derive(Clone, Copy, PartialEq)]
-enum On {
-    Job,
-    Async,
-    /// A finish, or a force, which "is read as a finish around its future's body".
-    Finish,
-    Fork,
-    /// "a future on the way counts as an async that no finish closes"
-    Future,
-}
-
-/// One item of a way: its number in its body, and the number of the body in it that the way takes.
-type Turn = (usize, usize, On);
-
-/// A place where a job stands: its own, or one in a reading of forces.
-struct Road {
-    job: u32,
-    own: bool,
-    way: Vec<Turn>,
-}
-
-/// All roads to jobs of a body, "forces inside it likewise".
-fn roads(body: &[Tree], own: bool, way: &mut Vec<Turn>, found: &mut Vec<Road>) {
-    for (at, tree) in body.iter().enumerate() {
-        let mut down = |branch, on, body: &Body, own| {
-            way.push((at, branch, on));
-            roads(body, own, way, found);
-            way.pop();
-        };
-        match tree {
-            Tree::Job(job) => {
-                let way = [&way[..], &[(at, 0, On::Job)]].concat();
-                found.push(Road { job: *job, own, way });
-            }
-            Tree::Async(body) => down(0, On::Async, body, own),
-            Tree::Finish(body) => down(0, On::Finish, body, own),
-            Tree::Fork(left, right) => {
-                down(0, On::Fork, left, own);
-                down(1, On::Fork, right, own);
-            }
-            Tree::Future(body) => down(0, On::Future, body, own),
-            Tree::Force(_, body) => down(0, On::Finish, body, false),
-        }
-    }
-}
-
-/// "Take the innermost body with both jobs in different items, p in the earlier. p is ahead of q if each async on the way from that
-/// earlier item (itself counted) down to p has a finish above it on that way."
-fn old_rule(p: &Road, q: &Road) -> bool {
-    let Some(parting) = p.way.iter().zip(&q.way).position(|(p, q)| (p.0, p.1) != (q.0, q.1)) else {
-        return false;
+/// The pairs of `ahead` by the jobs' numbers.
+fn ahead_by_number(program: &[u8]) -> Pairs {
+    let book = Book::new(program, Edition::Second);
+    let number = |offset: usize| match book.item(offset as u32) {
+        Some(Item::Job { number, .. }) => number,
+        other => panic!("{other:?} at {offset} of {program:02x?}"),
     };
-    // "two branches of a fork aren't" ordered: they are in the same item.
-    if p.way[parting].0 >= q.way[parting].0 {
-        return false;
-    }
-    let mut finish_above = false;
-    for &(_, _, on) in &p.way[parting..] {
-        match on {
-            On::Future => return false,
-            On::Async if !finish_above => return false,
-            On::Finish => finish_above = true,
-            _ => {}
-        }
-    }
-    true
+    ahead(program).into_iter().map(|(p, q)| (number(p), number(q))).collect()
 }
 
-/// "Then p is ahead of q if the old rule says so with q at its own place and p at its own or in such a reading."
-fn ahead(program: &[u8]) -> Pairs {
-    let mut found = Vec::new();
-    roads(&tree(program), true, &mut Vec::new(), &mut found);
-    let mut pairs = Pairs::new();
-    for q in found.iter().filter(|q| q.own) {
-        pairs.extend(found.iter().filter(|p| old_rule(p, q)).map(|p| (p.job, q.job)));
+/// A program in words.
+fn words(program: &[u8]) -> String {
+    body_in_words(&Book::new(program, Edition::Second), 0)
+}
+
+/// The body that starts at a place.
+fn body_in_words(book: &Book, mut at: usize) -> String {
+    let body = |place| body_in_words(book, place);
+    let mut text = String::new();
+    loop {
+        let (words, past) = match book.item(at as u32).unwrap() {
+            Item::Job { number, past } => (format!("job {number} "), past),
+            Item::Async { past } => (format!("async {{ {}}} ", body(at + 1)), past),
+            Item::Finish { past } => (format!("finish {{ {}}} ", body(at + 1)), past),
+            Item::Fork { right, past } => (format!("fork {{ {}}} {{ {}}} ", body(at + 1), body(right.into())), past),
+            Item::Future { past } => (format!("future {{ {}}} ", body(at + 1)), past),
+            Item::Force { number, past } => (format!("force {number} "), past),
+            Item::End => return text,
+        };
+        text += &words;
+        at = past.into();
     }
-    pairs
+}
+
+/// Offsets, behind numbers of several bytes too, and of jobs with the same number.
+#[test]
+fn jobs_are_told_apart_by_offset() {
+    // job 4,294,967,295 async { job 1 } finish { job 200 } job 14,074,000
+    let program = [1, 0xFF, 0xFF, 0xFF, 0xFF, 0x0F, 2, 1, 1, 0, 3, 1, 0xC8, 1, 0, 1, 0x90, 0x81, 0xDB, 6, 0];
+    assert_eq!(ahead(&program), [(0, 7), (0, 11), (0, 15), (11, 15)].into());
+    // Behind a first future 199 others, a force of the first by a number of two bytes, and a job 5; another job 5 in or before the first.
+    let futures = [[5, 0].repeat(199), vec![6, 0xC7, 1, 1, 5, 0]].concat();
+    assert_eq!(ahead(&[&[5, 1, 5, 0][..], &futures].concat()), [(1, 405)].into());
+    assert_eq!(ahead(&[&[1, 5, 5, 0][..], &futures].concat()), [(0, 405)].into());
+}
+
+/// In a program that reading refuses no job comes ahead, and one that only the second edition reads is read.
+#[test]
+fn which_programs_are_read() {
+    for refused in [&[][..], &[1, 1, 1, 2], &[1, 1, 1, 2, 0, 0], &[1, 1, 1, 2, 6, 0, 0], &[7]] {
+        assert_eq!(ahead(refused), [].into());
+    }
+    let forks = [vec![1, 1], [4, 0, 0].repeat(400), vec![1, 2, 0]].concat();
+    assert_eq!(load_refusal(&forks), refusal(8, 0));
+    assert_eq!(ahead(&forks), [(0, 1202)].into());
 }
 
 // --- What the machine does ---------------------------------------------------------------------
@@ -346,9 +252,9 @@ fn bytes(hexadecimal: &str) -> Vec<u8> {
 fn orders_of_the_table() {
     for (hexadecimal, in_words, pairs) in TABLE {
         let program = bytes(hexadecimal);
-        assert_eq!(words(&tree(&program)).trim_end(), in_words, "{hexadecimal}");
+        assert_eq!(words(&program).trim_end(), in_words, "{hexadecimal}");
         let pairs: Pairs = pairs.iter().copied().collect();
-        assert_eq!(ahead(&program), pairs, "{in_words}");
+        assert_eq!(ahead_by_number(&program), pairs, "{in_words}");
         for edition in EDITIONS {
             assert_eq!(all_orders(edition, &program).before, pairs, "{edition:?}: {in_words}");
         }
@@ -408,10 +314,10 @@ fn orders_at_random(programs: usize, editions: &[Edition], mut draw: impl FnMut(
         if !tried.insert(program.clone()) {
             continue;
         }
-        let pairs = ahead(&program);
+        let pairs = ahead_by_number(&program);
         for &edition in editions {
             let orders = all_orders(edition, &program);
-            assert_eq!(orders.before, pairs, "{edition:?}, {program:02x?}: {}", words(&tree(&program)));
+            assert_eq!(orders.before, pairs, "{edition:?}, {program:02x?}: {}", words(&program));
             states += orders.states;
         }
         let jobs = counts(&program).jobs as usize;
@@ -493,7 +399,7 @@ fn larger_programs_keep_the_order() {
         if counts(&program).forces > 8 {
             continue;
         }
-        let pairs = ahead(&program);
+        let pairs = ahead_by_number(&program);
         for _ in 0..4 {
             let order = jobs_at_random(edition, &program, &mut dice);
             let at = |job: u32| order.iter().position(|&answered| answered == job).unwrap();
