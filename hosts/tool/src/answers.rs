@@ -1,4 +1,4 @@
-//! The answers that are plain text: the steps of a whole run, what a program holds and needs, a job's bytes, and the versions.
+//! The answers that are plain text: the steps to the end, what a program holds and needs, a job's bytes, and the versions.
 
 use keshtiwol::{Answer, Edition, Lowest, Machine};
 
@@ -6,15 +6,23 @@ use crate::hex;
 use crate::items::Counts;
 use crate::number;
 
-/// The lines of the proved lister: a heading, then for each step the stepping vertex, the word, and its vertices or job number.
-pub fn listing(mut machine: Machine) -> String {
-    let mut jobs = 0;
-    let mut lines = String::new();
+/// A vertex that stepped, and what its step said.
+pub type Step = (u32, Answer);
+
+/// Takes all steps, the lowest vertex first.
+pub fn lowest_first(machine: &mut Machine) -> Vec<Step> {
+    let mut steps = Vec::new();
     while let Lowest::Vertex(vertex) = machine.lowest() {
-        let answer = machine.step(vertex);
-        jobs += u32::from(matches!(answer, Answer::Job { .. }));
-        lines += &format!("{vertex} {answer}\n");
+        steps.push((vertex, machine.step(vertex)));
     }
+    steps
+}
+
+/// The lines of the proved lister for a machine that has taken these steps since loading: a heading, then for each step the stepping
+/// vertex, the word, and its vertices or job number.
+pub fn listing(machine: &Machine, steps: &[Step]) -> String {
+    let jobs = steps.iter().filter(|(_, answer)| matches!(answer, Answer::Job { .. })).count();
+    let lines: String = steps.iter().map(|(vertex, answer)| format!("{vertex} {answer}\n")).collect();
     format!("vertices {} jobs {jobs} steps {}\n{lines}", machine.tally().made, machine.tally().steps)
 }
 

@@ -9,10 +9,12 @@ use crate::moment::Schedule;
 use crate::names::Names;
 
 pub const HELP: &str = "\
-keshtiwol shows, lists, checks and draws programs of the task-graph engine.
+keshtiwol shows, lists, checks and draws programs of the task-graph engine, and has their jobs answered in a fair order.
 
     keshtiwol show PROGRAM [OPTIONS]   an item a line: its offset, its bytes, and what it is, indented by its level
     keshtiwol list PROGRAM             each step of a run, the lowest vertex first, in the lines of the lister
+    keshtiwol order PROGRAM --jobs O,O,...
+                                       steps that answer the jobs in this order, in the same lines
     keshtiwol check PROGRAM            whether it loads; then its items, and the rows and steps that it needs
     keshtiwol dot PROGRAM [OPTIONS]    the graph after some steps, as text for Graphviz
     keshtiwol svg PROGRAM [OPTIONS]    the same as a picture
@@ -34,9 +36,13 @@ of dot and svg
                         Without it and --then: up to the first moment with the most edges held
     --then V,V,...      then step these vertices, in this order; without --steps, from loading on
     -o PATH             write to this file and not to the standard output
+of order
+    --jobs O,O,...      the jobs in a fair order: each once, and none before one that comes ahead of it. O is the offset
+                        at which a job starts, as show tells it; the value is empty where the program has no jobs
 
-The exit status is 1 where the program or a step of --then is refused, 2 where the command line is wrong or a file
-can't be read or written, and otherwise 0.
+The exit status is 1 where the program or a step of --then is refused or the order of --jobs is not fair, 2 where the
+command line is wrong or a file can't be read or written, 3 where the engine can't be driven in a fair order, which
+contradicts what is proved of it, and otherwise 0.
 ";
 
 #[derive(Debug, PartialEq)]
@@ -46,6 +52,7 @@ pub enum Request {
     Job(u32),
     Show { program: Program, names: Names },
     List(Program),
+    Order { program: Program, jobs: Vec<usize> },
     Check(Program),
     Draw { program: Program, form: Form, schedule: Schedule, names: Names, out: Option<PathBuf> },
 }
@@ -79,6 +86,7 @@ struct Given {
     edition: Option<Edition>,
     steps: Option<u64>,
     then: Option<Vec<u32>>,
+    jobs: Option<Vec<usize>>,
     names: Names,
     out: Option<PathBuf>,
     /// All that were met.
@@ -90,6 +98,7 @@ fn options_of(command: &str) -> Option<&'static [&'static str]> {
     match command {
         "job" => Some(&[]),
         "list" | "check" => Some(&["--file", "--hex-file", "--edition"]),
+        "order" => Some(&["--file", "--hex-file", "--edition", "--jobs"]),
         "show" => Some(&["--file", "--hex-file", "--edition", "--name"]),
         "dot" | "svg" => Some(&["--file", "--hex-file", "--edition", "--name", "--steps", "--then", "-o"]),
         _ => None,
@@ -130,9 +139,11 @@ impl Given {
             "--hex-file" => once(&mut self.file, "the program", Source::TextFile(value()?.into()))?,
             "--edition" => once(&mut self.edition, option, edition(&value()?.to_string_lossy())?)?,
             "--steps" => once(&mut self.steps, option, number(option, &value()?.to_string_lossy())?)?,
-            "--then" => {
-                let vertices: Result<_, _> = value()?.to_string_lossy().split(',').map(|vertex| number(option, vertex)).collect();
-                once(&mut self.then, option, vertices?)?;
+            "--then" => once(&mut self.then, option, numbers(option, &value()?.to_string_lossy())?)?,
+            "--jobs" => {
+                let value = value()?;
+                let jobs = if value.is_empty() { Vec::new() } else { numbers(option, &value.to_string_lossy())? };
+                once(&mut self.jobs, option, jobs)?;
             }
             "--name" => {
                 let (job, words) = name(&value()?.to_string_lossy())?;
@@ -161,6 +172,10 @@ impl Given {
         let form = match command {
             "show" => return Ok(Request::Show { program, names: self.names }),
             "list" => return Ok(Request::List(program)),
+            "order" => {
+                let jobs = self.jobs.ok_or("order wants --jobs: where each job starts, in the order that is asked for")?;
+                return Ok(Request::Order { program, jobs });
+            }
             "check" => return Ok(Request::Check(program)),
             "dot" => Form::Dot,
             _ => Form::Svg,
@@ -187,6 +202,10 @@ fn once<T>(place: &mut Option<T>, what: &str, value: T) -> Result<(), String> {
 
 fn number<T: std::str::FromStr>(option: &str, text: &str) -> Result<T, String> {
     text.parse().map_err(|_| format!("{option}: '{text}' is no number, or too large"))
+}
+
+fn numbers<T: std::str::FromStr>(option: &str, text: &str) -> Result<Vec<T>, String> {
+    text.split(',').map(|text| number(option, text)).collect()
 }
 
 fn edition(text: &str) -> Result<Edition, String> {
@@ -234,6 +253,8 @@ mod tests {
             assert_eq!(read_line(&["list", "--edition", number, "00"]), Ok(Request::List(program())));
             assert_eq!(read_line(&["check", "00", "--edition", number]), Ok(Request::Check(program())));
             assert_eq!(read_line(&["show", "00", "--edition", number]), Ok(Request::Show { program: program(), names: Names::new() }));
+            let order = Request::Order { program: program(), jobs: vec![7] };
+            assert_eq!(read_line(&["order", "--edition", number, "00", "--jobs", "7"]), Ok(order));
             for command in ["dot", "svg"] {
                 let Ok(Request::Draw { program: drawn, .. }) = read_line(&[command, "--edition", number, "00"]) else { panic!() };
                 assert_eq!(drawn, program());
@@ -260,6 +281,14 @@ mod tests {
     }
 
     #[test]
+    fn orders() {
+        let order = |jobs| Ok(Request::Order { program: first(Source::Text("00".into())), jobs });
+        assert_eq!(read_line(&["order", "00", "--jobs", "4,1,4096"]), order(vec![4, 1, 4096]));
+        assert_eq!(read_line(&["order", "--jobs", "0", "00"]), order(vec![0]));
+        assert_eq!(read_line(&["order", "--jobs", "", "00"]), order(vec![]));
+    }
+
+    #[test]
     fn jobs_and_names() {
         assert_eq!(read_line(&["job", "14074000"]), Ok(Request::Job(14_074_000)));
         assert_eq!(read_line(&["job", "4294967295"]), Ok(Request::Job(u32::MAX)));
@@ -276,7 +305,7 @@ mod tests {
 
     #[test]
     fn mistakes() {
-        let lines: [(&[&str], &str); 30] = [
+        let lines: [(&[&str], &str); 42] = [
             (&[], "a command is missing"),
             (&["draw", "00"], "there is no command 'draw'"),
             (&["list"], "list wants a program"),
@@ -303,6 +332,18 @@ mod tests {
             (&["svg", "--steps", "-3", "00"], "--steps: '-3' is no number"),
             (&["svg", "--steps", "3", "--steps", "3", "00"], "--steps is given twice"),
             (&["svg", "--then", "1,,2", "00"], "--then: '' is no number"),
+            (&["order", "00"], "order wants --jobs: where each job starts"),
+            (&["order", "--jobs", "1"], "order wants a program"),
+            (&["order", "00", "--jobs"], "--jobs wants a value behind it"),
+            (&["order", "00", "--jobs", "1", "--jobs", "1"], "--jobs is given twice"),
+            (&["order", "00", "--jobs", "1,,2"], "--jobs: '' is no number"),
+            (&["order", "00", "--jobs", ","], "--jobs: '' is no number"),
+            (&["order", "00", "--jobs", "1, 2"], "--jobs: ' 2' is no number"),
+            (&["order", "00", "--jobs", "99999999999999999999"], "--jobs: '99999999999999999999' is no number, or too large"),
+            (&["order", "00", "--jobs", "1", "--name", "1=a"], "order takes no --name"),
+            (&["order", "00", "--jobs", "1", "--steps", "3"], "order takes no --steps"),
+            (&["list", "00", "--jobs", "1"], "list takes no --jobs"),
+            (&["svg", "00", "--jobs", "1"], "svg takes no --jobs"),
             (&["svg", "--name", "17", "00"], "--name wants JOB=WORDS, not '17'"),
             (&["svg", "--name", "17= ", "00"], "--name: no words in '17= '"),
             (&["svg", "--name", "17=a\nb", "00"], "--name: the words for job 17 have a character"),

@@ -1,6 +1,7 @@
-//! A command-line program over the engine: shows, lists, checks and draws programs, and explains why one is refused. `keshtiwol --help`
-//! tells how.
+//! A command-line program over the engine: shows, lists, checks and draws programs, drives the engine in an order of jobs that is asked for,
+//! and explains why a program is refused. `keshtiwol --help` tells how.
 
+mod ahead;
 mod answers;
 mod arguments;
 mod bodies;
@@ -12,10 +13,13 @@ mod layout;
 mod moment;
 mod names;
 mod number;
+mod order;
 mod outline;
 mod picture;
 mod status;
 mod svg;
+#[cfg(test)]
+mod tests;
 
 use std::ffi::OsString;
 use std::fs::{self, File};
@@ -33,11 +37,13 @@ const TEXT_BYTES: usize = 1 << 20;
 
 /// Why nothing was written, in words for people.
 enum Failure {
-    /// By the engine: the program, or a step that was chosen.
+    /// By the engine: the program, or a step that was chosen. By this tool: an order of jobs that is not fair.
     Refused(String),
     CommandLine(String),
     /// A file can't be read or written.
     File(String),
+    /// The engine can't be driven in an order that is fair.
+    Contradiction(String),
 }
 
 fn main() -> ExitCode {
@@ -47,6 +53,9 @@ fn main() -> ExitCode {
         Err(Failure::Refused(message)) => (1, message),
         Err(Failure::CommandLine(message)) => (2, format!("{message}\n'keshtiwol --help' tells more")),
         Err(Failure::File(message)) => (2, message),
+        Err(Failure::Contradiction(message)) => {
+            (3, format!("{message}\nthe order is fair, so this contradicts what is proved of the engine"))
+        }
     };
     // Where the standard error is closed too, the status alone has to do.
     let _ = writeln!(io::stderr(), "keshtiwol: {message}");
@@ -59,7 +68,17 @@ fn answer(arguments: Vec<OsString>) -> Result<(), Failure> {
         Request::Version => write(None, &answers::versions()),
         Request::Job(number) => write(None, &answers::job(number)),
         Request::Show { program, names } => write(None, &outline::outline(load(&program)?.program(), &names)),
-        Request::List(program) => write(None, &answers::listing(load(&program)?)),
+        Request::List(program) => {
+            let mut machine = load(&program)?;
+            let steps = answers::lowest_first(&mut machine);
+            write(None, &answers::listing(&machine, &steps))
+        }
+        Request::Order { program, jobs } => {
+            let mut machine = load(&program)?;
+            order::judge(machine.program(), &jobs).map_err(|unfair| Failure::Refused(unfair.to_string()))?;
+            let steps = order::drive(&mut machine, &jobs).map_err(|stuck| Failure::Contradiction(stuck.to_string()))?;
+            write(None, &answers::listing(&machine, &steps))
+        }
         Request::Check(program) => write(None, &answers::summary(&load(&program)?)),
         Request::Draw { program, form, schedule, names, out } => {
             let moment = Moment::reach(load(&program)?, &schedule).map_err(|step| Failure::Refused(step.to_string()))?;

@@ -83,8 +83,8 @@ fn wrong_command_lines_and_files() {
 #[test]
 fn help_and_version() {
     let help = written(&["--help"], b"");
-    let commands = ["show", "list", "check", "dot", "svg", "job"].map(|command| format!("keshtiwol {command} "));
-    let options = ["--hex-file", "--file", "--steps", "--then", "--name", "-o", "0x", "#"].map(str::to_string);
+    let commands = ["show", "list", "order", "check", "dot", "svg", "job"].map(|command| format!("keshtiwol {command} "));
+    let options = ["--hex-file", "--file", "--steps", "--then", "--name", "-o", "--jobs", "0x", "#"].map(str::to_string);
     for word in commands.iter().chain(&options) {
         assert!(help.contains(word), "{word}");
     }

@@ -3,6 +3,7 @@
 mod input;
 mod job;
 mod list;
+mod order;
 mod pictures;
 mod receiver;
 mod refused;

@@ -1,0 +1,3 @@
+//! Tests that hold for no file alone, and the random programs of others.
+
+pub mod random;
