@@ -202,8 +202,8 @@ fn counted_by_hand() {
         (&[2, 1, 1, 0, 2, 1, 2, 0, 2, 1, 3, 0, 2, 1, 4, 0, 2, 1, 5, 0, 0], 120),
         // finish { future { job 1 } } job 2
         (&[3, 5, 1, 1, 0, 0, 1, 2, 0], 2),
-        // future { job 1 } future { job 2 } future { job 3 } force 1 job 4: half of all orders
-        (&[5, 1, 1, 0, 5, 1, 2, 0, 5, 1, 3, 0, 6, 1, 1, 4, 0], 12),
+        // future { job 1 } future { job 2 } future { job 3 } force 0 job 4: half of all orders
+        (&[5, 1, 1, 0, 5, 1, 2, 0, 5, 1, 3, 0, 6, 0, 1, 4, 0], 12),
     ];
     for (program, orders) in programs {
         for edition in EDITIONS {
