@@ -56,6 +56,26 @@ pub struct Counts {
     /// The calls that named the first edition, the second, and none, in the order of `OF_EDITIONS`.
     editions: [[u64; OF_EDITIONS.end - OF_EDITIONS.start]; 3],
     crossings: Crossings,
+    orders: Orders,
+}
+
+/// Orders of jobs that were asked for.
+#[derive(Clone, Copy, Debug, Default)]
+pub struct Orders {
+    /// All jobs were answered in this order.
+    pub whole: u64,
+    /// They were answered up to one that stands before another which comes ahead of it.
+    pub cut: u64,
+    /// The most jobs of an order that were all answered in it.
+    pub most: usize,
+}
+
+impl Orders {
+    fn add(&mut self, more: Orders) {
+        self.whole += more.whole;
+        self.cut += more.cut;
+        self.most = more.most.max(self.most);
+    }
 }
 
 /// How often a caller yielded, or did something else that edges into it have to do with.
@@ -331,6 +351,15 @@ impl Counts {
         }
     }
 
+    /// Notes an order of so many jobs, and how many of them were answered in it. One of a single job is the only one.
+    pub fn ordered(&mut self, answered: usize, jobs: usize) {
+        self.orders.add(match answered {
+            _ if jobs < 2 => Orders::default(),
+            all if all == jobs => Orders { whole: 1, cut: 0, most: jobs },
+            _ => Orders { whole: 0, cut: 1, most: 0 },
+        });
+    }
+
     /// Notes what a caller did with edges into itself, by a command or by a step.
     pub fn called(&mut self, by_step: bool, callers: Callers) {
         self.callers[usize::from(by_step)].add(callers);
@@ -421,6 +450,7 @@ impl Counts {
             *calls += more;
         }
         self.crossings.add(other.crossings);
+        self.orders.add(other.orders);
     }
 
     pub fn calls(&self) -> u64 {
@@ -497,6 +527,11 @@ impl Counts {
         self.crossings
     }
 
+    /// The orders of two jobs and more that were asked for.
+    pub fn orders(&self) -> Orders {
+        self.orders
+    }
+
     /// The calls that can be refused with 12 though the tally refuses nothing, and how often they were.
     pub fn unsound_beside_the_tally(&self) -> impl Iterator<Item = (&'static str, u64)> {
         CALLS.into_iter().zip(self.unsound).skip(2)
@@ -571,6 +606,12 @@ impl fmt::Display for Counts {
         let Crossings { taken, nothing_starts, second_only } = self.crossings;
         write!(f, "on tables loaded in the other edition steps were taken {taken} times, and 13 {nothing_starts} times; ")?;
         writeln!(f, "programs that the second edition loads were 8 in the first {second_only} times")?;
+        let Orders { whole, cut, most } = self.orders;
+        write!(
+            f,
+            "orders of jobs were asked for and kept {whole} times, with {most} jobs at most, and {cut} times kept up to a job that "
+        )?;
+        writeln!(f, "stands before one ahead of it")?;
         write!(f, "12 for a status or an edge:")?;
         for (call, times) in self.unsound_beside_the_tally() {
             write!(f, " {call} {times}")?;

@@ -569,10 +569,15 @@ impl Pair {
     }
 
     /// What is wrong though both sides say the same, with the calls that led there.
-    fn disagreement(&self, what: &str) -> Difference {
+    pub fn disagreement(&self, what: &str) -> Difference {
         let mut text = format!("{what}\n");
         self.write_history(&mut text);
         Difference(text)
+    }
+
+    /// Notes an order of so many jobs that was asked for, and how many of them were answered in it.
+    pub fn ordered(&mut self, answered: usize, jobs: usize) {
+        self.counts.ordered(answered, jobs);
     }
 
     pub fn into_counts(self) -> Counts {

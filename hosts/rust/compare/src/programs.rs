@@ -4,7 +4,7 @@ use keshtiwol::Edition;
 
 use crate::draw::Draw;
 
-const JOB: u8 = 1;
+pub const JOB: u8 = 1;
 pub const ASYNC: u8 = 2;
 pub const FINISH: u8 = 3;
 pub const FORK: u8 = 4;

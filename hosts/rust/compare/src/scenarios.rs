@@ -16,7 +16,7 @@ type Kind = fn(&mut Scene) -> Outcome;
 /// Plays the scenario of a seed: what was called and said, or the first difference.
 pub fn play(seed: u64) -> Result<Counts, Difference> {
     let mut draw = Draw::new(seed);
-    let kinds: [(&str, u32, Kind); 13] = [
+    let kinds: [(&str, u32, Kind); 14] = [
         ("a bare machine", 3, Scene::bare),
         ("random tables", 3, Scene::random_tables),
         ("a schedule", 4, Scene::schedule),
@@ -30,6 +30,7 @@ pub fn play(seed: u64) -> Result<Counts, Difference> {
         ("may it start", 5, Scene::starts),
         ("forks", 5, Scene::forks),
         ("callers that wait", 4, Scene::callers_that_wait),
+        ("orders of jobs", 4, Scene::orders),
     ];
     let (name, _, kind) = kinds[draw.weighted(&kinds.map(|kind| kind.1))];
     let size = [Size::Small, Size::Middle, Size::Large][draw.weighted(&[80, 14, 6])];
@@ -144,6 +145,86 @@ impl Scene {
             self.call(call)?;
         }
         Ok(())
+    }
+
+    /// A loaded program's jobs in orders that are asked for: the one in which steps answered them before and, of a small program, others.
+    fn orders(&mut self) -> Outcome {
+        if self.size == Size::Large && !self.draw.one_in(6) {
+            self.size = Size::Middle; // A large one takes some thousand steps, twice.
+        }
+        let drawn = self.draw.pick(&[programs::valid, programs::with_futures, programs::with_forks]);
+        self.pair.program = drawn(&mut self.draw, self.size, self.edition);
+        let mut order = Vec::new();
+        self.load_again()?;
+        while let Some(vertex) = self.any_of(self.able()) {
+            if let Said::Answer(Answer::Job { offset, .. }) = self.pair.step(vertex)? {
+                order.push(offset as usize);
+            }
+        }
+        self.ask_for(&order, order.len())?;
+        // Each reading of a force is gone through there, so forces must be few.
+        let forces = self.pair.program.iter().filter(|&&byte| byte == programs::FORCE).count();
+        if self.size == Size::Small && forces <= 8 && order.len() > 1 {
+            let ahead = paper::ahead::ahead(&self.pair.program);
+            for _ in 0..self.draw.between(1, 6) {
+                for _ in 0..self.draw.between(1, 4) {
+                    let (one, other) = (self.draw.index(order.len()), self.draw.index(order.len()));
+                    order.swap(one, other);
+                }
+                let is_early = |&at: &usize| order[at + 1..].iter().any(|&later| ahead.contains(&(later, order[at])));
+                self.ask_for(&order, (0..order.len()).find(is_early).unwrap_or(order.len()))?;
+            }
+        }
+        Ok(())
+    }
+
+    /// Asks for an order of the program's jobs of which so many can be answered in it: all, or those up to the first that stands before one
+    /// that comes ahead of it.
+    fn ask_for(&mut self, order: &[usize], fair: usize) -> Outcome {
+        self.load_again()?;
+        if self.answer_in(order)? != fair {
+            return Err(self.pair.disagreement(&format!("of the jobs at {order:?} {fair} can be answered in this order, and no more")));
+        }
+        self.pair.ordered(fair, order.len());
+        Ok(())
+    }
+
+    /// Loads the program in its edition, onto tables with any content.
+    fn load_again(&mut self) -> Outcome {
+        self.lend_for_program(u32::MAX);
+        self.pair.call(Call::Load)?;
+        Ok(())
+    }
+
+    /// Steps a program that was just loaded so that its jobs are answered in this order, as far as that goes: how many were. Steps that are no
+    /// jobs are taken until there is none, and then that of the next job.
+    fn answer_in(&mut self, order: &[usize]) -> Result<usize, Difference> {
+        let stands_at_job = |program: &[u8], row: &[u32]| row[STATUS] == VERTEX_EXECUTING && program[row[PLACE] as usize] == programs::JOB;
+        for next in 0..=order.len() {
+            loop {
+                let at_jobs = self.having(|row| stands_at_job(&self.pair.program, row));
+                let others = self.able().into_iter().filter(|vertex| !at_jobs.contains(vertex)).collect();
+                let Some(vertex) = self.any_of(others) else { break };
+                if matches!(self.pair.step(vertex)?, Said::Answer(Answer::Job { .. } | Answer::Refused { .. })) {
+                    return Err(self.pair.disagreement("a vertex that stands at no job answers one, or can't step"));
+                }
+            }
+            let Some(&offset) = order.get(next) else { break };
+            let there = self.having(|row| row[PLACE] as usize == offset && stands_at_job(&self.pair.program, row));
+            let &[vertex] = there.as_slice() else { return Ok(next) };
+            if !matches!(self.pair.step(vertex)?, Said::Answer(Answer::Job { offset: said, .. }) if said as usize == offset) {
+                return Err(self.pair.disagreement("a vertex that stands at a job does not answer it"));
+            }
+        }
+        if !self.able().is_empty() {
+            return Err(self.pair.disagreement("all jobs of the order were answered, and there is another"));
+        }
+        Ok(order.len())
+    }
+
+    /// Any of these vertices, if there is one.
+    fn any_of(&mut self, vertices: Vec<u32>) -> Option<u32> {
+        (!vertices.is_empty()).then(|| self.draw.pick(&vertices))
     }
 
     /// A loaded program by runs, a step between them now and then.

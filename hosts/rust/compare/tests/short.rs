@@ -1,6 +1,6 @@
 //! A short comparison that yet sees every word, every refusal and programs at the limits.
 
-use compare::counts::{Callers, Crossings, Forces, Gaps, InCounts, Repeats, Starts, REFUSALS, WORDS};
+use compare::counts::{Callers, Crossings, Forces, Gaps, InCounts, Orders, Repeats, Starts, REFUSALS, WORDS};
 use keshtiwol::{Edition, Machine};
 
 #[test]
@@ -56,6 +56,9 @@ fn no_difference() {
     let crossings = counts.crossings();
     let Crossings { taken, nothing_starts, second_only } = crossings;
     assert!(taken > 1000 && nothing_starts > 100 && second_only > 50, "where the edition mattered: {crossings:?}");
+    let orders = counts.orders();
+    let Orders { whole, cut, most } = orders;
+    assert!(whole > 250 && cut > 500 && most > 300, "orders of jobs that were asked for: {orders:?}");
     for (call, times) in counts.unsound_beside_the_tally() {
         assert!(times > 50, "12 for a status or an edge: {call}, {times} times");
     }
