@@ -114,9 +114,13 @@ job-said o (n, r, at) (says-job {o = o'} at') h = let same : o' ≡ o = cc in rw
 job-said o at says-stop h = clash h
 job-said o at says-yield h = clash h
 
--- What was reached, where every step that is accepted is a job.
+-- every step that is accepted is a job
+abbrev JobsOnly : Edition → List ℕ → Lent → Type 0
+JobsOnly ed bytes s = (v : ℕ) → v < s .made → isNoJob (step ed bytes s v .answer) ≡ false
+
+-- What was reached, where that is so.
 module _ (ed : Edition) (bytes : List ℕ) (t : Body) {s₀ : Lent} {answers : List StepSaid} {s : Lent} (r : reading ed bytes ≡ program t)
-    (q : Reached ed bytes s₀ answers s) (jobs-only : (v : ℕ) → v < s .made → isNoJob (step ed bytes s v .answer) ≡ false)
+    (q : Reached ed bytes s₀ answers s) (jobs-only : JobsOnly ed bytes s)
   where
     abbrev T : Tracked ed bytes t s₀ answers s
     T = tracked ed bytes t r q
@@ -236,8 +240,8 @@ module _ (ed : Edition) (bytes : List ℕ) (t : Body) (s₀ : Lent) (r : reading
   -- the next of those that are left was not answered yet
   next-written : {answers : List StepSaid} {left o : ℕ} {rest : List ℕ} → Left answers left (o ∷ rest) → (n : ℕ) × Written t o n × (ranIn o answers ≡ 0)
   next-written {answers} {left} {o} {rest} x =
-      let all = answered-or-left x o in
-      let here = times-here o rest in
+      let all : timesIn o order ≡ ranIn o answers + timesIn o (o ∷ rest) = answered-or-left x o in
+      let here : timesIn o (o ∷ rest) ≡ suc (timesIn o rest) = times-here o rest in
       let (n, w) = fair .only-jobs o (omega (arith, all, here)) in
       (n, w, omega (arith, all, here, fair .each-once n o w))
 
@@ -258,8 +262,7 @@ module _ (ed : Edition) (bytes : List ℕ) (t : Body) (s₀ : Lent) (r : reading
 
   -- and before it, where every step that is accepted is a job, one is.
   some-before :
-      {answers : List StepSaid} {s : Lent} {left : ℕ} (q : Reached ed bytes s₀ answers s)
-      → ((v : ℕ) → v < s .made → isNoJob (step ed bytes s v .answer) ≡ false) → Left answers (suc left) [] → ⊥
+      {answers : List StepSaid} {s : Lent} {left : ℕ} → Reached ed bytes s₀ answers s → JobsOnly ed bytes s → Left answers (suc left) [] → ⊥
   some-before {answers} {s} {left} q jobs-only x =
       let (v, taken) = some-step ed bytes t r q (omega (arith, x .steps-left)) in
       go v (job-of (step ed bytes s v .answer) taken (jobs-only v (can-ready ed bytes s v taken .0)))
@@ -268,8 +271,8 @@ module _ (ed : Edition) (bytes : List ℕ) (t : Body) (s₀ : Lent) (r : reading
       go v (n, o, e) =
           let w = tracked ed bytes t r (stepped q v) .only-written n o (rw (← e) (answered-last answers _)) in
           let twice = at-most-once ed bytes t r (stepped q v) o in
-          omega
-          (arith, twice, ran-snoc o answers (step ed bytes s v .answer), ap (answersJob o) e, answers-own n o, fair .each-once n o w, answered-or-left x o, none-in o)
+          let more = ran-snoc o answers (step ed bytes s v .answer) in
+          omega (arith, twice, more, ap (answersJob o) e, answers-own n o, fair .each-once n o w, answered-or-left x o, none-in o)
 
   -- A row of steps by `again` from whatever is reached, where so many are left.
   abbrev Onward : (Lent → List ℕ → List ℕ) → ℕ → Type 0
@@ -290,7 +293,7 @@ module _ (ed : Edition) (bytes : List ℕ) (t : Body) (s₀ : Lent) (r : reading
 
     -- one that is the next job
     job-next :
-        ((v : ℕ) → v < s .made → isNoJob (step ed bytes s v .answer) ≡ false) → (rest : List ℕ) → Left answers (suc left) rest
+        JobsOnly ed bytes s → (rest : List ℕ) → Left answers (suc left) rest
         → AnswersIn rest (suc left) (answersOf ed bytes s (stepsOf (namingJob ed bytes again s rest)))
     unfolding namingJob naming lowestWith
     job-next jobs-only [] x = absurd (some-before q jobs-only x)
