@@ -89,30 +89,18 @@ full-fair ed bytes t {s₀} {answers} {s} r q full =
 
 -- FROM RIGHT TO LEFT
 
--- a step of a vertex that can move on, and is answered by a job, is of one that stands at it
-said-job : {S : State} {v : ℕ} {e : Event} {a : StepSaid} → Answers S v e a → isNoJob a ≡ false → (o : ℕ) × AtJob S v o
-unfolding isNoJob both jobNamed
+-- a step that is accepted and is not no job is one, at which its vertex stands
+said-job :
+    {S : State} {v : ℕ} {e : Event} {a : StepSaid} → Answers S v e a → isNoJob a ≡ false → (o : ℕ) × AtJob S v o × (isJobAt o a ≡ true)
+unfolding isNoJob isJobAt both jobNamed answersJob
 said-job says-start h = clash h
 said-job says-new h = clash h
 said-job (says-edge a b new) h = clash h
 said-job (says-release m) h = clash h
 said-job (says-transfer m) h = clash h
-said-job (says-job {o} {n} {r} at) h = (o, (n, r, at))
+said-job (says-job {o} {n} {r} at) h = (o, (n, r, at), rw (eq-eqb o o refl) refl)
 said-job says-stop h = clash h
 said-job says-yield h = clash h
-
--- and the other way round
-job-said :
-    {S : State} {v : ℕ} {e : Event} {a : StepSaid} (o : ℕ) → AtJob S v o → Answers S v e a → isNoJob a ≡ false → isJobAt o a ≡ true
-unfolding isNoJob isJobAt both jobNamed answersJob
-job-said o at says-start h = clash h
-job-said o at says-new h = clash h
-job-said o at (says-edge a b new) h = clash h
-job-said o at (says-release m) h = clash h
-job-said o at (says-transfer m) h = clash h
-job-said o (n, r, at) (says-job {o = o'} at') h = let same : o' ≡ o = cc in rw (eq-eqb o' o same) refl
-job-said o at says-stop h = clash h
-job-said o at says-yield h = clash h
 
 -- every step that is accepted is a job
 abbrev JobsOnly : Edition → List ℕ → Lent → Type 0
@@ -125,23 +113,20 @@ module _ (ed : Edition) (bytes : List ℕ) (t : Body) {s₀ : Lent} {answers : L
     abbrev T : Tracked ed bytes t s₀ answers s
     T = tracked ed bytes t r q
 
-    -- a step that is accepted is what its vertex stands at
-    answered :
-        {P : Type 0} (v : ℕ) → accepted (step ed bytes s v .answer) ≡ true
-        → ((e : Event) → Answers (T .state) v e (step ed bytes s v .answer) → isNoJob (step ed bytes s v .answer) ≡ false → P) → P
-    answered {P} v taken f =
-        go (step ed bytes s v) taken f (jobs-only v (can-ready ed bytes s v taken .0))
+    -- a vertex whose step is accepted stands at a job, which the step answers
+    at-job : (v : ℕ) → accepted (step ed bytes s v .answer) ≡ true → (o : ℕ) × AtJob (T .state) v o × (isJobAt o (step ed bytes s v .answer) ≡ true)
+    at-job v taken =
+        go (step ed bytes s v) taken (jobs-only v (can-ready ed bytes s v taken .0))
         (stepped-as ed bytes t s₀ r (rows-lent ed bytes t r q) T v)
       where
         go :
-            (x : Outcome StepSaid) → accepted (x .answer) ≡ true
-            → ((e : Event) → Answers (T .state) v e (x .answer) → isNoJob (x .answer) ≡ false → P) → isNoJob (x .answer) ≡ false
-            → Followed (located t) (settingOf ed bytes) s (T .state) v x → P
-        go x h f job (refused n why e) = true-false h (ap (λ (y : Outcome StepSaid). accepted (y .answer)) e)
-        go x h f job (moved e S' m follows says tally) = f e says job
+            (x : Outcome StepSaid) → accepted (x .answer) ≡ true → isNoJob (x .answer) ≡ false
+            → Followed (located t) (settingOf ed bytes) s (T .state) v x → (o : ℕ) × AtJob (T .state) v o × (isJobAt o (x .answer) ≡ true)
+        go x h job (refused n why e) = true-false h (ap (λ (y : Outcome StepSaid). accepted (y .answer)) e)
+        go x h job (moved e S' m follows says tally) = said-job says job
 
     only-jobs : OnlyJobs (T .state)
-    only-jobs v free = answered v (free-steps ed bytes t r q v free) (λ e says job. said-job says job)
+    only-jobs v free = let (o, at, job) = at-job v (free-steps ed bytes t r q v free) in (o, at)
 
     -- a job that was answered is held by no vertex
     not-held : (w p : ℕ) → ranIn p answers ≡ 1 → Held (T .state) w p → ⊥
@@ -167,7 +152,9 @@ module _ (ed : Edition) (bytes : List ℕ) (t : Body) {s₀ : Lent} {answers : L
         standing : (u : ℕ) → AtJob (T .state) u o → (v : ℕ) × (v < s .made) × (isJobAt o (step ed bytes s v .answer) ≡ true)
         standing u (m, k, at) =
             let taken = free-steps ed bytes t r q u (at-code at) in
-            (u, can-ready ed bytes s u taken .0, answered u taken (λ e says job. job-said o (m, k, at) says job))
+            let (p, (m', k', at'), job) = at-job u taken in
+            let same : p ≡ o = cc in
+            (u, can-ready ed bytes s u taken .0, subst (λ (x : ℕ). isJobAt x (step ed bytes s u .answer) ≡ true) same job)
 
         -- none is ahead of itself
         not-itself : (p : ℕ) → Pre (located t) p o → p ≡ o → ⊥
