@@ -11,7 +11,7 @@ use borrow.Author.Tests.{eq-eqb, eqb-true, lt-ltb, ltb-true}
 use Rattle.graph.specs.Tables.{Lent, usableLimit}
 use Rattle.graph.specs.Sound.{sound}
 use Rattle.graph.specs.Paths.{reaches}
-use Rattle.graph.specs.Internal.Search.{Hops, here, hop, Measured}
+use Rattle.graph.specs.Internal.Search.{searchLimit, Hops, here, hop, Measured}
 use Rattle.graph.proofs.TestLaws.{true-false, equal?, both-true, both-left, both-right}
 use Rattle.graph.proofs.PathLaws.{hops-leads, path-reaches}
 use Rattle.graph.proofs.SoundLaws.{sound-fits}
@@ -135,7 +135,7 @@ module _ {s : Lent} {a b : ℕ} {m : List ℕ} (g : GotBack s a b m) where
       v-marked : 0 < mark v
       v-marked = omega arith
 
-      below : (x : ℕ) × (getD near v 0 ≤ x) × ((v < usableLimit) × (x < usableLimit))
+      below : (x : ℕ) × (getD near v 0 ≤ x) × ((v < searchLimit) × (x < searchLimit))
       below =
           let path : Hops (heldEdge s) (suc k) v b = subst (λ (i : ℕ). Hops (heldEdge s) i v b) far (measured .leads v v-marked) in
           let (x, edge, rest) = first-hop path in
@@ -143,7 +143,7 @@ module _ {s : Lent} {a b : ℕ} {m : List ℕ} (g : GotBack s a b m) where
           let ends = fits .ends-made v x edge in
           (x, nearest .lowest v x edge (hops-nearer x edge rest), (omega (arith, fits .vertices-fit), omega (arith, fits .vertices-fit)))
 
-      pub usable : v < usableLimit
+      pub usable : v < searchLimit
       usable = below .2 .0
 
       chosen : (heldEdge s v (getD near v 0) ≡ true) × (isNearer m b v (getD near v 0) ≡ true)

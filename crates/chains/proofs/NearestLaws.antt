@@ -12,8 +12,9 @@ use lib.Seq.{getD-set-same, getD-set-other}
 use lib.Dec.{eqb, ltb}
 use borrow.Author.Tests.{eq-eqb, ne-eqb, eqb-true, lt-ltb, le-ltb}
 use Rattle.graph.specs.Tests.{both}
-use Rattle.graph.specs.Tables.{usableLimit, source, target}
+use Rattle.graph.specs.Tables.{source, target}
 use Rattle.graph.specs.Paths.{holds}
+use Rattle.graph.specs.Internal.Search.{searchLimit}
 use Rattle.graph.proofs.TestLaws.{same, equal?, at-end, both-true, both-right, both-false-left, both-false-right}
 use Rattle.graph.proofs.PathLaws.{held-row, holds-at, holds-less, holds-more}
 use Rattle.chains.specs.Internal.Walk.{isNearer, noneNearer, Nearest}
@@ -44,15 +45,15 @@ module _ (m : List ℕ) (to a x : ℕ) where
       let d = eqb-true (getD m a 0) (suc (getD m x 0)) (both-right _ _ (sym (elsewhere h) ∙ p)) in
       eq-eqb (getD m a 0 - getD m x 0) 1 (omega arith))
 
-pub none-long : {l : List ℕ} → l ≡ noneNearer → length l ≡ usableLimit
-none-long h = ap length h ∙ length-replicate {A = ℕ} usableLimit usableLimit
+pub none-long : {l : List ℕ} → l ≡ noneNearer → length l ≡ searchLimit
+none-long h = ap length h ∙ length-replicate {A = ℕ} searchLimit searchLimit
 
 -- no row was looked at
 pub nearest-none : (e : List ℕ) (to : ℕ) (m : List ℕ) → Nearest e 0 to m noneNearer
 nearest-none e to m =
     record {
       long = none-long refl;
-      found = λ a below lt. absurd (omega (arith, getD-replicate usableLimit a usableLimit 0 lt));
+      found = λ a below lt. absurd (omega (arith, getD-replicate searchLimit a searchLimit 0 lt));
       lowest = λ a x h. let (i, lt, p, q) = held-row e 0 a x h in absurd (omega arith);
     }
 
@@ -79,7 +80,7 @@ module _ (e : List ℕ) (i to : ℕ) (m near : List ℕ) (h : Nearest e i to m n
 
   -- its target is lower than what was found
   pub nearest-put :
-      isNearer m to (source e i) (target e i) ≡ true → target e i < getD near (source e i) 0 → source e i < usableLimit
+      isNearer m to (source e i) (target e i) ≡ true → target e i < getD near (source e i) 0 → source e i < searchLimit
       → Nearest e (i + 1) to m (set near (source e i) (target e i))
   nearest-put nearer lower lt =
       rw (add-one i)
@@ -94,7 +95,7 @@ module _ (e : List ℕ) (i to : ℕ) (m near : List ℕ) (h : Nearest e i to m n
             (holds-at e (suc i) i (omega arith), nearer)))
             (λ other.
             let kept = there a other in
-            let (edge, near-by) = h .found a (subst (λ (y : ℕ). y < usableLimit) kept below) usable in
+            let (edge, near-by) = h .found a (subst (λ (y : ℕ). y < searchLimit) kept below) usable in
             subst (λ (y : ℕ). (holds e (suc i) a y ≡ true) × (isNearer m to a y ≡ true)) (sym kept) (holds-more e i a _ edge, near-by))
             (equal? a (source e i));
         lowest =

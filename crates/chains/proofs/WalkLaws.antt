@@ -6,7 +6,7 @@ use native.Mathlib.Numerals.{add-one}
 use native.Mathlib.Omega.{arith}
 use lib.ListN.{length, getD, take, drop, set, length-set}
 use lib.Seq.{take-suc-set, drop-set-lt, drop-drop, set-split}
-use Rattle.graph.specs.Tables.{usableLimit}
+use Rattle.graph.specs.Internal.Search.{searchLimit}
 use Rattle.chains.specs.Internal.Walk.{walk, Walkable}
 
 -- Of `links` steps from `from` on k are written, into a list that was `list₀`, and `vertex` is the next.
@@ -28,14 +28,14 @@ walk-more near links k v lt =
     let more : links - k ≡ suc (links - suc k) = omega arith in
     rw more refl
 
-way-more : (near : List ℕ) (links k v : ℕ) → k < links → Walkable near (links - k) v → (v < usableLimit) × Walkable near (links - suc k) (getD near v 0)
+way-more : (near : List ℕ) (links k v : ℕ) → k < links → Walkable near (links - k) v → (v < searchLimit) × Walkable near (links - suc k) (getD near v 0)
 unfolding Walkable
 way-more near links k v lt way =
     let more : links - k ≡ suc (links - suc k) = omega arith in
     subst (λ (n : ℕ). Walkable near n v) more way
 
 module _ {near : List ℕ} {links from : ℕ} {list₀ : List ℕ} {k v : ℕ} {list : List ℕ} (h : Along near links from list₀ k v list) where
-  pub along-usable : k < links → v < usableLimit
+  pub along-usable : k < links → v < searchLimit
   along-usable lt = way-more near links k v lt (h .way) .0
 
   pub along-more : k < links → links < length list₀ → Along near links from list₀ (k + 1) (getD near v 0) (set list k v)

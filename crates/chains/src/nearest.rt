@@ -7,14 +7,13 @@ ghost use mathlib.Core.Path.{_≡_};
 ghost use mathlib.Core.List.{_++_};
 ghost use Prim.Native.Nat.{_+_, _<_};
 ghost use lib.ListN.{length, drop};
-ghost use Rattle.graph.specs.Tables.{usableLimit};
-ghost use Rattle.graph.specs.Internal.Search.{Rows};
+ghost use Rattle.graph.specs.Internal.Search.{searchLimit, Rows};
 ghost use Rattle.chains.specs.Internal.Walk.{isNearer, noneNearer, Nearest, walk, Walkable};
 
 // By their distances to `to`, `target` is one edge nearer than `source`. The distance of `to` itself is 0, whatever stands there.
 fn is_nearer(distances: &[u32], to: u32, source: u32, target: u32) -> bool
-    requires { ⌜ length (now distances) ≡ usableLimit ⌝ }
-    requires { ⌜ (source < usableLimit) × (target < usableLimit) ⌝ }
+    requires { ⌜ length (now distances) ≡ searchLimit ⌝ }
+    requires { ⌜ (source < searchLimit) × (target < searchLimit) ⌝ }
     ensures { λ r. ⌜ r ≡ isNearer (now (distances .entry)) to source target ⌝ }
 {
     let far = distances[source as usize];
@@ -31,8 +30,8 @@ fn is_nearer(distances: &[u32], to: u32, source: u32, target: u32) -> bool
     far - near == 1
 }
 
-// Finds for each vertex the lowest vertex one edge nearer to `to`. `nearest` has a word for each usable row, and keeps the number of
-// usable rows where there is none.
+// Finds for each vertex the lowest vertex one edge nearer to `to`. `nearest` has a word for each vertex of a search, and keeps the
+// number of these where there is none.
 pub(crate) fn find_nearest(
     edges: &[u32],
     held: usize,
@@ -41,7 +40,7 @@ pub(crate) fn find_nearest(
     nearest: &mut [u32],
 )
     requires { ⌜ Rows (now edges) held ⌝ }
-    requires { ⌜ length (now distances) ≡ usableLimit ⌝ }
+    requires { ⌜ length (now distances) ≡ searchLimit ⌝ }
     requires { ⌜ now nearest ≡ noneNearer ⌝ }
     ensures { λ _. ⌜ Nearest (now (edges .entry)) held to (now (distances .entry)) (now (nearest .exit)) ⌝ }
 {
@@ -61,7 +60,7 @@ pub(crate) fn find_nearest(
 
 // Writes the vertices from `from` on, `links` times on to the nearest, into the front of `list`.
 pub(crate) fn write_walk(nearest: &[u32], links: usize, from: u32, list: &mut [u32])
-    requires { ⌜ (length (now nearest) ≡ usableLimit) × Walkable (now nearest) links from ⌝ }
+    requires { ⌜ (length (now nearest) ≡ searchLimit) × Walkable (now nearest) links from ⌝ }
     requires { ⌜ links < length (now list) ⌝ }
     ensures { λ _. ⌜ now (list .exit) ≡ walk (now (nearest .entry)) links from ++ drop (links + 1) (now (list .entry)) ⌝ }
 {

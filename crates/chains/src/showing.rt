@@ -3,8 +3,8 @@ use crate::Answer;
 use crate::nearest::find_nearest;
 use crate::nearest::write_walk;
 use graph::Tally;
+use graph::paths::SEARCH_LIMIT;
 use graph::paths::measure;
-use graph::rows::USABLE_LIMIT;
 use graph::sound::is_sound;
 use refusal::LIST_TOO_SHORT;
 use refusal::NO_CHAIN;
@@ -52,7 +52,7 @@ fn write_shortest(
     ensures { λ r. ⌜ answered r (now (list .exit)) ≡ shown (shortestChain (lent (now (vertices .entry)) (now (edges .entry)) tally) target source) (now (list .entry)) ⌝ }
 {
     let held = tally.held as usize;
-    let mut distances = [0; USABLE_LIMIT];
+    let mut distances = [0; SEARCH_LIMIT];
     if !measure(edges, held, target, source, &mut distances) {
         return refused(NO_CHAIN);
     }
@@ -60,7 +60,7 @@ fn write_shortest(
     if list.len() <= links as usize {
         return refused(LIST_TOO_SHORT);
     }
-    let mut nearest = [USABLE_LIMIT as u32; USABLE_LIMIT];
+    let mut nearest = [SEARCH_LIMIT as u32; SEARCH_LIMIT];
     find_nearest(edges, held, source, &distances, &mut nearest);
     write_walk(&nearest, links as usize, target, list);
     Answer::Chain(links + 1)

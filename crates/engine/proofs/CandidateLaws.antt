@@ -41,7 +41,7 @@ start-can ed bytes s k known few lt p q =
     ap accepted (released-step ed bytes s k (sound-tally s known) few lt (may-released (s .vertices) k p q))
     ∙ rw (both-right _ _ (sym p ∙ q)) refl
 
-both-fails : (a b : Bool) → both a b ≡ false → (a ≡ false) ⊎ (b ≡ false)
+pub both-fails : (a b : Bool) → both a b ≡ false → (a ≡ false) ⊎ (b ≡ false)
 unfolding both
 both-fails true b h = inr h
 both-fails false b h = inl refl

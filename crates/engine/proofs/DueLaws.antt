@@ -3,38 +3,47 @@ use Prim.Native.Nat.{ℕ, _+_, _-_, _<_, _≤_}
 use mathlib.Core.Path.{_≡_, refl, sym, _∙_, ap, subst}
 use mathlib.Core.Bool.{Bool, true, false, cond}
 use mathlib.Core.List.{List}
-use mathlib.Core.Logic.{⊎-elim}
-use native.Mathlib.Omega.{arith}
-use lib.Dec.{eqb, ltb}
-use lib.ListN.{length, getD, List·getD-eq-default}
-use borrow.Author.Tests.{lt-ltb, le-ltb, ltb-true, ltb-false, eq-eqb, ne-eqb}
+use mathlib.Core.Option.{some, Option·none-ne-some}
+use lib.ListN.{length}
+use borrow.Author.Tests.{lt-ltb, le-ltb, eq-eqb, ne-eqb}
 use Rattle.graph.specs.Tests.{both}
 use Rattle.graph.specs.Tables.{Lent, NEW, EXECUTING, FINISHED, placeWord, scopeWord, phaseWord, madeWord, futureWord, vertexWord, status}
 use Rattle.graph.specs.Sound.{sound}
-use Rattle.graph.proofs.TestLaws.{decide, both-true, both-left, both-false-left, both-false-right, not-of-true, not-of-false}
+use Rattle.graph.proofs.TestLaws.{both-true, both-left, both-false-left, both-false-right, not-of-true, not-of-false}
 use Rattle.graph.proofs.CallLaws.{answered, answered-yes, answered-no}
+use Rattle.refusal.specs.declared.Refusal.{Refusal}
+use Rattle.refusal.specs.Refusals.{nothing-starts}
 use Rattle.program.specs.declared.Edition.{Edition}
+use Rattle.program.specs.declared.ItemRead.{ItemRead}
+use Rattle.program.specs.declared.ItemRead.the-variants as of-item
+use Rattle.program.specs.declared.Reader.{Reader}
 use Rattle.program.specs.Limits.{programBytes}
-use Rattle.program.specs.Answers.{Stands}
-use Rattle.program.specs.Located.{itemAt, startsAt, MarksStarts}
+use Rattle.program.specs.Answers.{Stands, stands, movedPast, readerAt}
+use Rattle.program.specs.Located.{itemAt, startsAt}
+use Rattle.program.proofs.PlaceLaws.{starts-length, not-starting}
 use Rattle.machine.specs.Stepping as machine
 use Rattle.machine.specs.Stepping.{stepLimit, steppable, startDue, place, task, ownOf, Due, refusal-due, dueIf, nextAt, due}
 use Rattle.machine.proofs.TablesFollow.StepLaws.{steppable-of, due-executing}
 use Rattle.engine.specs.declared.Own.{Own}
 use Rattle.engine.specs.Answers.{ownWords}
 use Rattle.engine.specs.Internal.Underway.{OwnIn, DueThere, Next, NextAt, NextIn}
-use Rattle.program.proofs.PlaceLaws.{starts-beyond, not-starting}
 
 own-place : (s : Lent) (v : ℕ) (w : Own) → ownOf s v ≡ ownWords w → place s v ≡ w .place
 unfolding ownOf
 own-place s v w h = cc
 
 -- what is due at an item is due at the place where it stands
-pub next-item :
+next-item :
     (ed : Edition) (bytes t : List ℕ) (v σ : ℕ) (w : Own) (made : ℕ) {item : Stands} {d : Due} → item ≡ itemAt ed bytes (w .place)
     → NextIn ed t (length bytes - 1) v σ (ownWords w) made item d → Next ed bytes t v σ (ownWords w) made d
 next-item ed bytes t v σ w made {item} {d} e h s k p q r =
     h s k p q r ∙ ap (λ (x : Stands). nextAt s v (task ed (length bytes - 1) x)) (e ∙ ap (itemAt ed bytes) (sym (own-place s v w p)))
+
+-- what is read there decides
+pub next-read :
+    (ed : Edition) (bytes t : List ℕ) (v σ : ℕ) (w : Own) (made : ℕ) {item read : ItemRead} {d : Due} → stands item ≡ itemAt ed bytes (w .place)
+    → item ≡ read → NextIn ed t (length bytes - 1) v σ (ownWords w) made (stands read) d → Next ed bytes t v σ (ownWords w) made d
+next-read ed bytes t v σ w made e is = next-item ed bytes t v σ w made (ap stands (sym is) ∙ e)
 
 -- a fork's is due in the edition at hand, whichever it is
 pub of-edition :
@@ -44,32 +53,22 @@ of-edition t L v σ w made item is h s k p q r = h s p q r ∙ ap (λ (x : Editi
 
 -- where nothing starts
 pub next-nothing :
-    (ed : Edition) (bytes t : List ℕ) (v σ : ℕ) (w : Own) (made : ℕ) {n q : ℕ} → Stands.refused n q ≡ itemAt ed bytes (w .place)
-    → Next ed bytes t v σ (ownWords w) made (refusal-due 13)
+    (ed : Edition) (bytes t : List ℕ) (v σ : ℕ) (w : Own) (made : ℕ) {item : ItemRead} {r : Refusal} → stands item ≡ itemAt ed bytes (w .place)
+    → item ≡ of-item.Refused r → Next ed bytes t v σ (ownWords w) made (refusal-due 13)
 unfolding task nextAt
-next-nothing ed bytes t v σ w made e = next-item ed bytes t v σ w made e (λ s k p q r. refl)
+next-nothing ed bytes t v σ w made e is = next-read ed bytes t v σ w made e is (λ s k p q r. refl)
 
-pub next-unstarted :
-    (ed : Edition) (bytes t : List ℕ) (v σ : ℕ) (w : Own) (made : ℕ) → startsAt ed bytes (w .place) ≡ false
-    → Next ed bytes t v σ (ownWords w) made (refusal-due 13)
-next-unstarted ed bytes t v σ w made h = next-nothing ed bytes t v σ w made (sym (not-starting ed bytes (w .place) h))
-
--- what the mark of a place tells; beyond the marks nothing starts
-mark-is : (b : Bool) → eqb (cond b 1 0) 1 ≡ b
-mark-is true = refl
-mark-is false = refl
-
-pub marked-starts :
-    (ed : Edition) (bytes marks : List ℕ) (p : ℕ) {r : Bool} → MarksStarts ed bytes marks → length marks ≡ programBytes
-    → r ≡ eqb (getD marks p 0) 1 → r ≡ startsAt ed bytes p
-marked-starts ed bytes marks p marked full e =
-    e
-    ∙ ⊎-elim
-    (λ h. ap (λ (x : ℕ). eqb x 1) (marked p (ltb-true p (length marks) h)) ∙ mark-is (startsAt ed bytes p))
-    (λ h.
-    let beyond : length marks ≤ p = ltb-false p (length marks) h in
-    ap (λ (x : ℕ). eqb x 1) (List·getD-eq-default marks 0 beyond) ∙ sym (starts-beyond ed bytes p (omega arith)))
-    (decide (ltb p (length marks)))
+-- where an item or an end byte stands, the program has bytes, and not too many
+pub item-length :
+    (ed : Edition) (bytes : List ℕ) (p : ℕ) {item read : ItemRead} {past : Reader} → stands item ≡ itemAt ed bytes p → item ≡ read
+    → movedPast (readerAt p) (stands read) ≡ some past → (1 ≤ length bytes) × (length bytes ≤ programBytes)
+item-length ed bytes p {read = read} e is moved = go (startsAt ed bytes p) refl
+  where
+    go : (b : Bool) → startsAt ed bytes p ≡ b → (1 ≤ length bytes) × (length bytes ≤ programBytes)
+    go true h = let (some-bytes, few, lt) = starts-length ed bytes p h in (some-bytes, few)
+    go false h =
+        let none-there : stands read ≡ Stands.refused nothing-starts 0 = ap stands (sym is) ∙ e ∙ not-starting ed bytes p h in
+        absurd (Option·none-ne-some _ (sym (ap (movedPast (readerAt p)) none-there) ∙ moved))
 
 -- a test that holds leaves the other one
 pub both-skip : {a : Bool} (b : Bool) → a ≡ true → b ≡ both a b

@@ -1,134 +1,45 @@
--- A run turn by turn, as the code takes it: the vertices are looked at one after the other until a step of one is accepted, and the run goes
--- on behind this step.
+-- What a run makes of a walk in which nobody is busy, and how it ends.
 --
---     start-here, started-up                   a vertex that may start: a start is due, and taken
---     passed-by, due-here                      another one that does not execute, and what is due at one that does
---     turned-down, taken-up, none-left         its step is refused, or accepted; all vertices are looked at
---     finished-end                             all of them are finished
---     used-found, used-none, used-refused      how a run ends whose budget is used, by what the look finds
---     run-starts                               a run at its start
---     run-turn, run-rests, run-used, ran       a turn, and the ends of a run
-use Prim.Native.Nat.{ℕ, suc, _+_, _-_, _*_, _<_, _≤_}
-use mathlib.Core.Path.{_≡_, refl, sym, _∙_, ap, subst}
+--     finished-end                             all vertices are finished
+--     used-found, used-none, used-refused      its budget is used: what the look finds tells how it ends
+--     run-rests, run-used                      it ends where no vertex can step, or where its budget is used
+use Prim.Native.Nat.{ℕ, suc, _+_, _-_, _≤_}
+use mathlib.Core.Path.{_≡_, refl, sym, _∙_, ap}
 use mathlib.Core.Bool.{Bool, true, false, not}
+use mathlib.Core.Logic.{⊎-elim}
 use mathlib.Core.List.{List}
 use mathlib.Core.Option.{Option, none, some}
 use native.Mathlib.Omega.{arith}
-use native.Mathlib.Numerals.{add-one}
-use lib.Dec.{eqb}
-use lib.ListN.{length}
-use borrow.Author.Tests.{not-true, not-false}
-use Rattle.graph.specs.Tests.{every}
+use lib.Dec.{eqb, ltb}
+use lib.ListN.{getD, replicate, length-replicate, getD-replicate, List·getD-eq-default}
+use borrow.Author.Tests.{ltb-true, ltb-false}
 use Rattle.graph.specs.declared.Tally.{Tally}
+use Rattle.graph.specs.Tests.{both, every, lowestBelow}
+use Rattle.graph.specs.Tables.{Lent, lent, FINISHED, status}
+use Rattle.graph.proofs.TestLaws.{true-false, decide, at-end}
+use Rattle.graph.proofs.LowestLaws.{found-is, none-is, found-holds, found-lowest, found-below, none-holds}
 use Rattle.refusal.specs.declared.Refusal.{Refusal}
-use Rattle.graph.specs.Tables.{Lent, lent, EXECUTING, FINISHED, vertexWords, status}
-use Rattle.graph.specs.Sound.{sound}
-use Rattle.graph.proofs.TestLaws.{at-end}
-use Rattle.graph.proofs.SoundChecks.{sound-rows}
 use Rattle.program.specs.declared.Edition.{Edition}
-use Rattle.machine.specs.Answers.{StepSaid, accepted}
-use Rattle.machine.specs.Stepping.{stepLimit, steppable, startDue, Due, due, step}
+use Rattle.machine.specs.Answers.{StepSaid}
+use Rattle.machine.specs.Stepping.{steppable}
 use Rattle.machine.specs.Running.{canStep, lowest, chosen, choose, no-choice, choice-refused, Ending, spent, allFinished}
 use Rattle.machine.specs.Running.{RunOutcome, ended, runOn, run}
-use Rattle.machine.specs.Traces.{Stepped, Ran}
-use Rattle.machine.proofs.LookLaws.{step-sound, lowest-none, lowest-is, run-goes, rests, used-up, goes-on}
+use Rattle.machine.specs.Dispatching.{isBusy, lowestFree, Desk, desk, marksOf}
+use Rattle.machine.specs.Traces.{Ran}
+use Rattle.machine.proofs.LookLaws.{run-goes, rests, used-up, goes-on}
 use Rattle.machine.proofs.GhostMachine.GhostLaws.{clash}
-use Rattle.machine.proofs.StepDemand2.{step-keeps}
-use Rattle.engine.specs.declared.Done.{Done}
-use Rattle.engine.specs.declared.Attempt.{Attempt}
-use Rattle.engine.specs.declared.Attempt.the-variants as of-attempt
 use Rattle.engine.specs.declared.Lowest.{Lowest}
 use Rattle.engine.specs.declared.Lowest.the-variants as of-lowest
-use Rattle.engine.specs.Answers.{said, choiceOf}
-use Rattle.engine.specs.Internal.Underway.{DueThere, Starts, mayStart, Attempted, atRest, endsWith, whenUsed}
-use Rattle.engine.proofs.DueLaws.{due-there}
-use Rattle.engine.proofs.CandidateLaws.{may-due, start-can, barred}
-use Rattle.engine.proofs.LowestLaws.{CannotBelow, none-more}
+use Rattle.engine.specs.declared.Walked.{Walked}
+use Rattle.engine.specs.Answers.{choiceOf, lastOf}
+use Rattle.engine.specs.Internal.Underway.{atRest, endsWith, whenUsed}
+use Rattle.engine.specs.Internal.Walking.{Came, begun, further, WalkedTo}
 
 -- all vertices were looked at, and are finished
 pub finished-end :
     (t : List ℕ) (made v : ℕ) → v ≤ made → made ≤ v → every (λ k. eqb (status t k) FINISHED) v ≡ true
     → true ≡ every (λ k. eqb (status t k) FINISHED) made
 finished-end t made v p q h = sym (at-end (λ n. every (λ k. eqb (status t k) FINISHED) n ≡ true) p q h)
-
--- equal tables with one tally
-same-lent : {v v₀ e e₀ : List ℕ} (t : Tally) → v ≡ v₀ → e ≡ e₀ → lent v e t ≡ lent v₀ e₀ t
-same-lent t p q = cc
-
--- a vertex that can step, where none below it can, is the lowest
-lowest-step :
-    (ed : Edition) (bytes v₀ e₀ v e v' e' : List ℕ) (t t' : Tally) (k : ℕ) (answer : StepSaid) → v ≡ v₀ → e ≡ e₀ → k < t .made
-    → Stepped ed bytes (lent v e t) k answer (lent v' e' t') → canStep ed bytes (lent v e t) k ≡ true → CannotBelow ed bytes (lent v₀ e₀ t) k
-    → (u : ℕ) × (lowest ed bytes (lent v₀ e₀ t) ≡ some u) × Stepped ed bytes (lent v₀ e₀ t) u answer (lent v' e' t')
-lowest-step ed bytes v₀ e₀ v e v' e' t t' k answer p q made stepped can lower =
-    let same : lent v e t ≡ lent v₀ e₀ t = same-lent t p q in (
-      k,
-      lowest-is ed bytes (lent v₀ e₀ t) k made (subst (λ (s : Lent). canStep ed bytes s k ≡ true) same can) lower,
-      subst (λ (s : Lent). Stepped ed bytes s k answer (lent v' e' t')) same stepped,
-    )
-
--- at a vertex that may start a start is due
-pub start-here :
-    (v₀ e₀ v e : List ℕ) (t : Tally) (k : ℕ) {r : Bool} → sound (lent v₀ e₀ t) ≡ true → v ≡ v₀ → e ≡ e₀ → t .steps < stepLimit → k < t .made
-    → r ≡ mayStart v k → r ≡ true → startDue (lent v e t) k ≡ true
-start-here v₀ e₀ v e t k known p q early made may is = may-due (lent v e t) k (ap sound (same-lent t p q) ∙ known) early made may is
-
--- and taken
-pub started-up :
-    (ed : Edition) (bytes v₀ e₀ v e v' e' : List ℕ) (t t' : Tally) (k : ℕ) {r : Bool} (answer : StepSaid) → sound (lent v₀ e₀ t) ≡ true
-    → v ≡ v₀ → e ≡ e₀
-    → t .steps < stepLimit → k < t .made → r ≡ mayStart v k → r ≡ true → Starts (lent v e t) k answer (lent v' e' t')
-    → CannotBelow ed bytes (lent v₀ e₀ t) k
-    → (u : ℕ) × (lowest ed bytes (lent v₀ e₀ t) ≡ some u) × Stepped ed bytes (lent v₀ e₀ t) u answer (lent v' e' t')
-started-up ed bytes v₀ e₀ v e v' e' t t' k answer known p q early made may is starts lower =
-    lowest-step ed bytes v₀ e₀ v e v' e' t t' k answer p q made (starts ed bytes)
-    (start-can ed bytes (lent v e t) k (ap sound (same-lent t p q) ∙ known) early made may is) lower
-
--- another one that does not execute is passed by
-pub passed-by :
-    (ed : Edition) (bytes v₀ e₀ v : List ℕ) (t : Tally) (k : ℕ) {r : Bool} → sound (lent v₀ e₀ t) ≡ true → v ≡ v₀ → k < t .made → r ≡ mayStart v k
-    → r ≡ false → (status v k ≡ EXECUTING → ⊥) → CannotBelow ed bytes (lent v₀ e₀ t) k → CannotBelow ed bytes (lent v₀ e₀ t) (k + 1)
-passed-by ed bytes v₀ e₀ v t k {r} known same made may not-may idle lower =
-    none-more ed bytes (lent v₀ e₀ t) k lower
-    (barred ed bytes (lent v₀ e₀ t) k known made (subst (λ (x : List ℕ). r ≡ mayStart x k) same may) not-may
-    (subst (λ (x : List ℕ). status x k ≡ EXECUTING → ⊥) same idle))
-
--- at one that executes this is due
-pub due-here :
-    (ed : Edition) (bytes v₀ e₀ v e : List ℕ) (t : Tally) (k : ℕ) {d : Due} → sound (lent v₀ e₀ t) ≡ true → v ≡ v₀ → e ≡ e₀ → t .steps < stepLimit
-    → k < t .made → status v k ≡ EXECUTING → DueThere ed bytes v (t .made) k d → d ≡ due ed bytes (lent v e t) k
-due-here ed bytes v₀ e₀ v e t k known p q early made is there =
-    due-there ed bytes (lent v e t) k (ap sound (same-lent t p q) ∙ known) early made is there
-
--- a step that is refused leaves the tables, and its vertex cannot step
-pub turned-down :
-    (ed : Edition) (bytes v₀ e₀ v e v' e' : List ℕ) (t t' : Tally) (k : ℕ) {r : Bool} (answer : StepSaid) → v ≡ v₀ → e ≡ e₀
-    → Stepped ed bytes (lent v e t) k answer (lent v' e' t') → r ≡ not (accepted answer) → not r ≡ false → CannotBelow ed bytes (lent v₀ e₀ t) k
-    → (v' ≡ v₀) × (e' ≡ e₀) × CannotBelow ed bytes (lent v₀ e₀ t) (k + 1)
-turned-down ed bytes v₀ e₀ v e v' e' t t' k answer p q stepped refuses is-refused lower =
-    let same : lent v e t ≡ lent v₀ e₀ t = same-lent t p q in
-    let not-accepted : accepted answer ≡ false = not-true _ (sym refuses ∙ not-false _ is-refused) in
-    let cannot : canStep ed bytes (lent v e t) k ≡ false = sym (ap accepted (stepped .says)) ∙ not-accepted in
-    let kept : lent v' e' t' ≡ lent v e t = stepped .leaves ∙ step-keeps ed bytes (lent v e t) k cannot in (
-      ap (λ (s : Lent). s .vertices) kept ∙ p,
-      ap (λ (s : Lent). s .edges) kept ∙ q,
-      none-more ed bytes (lent v₀ e₀ t) k lower (subst (λ (s : Lent). canStep ed bytes s k ≡ false) same cannot),
-    )
-
--- a step that is accepted is the lowest vertex's
-pub taken-up :
-    (ed : Edition) (bytes v₀ e₀ v e v' e' : List ℕ) (t t' : Tally) (k : ℕ) {r : Bool} (answer : StepSaid) → v ≡ v₀ → e ≡ e₀ → k < t .made
-    → Stepped ed bytes (lent v e t) k answer (lent v' e' t') → r ≡ not (accepted answer) → not r ≡ true → CannotBelow ed bytes (lent v₀ e₀ t) k
-    → (u : ℕ) × (lowest ed bytes (lent v₀ e₀ t) ≡ some u) × Stepped ed bytes (lent v₀ e₀ t) u answer (lent v' e' t')
-taken-up ed bytes v₀ e₀ v e v' e' t t' k answer p q made stepped refuses not-refused lower =
-    lowest-step ed bytes v₀ e₀ v e v' e' t t' k answer p q made stepped
-    (sym (ap accepted (stepped .says)) ∙ not-false _ (sym refuses ∙ not-true _ not-refused)) lower
-
--- no vertex can step once all are looked at
-pub none-left :
-    (ed : Edition) (bytes v₀ e₀ : List ℕ) (t : Tally) (k : ℕ) → k ≤ t .made → t .made ≤ k → CannotBelow ed bytes (lent v₀ e₀ t) k
-    → lowest ed bytes (lent v₀ e₀ t) ≡ none
-none-left ed bytes v₀ e₀ t k p q h = lowest-none ed bytes (lent v₀ e₀ t) (λ u lt. h u (omega arith))
 
 -- a run whose budget is used, by what the look finds: a vertex,
 pub used-found :
@@ -154,27 +65,6 @@ used-refused (some u) x told is =
 used-refused none x told is =
     let e : choice-refused (x .number) (x .place) ≡ no-choice = sym (ap choiceOf is) ∙ told in clash cc
 
--- none of the budget is used
-left-all : (budget : ℕ) → budget ≡ budget - 0
-left-all budget = omega arith
-
--- a run at its start
-pub run-starts :
-    (ed : Edition) (bytes : List ℕ) (s : Lent) (budget : ℕ) → steppable s ≡ true → run ed bytes s budget ≡ runOn ed bytes (budget - 0) s none 0
-run-starts ed bytes s budget h = run-goes ed bytes s budget h ∙ ap (λ (n : ℕ). runOn ed bytes n s none 0) (left-all budget)
-
--- a run goes on behind a step
-on-step :
-    (ed : Edition) (bytes : List ℕ) (s : Lent) (n m : ℕ) (last : Option StepSaid) (taken v : ℕ) {answer : StepSaid} {s' : Lent} → n ≡ suc m
-    → lowest ed bytes s ≡ some v
-    → answer ≡ step ed bytes s v .answer → s' ≡ step ed bytes s v .after
-    → runOn ed bytes n s last taken ≡ runOn ed bytes m s' (some answer) (taken + 1)
-on-step ed bytes s n m last taken v e low says leaves = rw (e, says, leaves, add-one taken) (goes-on ed bytes m s last taken v low)
-
--- all of it is used
-left-none : (budget taken : ℕ) → budget ≤ taken → budget - taken ≡ 0
-left-none budget taken le = omega arith
-
 -- and the run ends
 on-used :
     (ed : Edition) (bytes : List ℕ) (s : Lent) (last : Option StepSaid) (taken : ℕ) (o : Option ℕ) → lowest ed bytes s ≡ o
@@ -183,27 +73,54 @@ unfolding endsWith
 on-used ed bytes s last taken none low = rests ed bytes 0 s last taken low
 on-used ed bytes s last taken (some v) low = used-up ed bytes s last taken v low
 
--- a turn that takes a step
-pub run-turn :
-    (ed : Edition) (bytes : List ℕ) (s : Lent) (budget taken : ℕ) (last : Option StepSaid) {o : RunOutcome} {a : Attempt} {d : Done}
-    (vs es : List ℕ)
-    → taken < budget → sound s ≡ true → o ≡ runOn ed bytes (budget - taken) s last taken → Attempted ed bytes s a vs es → a ≡ of-attempt.Taken d
-    → (sound (lent vs es (d .tally)) ≡ true)
-    × (o ≡ runOn ed bytes (budget - (taken + 1)) (lent vs es (d .tally)) (some (said (d .answer))) (taken + 1))
-run-turn ed bytes s budget taken last {o} {a} {d} vs es lt known so attempted is =
-    let (v, low, stepped) = subst (λ (x : Attempt). Attempted ed bytes s x vs es) is attempted in (
-      ap sound (stepped .leaves) ∙ step-sound ed bytes s v known,
-      so ∙ on-step ed bytes s (budget - taken) (budget - (taken + 1)) last taken v (omega arith) low (stepped .says) (stepped .leaves),
-    )
+-- a test that always holds changes nothing
+both-yes : (b : Bool) → both b true ≡ b
+unfolding both
+both-yes true = refl
+both-yes false = refl
 
--- the statuses can be read where a turn takes no step
-pub rest-rows :
-    (ed : Edition) (bytes v₀ e₀ : List ℕ) (t : Tally) {a : Attempt} (vs es : List ℕ) → sound (lent v₀ e₀ t) ≡ true
-    → Attempted ed bytes (lent v₀ e₀ t) a vs es
-    → a ≡ of-attempt.NoStep → vertexWords * t .made ≤ length vs
-rest-rows ed bytes v₀ e₀ t vs es known attempted is =
-    let (low, p, q) = subst (λ (x : Attempt). Attempted ed bytes (lent v₀ e₀ t) x vs es) is attempted in
-    sound-rows (lent vs es t) (ap sound (same-lent t p q) ∙ known) .0
+-- where nobody is busy, the lowest vertex that can step is the lowest that can and is not busy
+nobody-busy : (ed : Edition) (bytes : List ℕ) (s : Lent) (marks : List ℕ) → ((v : ℕ) → isBusy marks v ≡ false) → lowestFree ed bytes s marks ≡ lowest ed bytes s
+unfolding lowestFree lowest
+nobody-busy ed bytes s marks idle = go (lowestBelow (canStep ed bytes s) (s .made)) refl
+  where
+    same : (v : ℕ) → both (canStep ed bytes s v) (not (isBusy marks v)) ≡ canStep ed bytes s v
+    same v = rw (idle v) (both-yes (canStep ed bytes s v))
+
+    go :
+        (o : Option ℕ) → lowestBelow (canStep ed bytes s) (s .made) ≡ o
+        → lowestBelow (λ v. both (canStep ed bytes s v) (not (isBusy marks v))) (s .made) ≡ lowestBelow (canStep ed bytes s) (s .made)
+    go none q = none-is _ _ (λ y lt. same y ∙ none-holds _ _ q y lt) ∙ sym q
+    go (some x) q =
+        found-is _ _ x (found-below _ _ x q) (same x ∙ found-holds _ _ x q) (λ y lt. same y ∙ found-lowest _ _ x q y lt) ∙ sym q
+
+-- as where all marks are 0
+pub none-marked : (n v : ℕ) → isBusy (replicate n 0) v ≡ false
+none-marked n v = ap (λ (x : ℕ). not (eqb x 0)) (⊎-elim inside beyond (decide (ltb v n)))
+  where
+    inside : ltb v n ≡ true → _≡_ {A = ℕ} (getD (replicate n 0) v 0) 0
+    inside h = getD-replicate n v 0 0 (ltb-true v n h)
+
+    beyond : ltb v n ≡ false → _≡_ {A = ℕ} (getD (replicate n 0) v 0) 0
+    beyond h = List·getD-eq-default (replicate n 0) 0 (let le = ltb-false v n h in let long = length-replicate {A = ℕ} n 0 in omega arith)
+
+-- a walk that hands nothing out leaves marks and list
+walked-desk :
+    {ed : Edition} {bytes : List ℕ} {s₀ s : Lent} {d₀ d : Desk} {last : Option StepSaid} {taken : ℕ} → Came ed bytes false s₀ d₀ s d last taken → d ≡ d₀
+walked-desk begun = refl
+walked-desk (further c left v low) = walked-desk c
+
+-- a run from its start is the run that goes on from where a walk in which nobody is busy has come to
+came-run :
+    {ed : Edition} {bytes : List ℕ} {s₀ s : Lent} {d₀ d : Desk} {last : Option StepSaid} {taken : ℕ} (left : ℕ) → ((v : ℕ) → isBusy (marksOf d₀) v ≡ false)
+    → Came ed bytes false s₀ d₀ s d last taken → runOn ed bytes (taken + left) s₀ none 0 ≡ runOn ed bytes left s last taken
+came-run {ed} {bytes} {s₀} left idle begun =
+    ap (λ (n : ℕ). runOn ed bytes n s₀ none 0) (let z : 0 + left ≡ left = omega arith in z)
+came-run {ed} {bytes} {s₀} {d₀ = d₀} left idle (further {s} {d} {last} {taken} c room v low) =
+    ap (λ (n : ℕ). runOn ed bytes n s₀ none 0) (let z : suc taken + left ≡ taken + suc left = omega arith in z)
+    ∙ came-run (suc left) idle c
+    ∙ goes-on ed bytes left s last taken v
+    (sym (nobody-busy ed bytes s (marksOf d) (λ u. ap (λ (x : Desk). isBusy (marksOf x) u) (walked-desk c) ∙ idle u)) ∙ low)
 
 -- all vertices are finished, or not
 rest-is :
@@ -211,26 +128,37 @@ rest-is :
 unfolding allFinished
 rest-is s h = sym h
 
--- a turn that takes none
-pub run-rests :
-    (ed : Edition) (bytes v₀ e₀ : List ℕ) (t : Tally) (left taken : ℕ) (last : Option StepSaid) {o : RunOutcome} {a : Attempt} {e : Ending}
-    (vs es : List ℕ)
-    → o ≡ runOn ed bytes left (lent v₀ e₀ t) last taken → Attempted ed bytes (lent v₀ e₀ t) a vs es → a ≡ of-attempt.NoStep
-    → e ≡ atRest (every (λ k. eqb (status vs k) FINISHED) (t .made)) → o ≡ ended e last taken (lent vs es t)
-run-rests ed bytes v₀ e₀ t left taken last {o} {a} {e} vs es so attempted is rest =
-    let (low, p, q) = subst (λ (x : Attempt). Attempted ed bytes (lent v₀ e₀ t) x vs es) is attempted in
-    let same : lent v₀ e₀ t ≡ lent vs es t = sym (same-lent t p q) in
-    so ∙ ap (λ (s : Lent). runOn ed bytes left s last taken) same
-    ∙ rests ed bytes left (lent vs es t) last taken (subst (λ (s : Lent). lowest ed bytes s ≡ none) same low)
-    ∙ ap (λ (x : Ending). ended x last taken (lent vs es t)) (rest-is (lent vs es t) rest)
+-- where the walk of a run has ended
+module _ (ed : Edition) (bytes : List ℕ) (s : Lent) (budget : ℕ) (marks list : List ℕ) (r : Walked) (s' : Lent) (d' : Desk) (takes-steps : steppable s ≡ true)
+    (idle : (v : ℕ) → isBusy marks v ≡ false) (walked : WalkedTo ed bytes false budget s (desk marks list 0) r s' d') where
+  goes : run ed bytes s budget ≡ runOn ed bytes (budget - r .taken) s' (lastOf (r .last)) (r .taken)
+  goes =
+      run-goes ed bytes s budget takes-steps
+      ∙ ap (λ (n : ℕ). runOn ed bytes n s none 0) (let le = walked .within in let z : budget ≡ r .taken + (budget - r .taken) = omega arith in z)
+      ∙ came-run (budget - r .taken) idle (walked .came)
 
--- a run whose budget is used
-pub run-used :
-    (ed : Edition) (bytes : List ℕ) (s : Lent) (budget taken : ℕ) (last : Option StepSaid) {o : RunOutcome} {e : Ending} → budget ≤ taken
-    → o ≡ runOn ed bytes (budget - taken) s last taken → e ≡ whenUsed ed bytes s → o ≡ ended e last taken s
-run-used ed bytes s budget taken last le so is =
-    so ∙ ap (λ (n : ℕ). runOn ed bytes n s last taken) (left-none budget taken le) ∙ on-used ed bytes s last taken (lowest ed bytes s) refl
-    ∙ ap (λ (x : Ending). ended x last taken s) (sym is)
+  lowest-is : lowest ed bytes s' ≡ lowestFree ed bytes s' (marksOf d')
+  lowest-is = sym (nobody-busy ed bytes s' (marksOf d') (λ u. ap (λ (x : Desk). isBusy (marksOf x) u) (walked-desk (walked .came)) ∙ idle u))
+
+  -- no vertex can step
+  pub run-rests :
+      {e : Ending} → r .over ≡ true → e ≡ atRest (every (λ k. eqb (status (s' .vertices) k) FINISHED) (s' .made))
+      → run ed bytes s budget ≡ ended e (lastOf (r .last)) (r .taken) s'
+  run-rests over rest =
+      goes
+      ∙ rests ed bytes (budget - r .taken) s' (lastOf (r .last)) (r .taken) (lowest-is ∙ walked .over over)
+      ∙ ap (λ (x : Ending). ended x (lastOf (r .last)) (r .taken) s') (rest-is s' rest)
+
+  -- the budget is used
+  pub run-used : {e : Ending} → r .over ≡ false → e ≡ whenUsed ed bytes s' → run ed bytes s budget ≡ ended e (lastOf (r .last)) (r .taken) s'
+  run-used over is =
+      goes
+      ∙ ap (λ (n : ℕ). runOn ed bytes n s' (lastOf (r .last)) (r .taken)) none-left
+      ∙ on-used ed bytes s' (lastOf (r .last)) (r .taken) (lowest ed bytes s') refl
+      ∙ ap (λ (x : Ending). ended x (lastOf (r .last)) (r .taken) s') (sym is)
+    where
+      none-left : budget - r .taken ≡ 0
+      none-left = ⊎-elim (λ le. omega arith) (λ h. true-false (h .0) refl) (walked .halted over)
 
 -- so this is what a run answers and leaves
 pub ran :

@@ -5,11 +5,14 @@ pub mod entry;
 pub mod load;
 pub mod look;
 pub mod next;
+pub mod onindex;
 pub mod runs;
 pub mod steps;
+pub mod walks;
 
 use graph::Command;
 use graph::Tally;
+use index::Course;
 use refusal::Refusal;
 
 // What loading answers.
@@ -69,10 +72,40 @@ pub enum Lowest {
     Refused(Refusal),
 }
 
-// A step of that vertex, if there is one.
+// The result of a step on an index: its answer, the course afterwards, and between which numbers the vertices lie that may step now and could not
+// before.
+pub struct Moved {
+    pub answer: Answer,
+    pub course: Course,
+    pub lowest: u32,
+    pub highest: u32,
+}
+
+// Where the vertices are that may step and are not busy: each is `low`, or `skip` or above.
+pub struct Candidates {
+    pub low: u32,
+    pub skip: u32,
+}
+
+// A step of the lowest vertex that can step and is not busy, if there is one.
 pub enum Attempt {
     NoStep,
-    Taken(Done),
+    Taken {
+        vertex: u32,
+        answer: Answer,
+        course: Course,
+        candidates: Candidates,
+    },
+}
+
+// How far a walk went: its course afterwards, its last step, how many it took, how many jobs it handed out, and whether it ended where no vertex that is
+// not busy can step.
+pub struct Walked {
+    pub course: Course,
+    pub last: LastStep,
+    pub taken: u32,
+    pub handed: u32,
+    pub over: bool,
 }
 
 // How a run ends.

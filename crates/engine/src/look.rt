@@ -2,8 +2,8 @@
 use crate::Due;
 use crate::Lowest;
 use crate::next::STEP_LIMIT;
+use crate::next::ended_due;
 use crate::next::is_steppable;
-use crate::next::marked_due;
 use graph::Command;
 use graph::Tally;
 use graph::refusals::ACCEPTED;
@@ -20,8 +20,8 @@ use graph::rows::RELEASED;
 use graph::rows::STATUS;
 use graph::rows::VERTEX_WORDS;
 use program::Edition;
+use program::ends::mark_ends;
 use program::format::PROGRAM_BYTES;
-use program::starts::mark_starts;
 use refusal::Refusal;
 use refusal::UNSOUND_TABLES;
 ghost use mathlib.Core.Path.{_≡_};
@@ -34,7 +34,7 @@ ghost use Rattle.graph.specs.Sound.{sound};
 ghost use Rattle.graph.specs.Commands.{command};
 ghost use Rattle.graph.specs.Answers as of-graph;
 ghost use Rattle.program.specs.Limits.{programBytes};
-ghost use Rattle.program.specs.Located.{MarksStarts};
+ghost use Rattle.program.specs.Located.{MarksEnds};
 ghost use Rattle.refusal.specs.Refusals.{unsound-tables};
 ghost use Rattle.machine.specs.Running.{lowest, chosen, choice, choice-refused};
 ghost use Rattle.engine.specs.Answers.{dueOf, choiceOf};
@@ -53,9 +53,9 @@ pub fn lowest_vertex(
     if !is_steppable(vertices, edges, tally) {
         return refused();
     }
-    let mut marks = [0u8; PROGRAM_BYTES];
-    mark_starts(program, edition, &mut marks);
-    lowest_marked(program, &marks, vertices, edges, tally, edition)
+    let mut ends = [0u16; PROGRAM_BYTES];
+    mark_ends(program, edition, &mut ends);
+    lowest_by_ends(program, &ends, vertices, edges, tally, edition)
 }
 
 fn refused() -> Lowest
@@ -67,16 +67,16 @@ fn refused() -> Lowest
     })
 }
 
-// The same on sound tables, in a program with these marks where its items and end bytes start.
-pub(crate) fn lowest_marked(
+// The same on sound tables, in a program with these ends of bodies.
+pub(crate) fn lowest_by_ends(
     program: &[u8],
-    marks: &[u8],
+    ends: &[u16],
     vertices: &[u32],
     edges: &[u32],
     tally: Tally,
     edition: Edition,
 ) -> Lowest
-    requires { ⌜ MarksStarts edition (now program) (now marks) × (length (now marks) ≡ programBytes) × (sound (lent (now vertices) (now edges) tally) ≡ true) ⌝ }
+    requires { ⌜ MarksEnds edition (now program) (now ends) × (length (now ends) ≡ programBytes) × (sound (lent (now vertices) (now edges) tally) ≡ true) ⌝ }
     ensures { λ r. ⌜ choiceOf r ≡ chosen (lowest edition (now (program .entry)) (lent (now (vertices .entry)) (now (edges .entry)) tally)) ⌝ }
 {
     if STEP_LIMIT <= tally.steps {
@@ -89,7 +89,7 @@ pub(crate) fn lowest_marked(
         if vertices[VERTEX_WORDS * (v as usize) + STATUS] != EXECUTING {
             continue;
         }
-        let next = marked_due(program, marks, vertices, tally.made, edition, v);
+        let next = ended_due(program, ends, vertices, tally.made, edition, v);
         if would_take(vertices, edges, tally, next) {
             return Lowest::Vertex(v);
         }

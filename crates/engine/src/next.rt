@@ -17,8 +17,8 @@ use graph::sound::is_sound;
 use graph::sound::tally_fits;
 use program::Edition;
 use program::ItemRead;
-use program::Reader;
-use program::starts::starts_at;
+use program::ends::item_by_ends;
+use program::items::item_at;
 use refusal::NO_SUCH_VERTEX;
 use refusal::NOTHING_STARTS;
 use refusal::UNSOUND_TABLES;
@@ -27,14 +27,13 @@ use refusal::VERTEX_IS_NEW;
 ghost use mathlib.Core.Path.{_≡_};
 ghost use mathlib.Core.Bool.{false};
 ghost use Prim.Native.Nat.{_+_, _*_, _<_, _≤_};
-ghost use lib.Dec.{eqb};
-ghost use lib.ListN.{length, getD};
+ghost use lib.ListN.{length};
 ghost use Rattle.graph.specs.Tables.{lent, vertexWords};
 ghost use Rattle.graph.specs.declared.Command.the-variants.{NewTd, NewEdge, Release, Transfer};
 ghost use Rattle.program.specs.Limits.{programBytes};
 ghost use Rattle.program.specs.declared.Edition.the-variants.{First, Second};
-ghost use Rattle.program.specs.Answers.{Stands};
-ghost use Rattle.program.specs.Located.{startsAt, MarksStarts};
+ghost use Rattle.program.specs.Answers.{Stands, stands};
+ghost use Rattle.program.specs.Located.{itemAt, MarksEnds};
 ghost use Rattle.machine.specs.Stepping as machine;
 ghost use Rattle.machine.specs.Stepping.{steppable, startDue, due};
 ghost use Rattle.engine.specs.Answers.{ownWords, dueOf};
@@ -80,9 +79,9 @@ pub(crate) fn next_due(
         return Due::Refused(VERTEX_IS_FINISHED);
     }
     let own = own_words(vertices, vertex as usize);
-    executing(
+    by_item(
         program,
-        starts_at(program, edition, own.place),
+        item_at(program, edition, own.place),
         vertices,
         edition,
         vertex,
@@ -118,22 +117,22 @@ pub(crate) fn is_steppable(vertices: &[u32], edges: &[u32], tally: Tally) -> boo
     tally.steps < STEP_LIMIT
 }
 
-// What is due at a step of a vertex that executes, in a program with these marks where its items and end bytes start.
-pub(crate) fn marked_due(
+// What is due at a step of a vertex that executes, in a program with these ends of bodies.
+pub(crate) fn ended_due(
     program: &[u8],
-    marks: &[u8],
+    ends: &[u16],
     vertices: &[u32],
     made: u32,
     edition: Edition,
     vertex: u32,
 ) -> Due
-    requires { ⌜ MarksStarts edition (now program) (now marks) × (length (now marks) ≡ programBytes) × (vertex < made) × (vertexWords * made ≤ length (now vertices)) ⌝ }
+    requires { ⌜ MarksEnds edition (now program) (now ends) × (length (now ends) ≡ programBytes) × (vertex < made) × (vertexWords * made ≤ length (now vertices)) ⌝ }
     ensures { λ r. ⌜ DueThere edition (now (program .entry)) (now (vertices .entry)) made vertex (dueOf r) ⌝ }
 {
     let own = own_words(vertices, vertex as usize);
-    executing(
+    by_item(
         program,
-        is_marked(marks, own.place),
+        item_by_ends(program, ends, edition, own.place),
         vertices,
         edition,
         vertex,
@@ -143,17 +142,7 @@ pub(crate) fn marked_due(
     )
 }
 
-fn is_marked(marks: &[u8], place: u32) -> bool
-    ensures { λ r. ⌜ r ≡ eqb (getD (now (marks .entry)) place 0) 1 ⌝ }
-{
-    let at = place as usize;
-    if marks.len() <= at {
-        return false;
-    }
-    marks[at] == 1
-}
-
-fn own_words(vertices: &[u32], vertex: usize) -> Own
+pub(crate) fn own_words(vertices: &[u32], vertex: usize) -> Own
     requires { ⌜ vertexWords * vertex + vertexWords ≤ length (now vertices) ⌝ }
     ensures { λ r. ⌜ OwnIn (now (vertices .entry)) vertex (ownWords r) ⌝ }
 {
@@ -168,11 +157,10 @@ fn own_words(vertices: &[u32], vertex: usize) -> Own
     }
 }
 
-// What is due at the step of an executing vertex with these words, where so many vertices are made; `starts` tells whether an item or
-// an end byte starts at its place. Then the program from that place on is passed to the item reader.
-fn executing(
+// What is due at the step of an executing vertex with these words, where so many vertices are made, and this stands at its place.
+fn by_item(
     program: &[u8],
-    starts: bool,
+    item: ItemRead,
     vertices: &[u32],
     edition: Edition,
     vertex: u32,
@@ -180,25 +168,36 @@ fn executing(
     own: Own,
     made: u32,
 ) -> Due
-    requires { ⌜ (starts ≡ startsAt edition (now program) (own .place)) × (vertexWords * made ≤ length (now vertices)) ⌝ }
+    requires { ⌜ (stands item ≡ itemAt edition (now program) (own .place)) × (vertexWords * made ≤ length (now vertices)) ⌝ }
     ensures { λ r. ⌜ Next edition (now (program .entry)) (now (vertices .entry)) vertex scope (ownWords own) made (dueOf r) ⌝ }
 {
-    if !starts {
-        return Due::Refused(NOTHING_STARTS);
-    }
-    let last = (program.len() - 1) as u32;
-    let place = own.place as usize;
-    let item = Reader::at(own.place).item_here(&program[place..]);
     match item {
         ItemRead::Refused(refusal) => Due::Refused(NOTHING_STARTS),
         ItemRead::End { past } => end_next(vertex, own),
         ItemRead::Job { number, past } => job_next(vertex, own, number, past.place),
         ItemRead::Async { body, past } => async_next(vertex, scope, own, made, body, past.place),
         ItemRead::Finish { body, past } => {
-            finish_next(vertex, scope, own, made, body, past.place, last)
+            finish_next(
+                vertex,
+                scope,
+                own,
+                made,
+                body,
+                past.place,
+                (program.len() - 1) as u32,
+            )
         }
         ItemRead::Fork { left, right, past } => match edition {
-            Edition::First => fork_next(vertex, scope, own, made, left, right, past.place, last),
+            Edition::First => fork_next(
+                vertex,
+                scope,
+                own,
+                made,
+                left,
+                right,
+                past.place,
+                (program.len() - 1) as u32,
+            ),
             Edition::Second => yielding_fork_next(
                 vertex,
                 scope,
@@ -210,16 +209,33 @@ fn executing(
             ),
         },
         ItemRead::Future { body, past } => {
-            future_next(vertex, scope, own, made, body, past.place, last)
+            future_next(
+                vertex,
+                scope,
+                own,
+                made,
+                body,
+                past.place,
+                (program.len() - 1) as u32,
+            )
         }
         ItemRead::Force { number, past } => {
-            force_next(vertices, vertex, scope, own, made, number, past.place, last)
+            force_next(
+                vertices,
+                vertex,
+                scope,
+                own,
+                made,
+                number,
+                past.place,
+                (program.len() - 1) as u32,
+            )
         }
     }
 }
 
 // At an end byte: stop, which moves nothing.
-fn end_next(vertex: u32, own: Own) -> Due
+pub(crate) fn end_next(vertex: u32, own: Own) -> Due
     ensures { λ r. ⌜ EndNext vertex (ownWords own) (dueOf r) ⌝ }
 {
     if own.phase != 0 {
@@ -232,7 +248,7 @@ fn end_next(vertex: u32, own: Own) -> Due
 }
 
 // A job: one step that names it; then past the item.
-fn job_next(vertex: u32, own: Own, number: u32, past: u32) -> Due
+pub(crate) fn job_next(vertex: u32, own: Own, number: u32, past: u32) -> Due
     ensures { λ r. ⌜ JobNext vertex (ownWords own) number past (dueOf r) ⌝ }
 {
     if own.phase != 0 {
@@ -246,7 +262,7 @@ fn job_next(vertex: u32, own: Own, number: u32, past: u32) -> Due
 }
 
 // An async: newTd m1 (its body, own scope); newEdge m1 to own scope; release m1; then past the item.
-fn async_next(vertex: u32, scope: u32, own: Own, made: u32, body: u32, past: u32) -> Due
+pub(crate) fn async_next(vertex: u32, scope: u32, own: Own, made: u32, body: u32, past: u32) -> Due
     ensures { λ r. ⌜ AsyncNext vertex scope (ownWords own) made body past (dueOf r) ⌝ }
 {
     let phase = own.phase;
@@ -264,7 +280,15 @@ fn async_next(vertex: u32, scope: u32, own: Own, made: u32, body: u32, past: u32
 
 // A finish: newTd m1 (past the item, own scope); newTd m2 (its body, scope m1); newEdge m2 to m1; transfer to m1; release m1; release
 // m2; then the last byte.
-fn finish_next(vertex: u32, scope: u32, own: Own, made: u32, body: u32, past: u32, last: u32) -> Due
+pub(crate) fn finish_next(
+    vertex: u32,
+    scope: u32,
+    own: Own,
+    made: u32,
+    body: u32,
+    past: u32,
+    last: u32,
+) -> Due
     ensures { λ r. ⌜ AlikeAt last vertex scope (ownWords own) made (Stands.finish body past) (dueOf r) ⌝ }
 {
     let phase = own.phase;
@@ -291,7 +315,7 @@ fn finish_next(vertex: u32, scope: u32, own: Own, made: u32, body: u32, past: u3
 
 // A fork of the first edition: newTd m1 (left), m2 (right), m3 (past the item), all with own scope; newEdge m1 to m3; newEdge m2 to m3;
 // transfer to m3; release m3, m1, m2; then the last byte.
-fn fork_next(
+pub(crate) fn fork_next(
     vertex: u32,
     scope: u32,
     own: Own,
@@ -354,7 +378,7 @@ fn fork_releases(vertex: u32, own: Own, last: u32) -> Due
 
 // A fork of the second edition: newTd m1 (left), m2 (right), both with own scope; newEdge m1 to the vertex itself; newEdge m2 to it;
 // release m1, m2; yield; then past the item.
-fn yielding_fork_next(
+pub(crate) fn yielding_fork_next(
     vertex: u32,
     scope: u32,
     own: Own,
@@ -394,7 +418,15 @@ fn yielding_fork_next(
 
 // A future: newTd m1 (the last byte, own scope); newTd m2 (its body, scope m1); newEdge m2 to m1; release m1; release m2; then past the
 // item, and m1 is the latest open future.
-fn future_next(vertex: u32, scope: u32, own: Own, made: u32, body: u32, past: u32, last: u32) -> Due
+pub(crate) fn future_next(
+    vertex: u32,
+    scope: u32,
+    own: Own,
+    made: u32,
+    body: u32,
+    past: u32,
+    last: u32,
+) -> Due
     ensures { λ r. ⌜ AlikeAt last vertex scope (ownWords own) made (Stands.future body past) (dueOf r) ⌝ }
 {
     let phase = own.phase;
@@ -418,7 +450,7 @@ fn future_next(vertex: u32, scope: u32, own: Own, made: u32, body: u32, past: u3
 
 // A force: newTd m1 (past the item, own scope); newEdge from the first vertex of its future to m1; transfer to m1; release m1; then the
 // last byte.
-fn force_next(
+pub(crate) fn force_next(
     vertices: &[u32],
     vertex: u32,
     scope: u32,

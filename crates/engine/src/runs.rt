@@ -1,26 +1,20 @@
 // A run: steps of the lowest vertex whose step would be accepted, one after the other.
 use crate::Answer;
-use crate::Attempt;
 use crate::Ending;
 use crate::LastStep;
 use crate::Lowest;
 use crate::RunAnswer;
 use crate::RunDone;
-use crate::look::lowest_marked;
-use crate::look::may_start;
-use crate::next::STEP_LIMIT;
+use crate::look::lowest_by_ends;
 use crate::next::is_steppable;
-use crate::next::marked_due;
-use crate::steps::do_due;
-use crate::steps::start_step;
+use crate::walks::walk;
 use graph::Tally;
-use graph::rows::EXECUTING;
 use graph::rows::FINISHED;
 use graph::rows::STATUS;
 use graph::rows::VERTEX_WORDS;
 use program::Edition;
+use program::ends::mark_ends;
 use program::format::PROGRAM_BYTES;
-use program::starts::mark_starts;
 use refusal::Refusal;
 use refusal::UNSOUND_TABLES;
 ghost use mathlib.Core.Path.{_≡_};
@@ -33,13 +27,13 @@ ghost use Rattle.graph.specs.Tests.{every};
 ghost use Rattle.graph.specs.Tables.{lent, vertexWords, status, FINISHED};
 ghost use Rattle.graph.specs.Sound.{sound};
 ghost use Rattle.program.specs.Limits.{programBytes};
-ghost use Rattle.program.specs.Located.{MarksStarts};
+ghost use Rattle.program.specs.Located.{MarksEnds};
 ghost use Rattle.refusal.specs.Refusals.{unsound-tables};
 ghost use Rattle.machine.specs.Answers.{accepted};
 ghost use Rattle.machine.specs.Running as of-run;
 ghost use Rattle.machine.specs.Traces.{Ran};
 ghost use Rattle.engine.specs.Answers.{said, endingOf, lastOf};
-ghost use Rattle.engine.specs.Internal.Underway.{Attempted, atRest, whenUsed};
+ghost use Rattle.engine.specs.Internal.Underway.{atRest, whenUsed};
 
 // A run, with the tally by value.
 pub fn run_by_value(
@@ -55,29 +49,37 @@ pub fn run_by_value(
     if !is_steppable(vertices, edges, tally) {
         return refused(tally);
     }
-    let mut marks = [0u8; PROGRAM_BYTES];
-    mark_starts(program, edition, &mut marks);
-    let mut after = tally;
-    let mut last = LastStep::NoStep;
-    let mut taken: u32 = 0;
-    while taken < budget {
-        let attempt = take_lowest(program, &marks, vertices, edges, after, edition);
-        match attempt {
-            Attempt::NoStep => {
-                return ended(at_rest(vertices, after.made as usize), last, taken, after);
-            }
-            Attempt::Taken(done) => {
-                let answer = done.answer;
-                after = done.tally;
-                last = LastStep::Step(answer);
-                taken += 1;
-            }
-        }
+    let mut ends = [0u16; PROGRAM_BYTES];
+    mark_ends(program, edition, &mut ends);
+    let mut nobody_busy = [0; 1];
+    let mut no_list = [0; 1];
+    let walked = walk(
+        program,
+        &ends,
+        vertices,
+        edges,
+        &mut nobody_busy,
+        &mut no_list,
+        tally,
+        edition,
+        false,
+        budget,
+    );
+    let last = walked.last;
+    let course = walked.course;
+    let after = course.tally;
+    if walked.over {
+        return ended(
+            at_rest(vertices, after.made as usize),
+            last,
+            walked.taken,
+            after,
+        );
     }
     ended(
-        when_used(program, &marks, vertices, edges, after, edition),
+        when_used(program, &ends, vertices, edges, after, edition),
         last,
-        taken,
+        walked.taken,
         after,
     )
 }
@@ -109,38 +111,6 @@ fn ended(ending: Ending, last: LastStep, taken: u32, tally: Tally) -> RunDone
     }
 }
 
-// Steps the lowest vertex whose step is accepted, in a program with these marks where its items and end bytes start.
-fn take_lowest(
-    program: &[u8],
-    marks: &[u8],
-    vertices: &mut [u32],
-    edges: &mut [u32],
-    tally: Tally,
-    edition: Edition,
-) -> Attempt
-    requires { ⌜ MarksStarts edition (now program) (now marks) × (length (now marks) ≡ programBytes) × (sound (lent (now vertices) (now edges) tally) ≡ true) ⌝ }
-    ensures { λ r. ⌜ Attempted edition (now (program .entry)) (lent (now (vertices .entry)) (now (edges .entry)) tally) r (now (vertices .exit)) (now (edges .exit)) ⌝ }
-{
-    if STEP_LIMIT <= tally.steps {
-        return Attempt::NoStep;
-    }
-    for v in 0..tally.made {
-        if may_start(vertices, v as usize) {
-            return Attempt::Taken(start_step(vertices, edges, tally, v));
-        }
-        if vertices[VERTEX_WORDS * (v as usize) + STATUS] != EXECUTING {
-            continue;
-        }
-        let next = marked_due(program, marks, vertices, tally.made, edition, v);
-        let done = do_due(vertices, edges, tally, v, next);
-        let answer = done.answer;
-        if !step_refused(answer) {
-            return Attempt::Taken(done);
-        }
-    }
-    Attempt::NoStep
-}
-
 pub(crate) fn step_refused(answer: Answer) -> bool
     ensures { λ r. ⌜ r ≡ not (accepted (said answer)) ⌝ }
 {
@@ -160,16 +130,16 @@ pub(crate) fn step_refused(answer: Answer) -> bool
 // How a run ends whose budget is used.
 fn when_used(
     program: &[u8],
-    marks: &[u8],
+    ends: &[u16],
     vertices: &[u32],
     edges: &[u32],
     tally: Tally,
     edition: Edition,
 ) -> Ending
-    requires { ⌜ MarksStarts edition (now program) (now marks) × (length (now marks) ≡ programBytes) × (sound (lent (now vertices) (now edges) tally) ≡ true) ⌝ }
+    requires { ⌜ MarksEnds edition (now program) (now ends) × (length (now ends) ≡ programBytes) × (sound (lent (now vertices) (now edges) tally) ≡ true) ⌝ }
     ensures { λ r. ⌜ endingOf r ≡ whenUsed edition (now (program .entry)) (lent (now (vertices .entry)) (now (edges .entry)) tally) ⌝ }
 {
-    let found = lowest_marked(program, marks, vertices, edges, tally, edition);
+    let found = lowest_by_ends(program, ends, vertices, edges, tally, edition);
     let rest = at_rest(vertices, tally.made as usize);
     match found {
         Lowest::Vertex(v) => Ending::Spent,

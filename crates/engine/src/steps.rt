@@ -113,7 +113,7 @@ pub(crate) fn do_due(
 }
 
 // One step more.
-fn counted(tally: Tally) -> Tally
+pub(crate) fn counted(tally: Tally) -> Tally
     requires { ⌜ tally .steps < stepLimit ⌝ }
     ensures { λ r. ⌜ (r .made ≡ tally .made) × (r .held ≡ tally .held) × (r .steps ≡ tally .steps + 1) ⌝ }
 {
@@ -125,7 +125,7 @@ fn counted(tally: Tally) -> Tally
 }
 
 // Stores a vertex's own words.
-fn store(vertices: &mut [u32], vertex: usize, own: Own)
+pub(crate) fn store(vertices: &mut [u32], vertex: usize, own: Own)
     requires { ⌜ vertex < vertexRows (now vertices) ⌝ }
     ensures { λ _. ⌜ now (vertices .exit) ≡ stored (now (vertices .entry)) vertex (ownWords own) ⌝ }
 {
@@ -138,7 +138,7 @@ fn store(vertices: &mut [u32], vertex: usize, own: Own)
     vertices[at + FUTURE] = own.latest;
 }
 
-fn command_refused(answer: graph::Answer) -> bool
+pub(crate) fn command_refused(answer: graph::Answer) -> bool
     ensures { λ r. ⌜ r ≡ not (of-graph.accepted (of-graph.said answer)) ⌝ }
 {
     match answer {
@@ -154,7 +154,7 @@ fn command_refused(answer: graph::Answer) -> bool
 }
 
 // What a single command answered, as a step says it.
-fn as_step(answer: graph::Answer) -> Answer
+pub(crate) fn as_step(answer: graph::Answer) -> Answer
     ensures { λ r. ⌜ said r ≡ saidAs (of-graph.said answer) ⌝ }
 {
     match answer {

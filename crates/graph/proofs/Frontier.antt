@@ -14,9 +14,9 @@ use native.Mathlib.Numerals.{add-one}
 use native.Mathlib.Omega.{arith}
 use lib.ListN.{length, getD, set, replicate, length-set}
 use lib.Seq.{getD-set-same, getD-set-other}
-use Rattle.graph.specs.Tables.{usableLimit, source, target}
+use Rattle.graph.specs.Tables.{targetWord, source, target}
 use Rattle.graph.specs.Paths.{holds, reaches}
-use Rattle.graph.specs.Internal.Search.{lastInto, blank, zeros, Room, IsMarked, Hops, here, hop, Away, Covered, Frontier, Measured}
+use Rattle.graph.specs.Internal.Search.{searchLimit, lastInto, blank, zeros, Room, IsMarked, Hops, here, hop, Away, Covered, Frontier, Measured}
 use Rattle.graph.proofs.TestLaws.{true-false, equal?, below-suc}
 use Rattle.graph.proofs.PathLaws.{leads-hops, hops-leads, holds-at, held-row, reaches-is}
 use Rattle.graph.proofs.RowLinks.{last-row, below-last, blank-long}
@@ -40,9 +40,9 @@ unfolding zeros
 zeros-blank zero = refl
 zeros-blank (suc n) = ap suc (zeros-blank n)
 
-pub room-blank : {m q : List ℕ} → m ≡ blank → length q ≡ usableLimit → Room m q 0
+pub room-blank : {m q : List ℕ} → m ≡ blank → length q ≡ searchLimit → Room m q 0
 room-blank h long =
-    record { marks = blank-long h; places = long; free = omega (arith, ap zeros h ∙ zeros-blank usableLimit) }
+    record { marks = blank-long h; places = long; free = omega (arith, ap zeros h ∙ zeros-blank searchLimit) }
 
 -- a vertex that is not marked finds a place
 pub room-left : {m q : List ℕ} {tail : ℕ} → Room m q tail → (s : ℕ) → s < length m → getD m s 0 ≡ 0 → tail < length q
@@ -63,7 +63,7 @@ blank-at (suc n) zero = refl
 blank-at (suc n) (suc x) = blank-at n x
 
 no-mark : {m : List ℕ} → m ≡ blank → (x : ℕ) → getD m x 0 ≡ 0
-no-mark h x = ap (λ (l : List ℕ). getD l x 0) h ∙ blank-at usableLimit x
+no-mark h x = ap (λ (l : List ℕ). getD l x 0) h ∙ blank-at searchLimit x
 
 marked-below : (m : List ℕ) (x : ℕ) → IsMarked m x → x < length m
 marked-below [] x h = absurd (omega arith)
@@ -83,17 +83,17 @@ start {e} {n} {to} none h =
       leads = λ x p. absurd (omega (arith, no-mark none x));
       least = λ x k p r. absurd (omega (arith, no-mark none x));
       counts = inl (refl, refl);
-      row = λ i p. last-row e to n i (sym h ∙ p);
+      row = λ i p. last-row targetWord e to n i (sym h ∙ p);
       closed =
           λ i k lt.
           ⊎-elim
-          (λ p. inr (inl (p .0, omega (arith, below-last e to n i lt (p .0)), p .1)))
+          (λ p. inr (inl (p .0, omega (arith, below-last targetWord e to n i lt (p .0)), p .1)))
           (λ p. absurd (omega (arith, no-mark none (target e i))));
     }
 
 module _ {e : List ℕ} {n to v d head c : ℕ} {m q : List ℕ} {tail : ℕ} (f : Frontier e n to v d head c m q tail) where
-  -- what stands in the queue is a usable vertex
-  pub queued-usable : Room m q tail → (k : ℕ) → k < tail → getD q k 0 < usableLimit
+  -- what stands in the queue is a vertex of the search
+  pub queued-usable : Room m q tail → (k : ℕ) → k < tail → getD q k 0 < searchLimit
   queued-usable r k lt = omega (arith, marked-below m (getD q k 0) (f .queued k lt))
 
   -- where each row with a target less than b edges away has a marked source, each path of up to b edges begins at a marked vertex
@@ -147,7 +147,7 @@ module _ {e : List ℕ} {n to v d head c : ℕ} {m q : List ℕ} {tail : ℕ} (f
         leads = f .leads;
         least = f .least;
         counts = f .counts;
-        row = λ j r. let (lt, s) = last-row e v i j (sym h′ ∙ r) in (omega arith, s);
+        row = λ j r. let (lt, s) = last-row targetWord e v i j (sym h′ ∙ r) in (omega arith, s);
         closed =
             λ j k lt r.
             ⊎-elim
@@ -156,7 +156,7 @@ module _ {e : List ℕ} {n to v d head c : ℕ} {m q : List ℕ} {tail : ℕ} (f
             (λ a.
             ⊎-elim
             (λ b. inl (subst (λ (x : ℕ). IsMarked m (source e x)) (sym b) marked))
-            (λ b. inr (inl (a .0, omega (arith, below-last e v i j b (a .0)), a .2)))
+            (λ b. inr (inl (a .0, omega (arith, below-last targetWord e v i j b (a .0)), a .2)))
             (below-suc (subst (λ (x : ℕ). j < x) p (a .1))))
             (λ a. inr (inr a)))
             (f .closed j k lt r);
@@ -289,7 +289,7 @@ module _ {e : List ℕ} {n to v d head : ℕ} {m q : List ℕ} {tail : ℕ} (f :
         leads = f .leads;
         least = f .least;
         counts = inr (f .queued head lt, refl);
-        row = λ i p. last-row e _ n i (sym h ∙ p);
+        row = λ i p. last-row targetWord e _ n i (sym h ∙ p);
         closed =
             λ i k l r.
             ⊎-elim
@@ -303,7 +303,7 @@ module _ {e : List ℕ} {n to v d head : ℕ} {m q : List ℕ} {tail : ℕ} (f :
             (λ b.
             let into : target e i ≡ getD q head 0 = sym (waits .there) ∙ ap (λ (k : ℕ). getD q k 0) (sym b) in
             inr
-            (inl (into, omega (arith, below-last e (getD q head 0) n i l into), sym mark ∙ ap (λ (j : ℕ). getD m (getD q j 0) 0) (sym b))))
+            (inl (into, omega (arith, below-last targetWord e (getD q head 0) n i l into), sym mark ∙ ap (λ (j : ℕ). getD m (getD q j 0) 0) (sym b))))
             (λ b.
             let further : getD m (getD q head 0) 0 ≤ k = rw mark at (f .rising head (waits .place) (omega arith) (waits .from) (waits .below)) in
             inr (inr (pos, further, record { place = waits .place; from = omega arith; below = waits .below; there = waits .there })))

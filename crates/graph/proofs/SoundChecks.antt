@@ -10,7 +10,7 @@ use borrow.Author.Tests.{lt-ltb, le-leb, lt-leb, leb-true}
 use Rattle.graph.specs.Tests.{both, every}
 use Rattle.graph.specs.Tables.{Lent, NEW, FINISHED, usableLimit, vertexWords, edgeWords, vertexRows, edgeRows, status, source, target}
 use Rattle.graph.specs.Sound.{tallyFits, statusKnown, statusesKnown, endsMade, edgesMade, sound}
-use Rattle.graph.specs.Internal.Search.{Rows, Searchable}
+use Rattle.graph.specs.Internal.Search.{searchLimit, Rows, Searchable}
 use Rattle.graph.proofs.PathLaws.{holds-at}
 use Rattle.graph.proofs.SoundLaws.{sound-fits}
 use Rattle.graph.proofs.TestLaws.{both-true, both-left, both-right, both-false-left, both-false-right, every-all, every-none, at-end}
@@ -90,15 +90,15 @@ usable-rows s h =
     let r = sound-rows s h in
     record {
       full = r .1 .0;
-      few = r .1 .1 .1;
+      few = omega arith;
       ends =
           every-all _ (s .held)
           (λ i lt.
           let m : (source (s .edges) i < s .made) × (target (s .edges) i < s .made) = sound-fits s h .ends-made _ _ (holds-at (s .edges) (s .held) i lt) in
-          both-true (lt-ltb (source (s .edges) i) usableLimit (omega arith)) (lt-ltb (target (s .edges) i) usableLimit (omega arith)));
+          both-true (lt-ltb (source (s .edges) i) searchLimit (omega arith)) (lt-ltb (target (s .edges) i) searchLimit (omega arith)));
     }
 
 pub searchable : (s : Lent) (a b : ℕ) → sound s ≡ true → a < s .made → b < s .made → Searchable (s .edges) (s .held) a b
 searchable s a b h p q =
     let r = sound-rows s h in
-    record { rows = usable-rows s h; from-usable = omega arith; to-usable = omega arith }
+    record { rows = usable-rows s h; held = r .1 .1 .1; from-usable = omega arith; to-usable = omega arith }

@@ -10,9 +10,11 @@ use crate::rows::USABLE_LIMIT;
 ghost use mathlib.Core.Path.{_≡_};
 ghost use Prim.Native.Nat.{_*_, _<_};
 ghost use lib.ListN.{length};
-ghost use Rattle.graph.specs.Tables.{usableLimit};
 ghost use Rattle.graph.specs.Paths.{reaches};
-ghost use Rattle.graph.specs.Internal.Search.{Rows, Searchable, Linked, blank, RowsFrom, Room, Scanned, Measured};
+ghost use Rattle.graph.specs.Internal.Search.{searchLimit, Rows, Searchable, Linked, blank, RowsFrom, Room, Scanned, Measured};
+
+// The vertices of a search are below this. A run's own index gives a dropped row the vertex behind the last usable one for its source.
+pub const SEARCH_LIMIT: usize = USABLE_LIMIT + 1;
 
 // Links the held rows by their targets: `next` has a word for each of them. A row is counted from 1, so that 0 ends a list.
 fn link_rows(edges: &[u32], first: &mut [u32], next: &mut [u32])
@@ -60,7 +62,7 @@ fn scan(
 }
 
 // Looks at the vertex to be reached and then at each vertex of the queue, until `from` is marked or the queue is at its end.
-fn search_back(
+pub fn search_back(
     edges: &[u32],
     first: &[u32],
     next: &[u32],
@@ -71,8 +73,8 @@ fn search_back(
 ) -> bool
     requires { ⌜ Rows (now edges) (length (now next)) ⌝ }
     requires { ⌜ Linked (now edges) (length (now next)) (now first) (now next) ⌝ }
-    requires { ⌜ (from < usableLimit) × (to < usableLimit) ⌝ }
-    requires { ⌜ (now distances ≡ blank) × (length (now queue) ≡ usableLimit) ⌝ }
+    requires { ⌜ (from < searchLimit) × (to < searchLimit) ⌝ }
+    requires { ⌜ (now distances ≡ blank) × (length (now queue) ≡ searchLimit) ⌝ }
     ensures { λ r. ⌜ (r ≡ reaches (now (edges .entry)) (length (now (next .entry))) from to) × Measured (now (edges .entry)) (length (now (next .entry))) from to r (now (distances .exit)) ⌝ }
 {
     let mut vertex = to as usize;
@@ -101,7 +103,7 @@ fn search_back(
     }
 }
 
-// A path of one or more of the first `held` edges leads from `from` to `to`. `distances` has a word for each usable row; where there is
+// A path of one or more of the first `held` edges leads from `from` to `to`. `distances` has a word for each vertex of a search; where there is
 // such a path, each vertex that is nearer to `to` than `from` is, and `from` itself, gets its distance there, the number of edges of its
 // shortest path. Other words stay 0, or are distances too.
 pub fn measure(edges: &[u32], held: usize, from: u32, to: u32, distances: &mut [u32]) -> bool
@@ -109,9 +111,9 @@ pub fn measure(edges: &[u32], held: usize, from: u32, to: u32, distances: &mut [
     requires { ⌜ now distances ≡ blank ⌝ }
     ensures { λ r. ⌜ (r ≡ reaches (now (edges .entry)) held from to) × Measured (now (edges .entry)) held from to r (now (distances .exit)) ⌝ }
 {
-    let mut first = [0; USABLE_LIMIT];
+    let mut first = [0; SEARCH_LIMIT];
     let mut next = [0; USABLE_LIMIT];
-    let mut queue = [0; USABLE_LIMIT];
+    let mut queue = [0; SEARCH_LIMIT];
     link_rows(edges, &mut first, &mut next[..held]);
     search_back(
         edges,
@@ -129,7 +131,7 @@ fn search(edges: &[u32], held: usize, from: u32, to: u32) -> bool
     requires { ⌜ Searchable (now edges) held from to ⌝ }
     ensures { λ r. ⌜ r ≡ reaches (now (edges .entry)) held from to ⌝ }
 {
-    let mut distances = [0; USABLE_LIMIT];
+    let mut distances = [0; SEARCH_LIMIT];
     measure(edges, held, from, to, &mut distances)
 }
 

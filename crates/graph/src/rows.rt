@@ -74,7 +74,7 @@ pub fn edge_rows(edges: &[u32]) -> usize
 }
 
 // Clears `count` words from `from` on.
-pub(crate) fn clear(table: &mut [u32], from: usize, count: usize)
+pub fn clear(table: &mut [u32], from: usize, count: usize)
     requires { ⌜ from + count ≤ length (now table) ⌝ }
     ensures { λ _. ⌜ now (table .exit) ≡ clear (now (table .entry)) from count ⌝ }
 {
@@ -83,7 +83,7 @@ pub(crate) fn clear(table: &mut [u32], from: usize, count: usize)
     }
 }
 
-pub(crate) fn set_status(vertices: &mut [u32], vertex: usize, status: u32)
+pub fn set_status(vertices: &mut [u32], vertex: usize, status: u32)
     requires { ⌜ vertexWords * vertex + vertexWords ≤ length (now vertices) ⌝ }
     ensures { λ _. ⌜ now (vertices .exit) ≡ setStatus (now (vertices .entry)) vertex status ⌝ }
 {
@@ -91,7 +91,7 @@ pub(crate) fn set_status(vertices: &mut [u32], vertex: usize, status: u32)
 }
 
 // Makes row `vertex` that of a new vertex.
-pub(crate) fn make_row(vertices: &mut [u32], vertex: usize, place: u32, scope: u32, future: u32)
+pub fn make_row(vertices: &mut [u32], vertex: usize, place: u32, scope: u32, future: u32)
     requires { ⌜ vertexWords * vertex + vertexWords ≤ length (now vertices) ⌝ }
     ensures { λ _. ⌜ now (vertices .exit) ≡ newRow (now (vertices .entry)) vertex place scope future ⌝ }
 {
@@ -103,7 +103,7 @@ pub(crate) fn make_row(vertices: &mut [u32], vertex: usize, place: u32, scope: u
 }
 
 // One edge more into `vertex`; the word stops at its largest number.
-pub(crate) fn more_into(vertices: &mut [u32], vertex: usize)
+pub fn more_into(vertices: &mut [u32], vertex: usize)
     requires { ⌜ vertexWords * vertex + vertexWords ≤ length (now vertices) ⌝ }
     ensures { λ _. ⌜ now (vertices .exit) ≡ moreInto (now (vertices .entry)) vertex ⌝ }
 {
@@ -114,7 +114,7 @@ pub(crate) fn more_into(vertices: &mut [u32], vertex: usize)
 }
 
 // One edge less; the word stops at 0.
-pub(crate) fn less_into(vertices: &mut [u32], vertex: usize)
+pub fn less_into(vertices: &mut [u32], vertex: usize)
     requires { ⌜ vertexWords * vertex + vertexWords ≤ length (now vertices) ⌝ }
     ensures { λ _. ⌜ now (vertices .exit) ≡ lessInto (now (vertices .entry)) vertex ⌝ }
 {

@@ -1,24 +1,29 @@
--- A list of calls, runs among them, reaches what its steps reach: a run is the steps that it makes, one after the other (`calls-reached`). All
--- of these are accepted, and the run answers with the last of them and their number (`run-stands`).
+-- A list of calls, runs and dispatches among them, reaches what its steps reach: a run or a dispatch is the steps that it makes, one after the
+-- other (`calls-reached`). All of these are accepted, and the run answers with the last of them and their number (`run-stands`), the dispatch with
+-- their number (`dispatch-stands`).
 use Prim.Native.Nat.{ℕ, zero, suc, _+_}
 use mathlib.Core.Path.{_≡_, refl, sym, _∙_, ap, subst}
 use mathlib.Core.Bool.{Bool, true, false, cond}
 use mathlib.Core.List.{List, [], _∷_, _++_, append-nil, append-assoc}
 use mathlib.Core.Option.{Option, none, some}
 use native.Mathlib.Omega.{arith}
-use lib.ListN.{length}
+use lib.ListN.{length, length-map}
 use Rattle.graph.specs.Tables.{Lent}
 use Rattle.graph.proofs.TestLaws.{true-false}
 use Rattle.graph.proofs.LowestLaws.{Finds}
 use Rattle.program.specs.declared.Edition.{Edition}
-use Rattle.refusal.specs.Refusals.{unsound-tables}
+use Rattle.refusal.specs.Refusals.{unsound-tables, busy-table-too-short}
 use Rattle.machine.specs.Answers.{StepSaid, accepted}
 use Rattle.machine.specs.Stepping.{steppable, step}
 use Rattle.machine.specs.Running.{canStep, lowest, allFinished, Ending, refused, RunOutcome, ended, look, runOn, run}
-use Rattle.machine.specs.Demand2.{Looks, OnlySuchSteps, run-refused, run-steps}
-use Rattle.machine.specs.Reached.{Reached, stepped, Call, a-step, a-run, goOn, runAnswers, lastOr, AllAccepted, StandsAs, callAnswers}
-use Rattle.machine.specs.Reached.{callLeaves, answersOf, leavesOf}
+use Rattle.machine.specs.Dispatching.{Desk, desk, dispatch}
+use Rattle.machine.specs.Dispatching as dispatching
+use Rattle.machine.specs.Demand2.{Looks, OnlySuchSteps, run-refused, run-steps, FreeSteps, no-turn, turn, DispatchLooks, OnlyFreeSteps}
+use Rattle.machine.specs.Demand2.{tables-refused, marks-refused, dispatch-steps}
+use Rattle.machine.specs.Reached.{Reached, stepped, Call, a-step, a-run, a-dispatch, goOn, runAnswers, lastOr, AllAccepted, StandsAs}
+use Rattle.machine.specs.Reached.{answersAlong, dispatchAnswers, DispatchStandsAs, callAnswers, callLeaves, answersOf, leavesOf}
 use Rattle.machine.proofs.RunDemand2.{lowest-finds, run-ran}
+use Rattle.machine.proofs.DispatchDemand2.{dispatch-ran}
 
 module _ (ed : Edition) (bytes : List ℕ) (s₀ : Lent) where
   -- nothing more was answered
@@ -74,6 +79,25 @@ module _ (ed : Edition) (bytes : List ℕ) (s₀ : Lent) where
   run-on-reached budget {answers} s q true = on-reached budget answers s none 0 q
   run-on-reached budget s q false = same-answers q
 
+  -- the steps that a dispatch takes
+  free-reached :
+      {s s' : Lent} {d d' : Desk} {steps : List (ℕ × StepSaid)} (answers : List StepSaid) → FreeSteps ed bytes s d steps s' d'
+      → Reached ed bytes s₀ answers s → Reached ed bytes s₀ (answers ++ answersAlong steps) s'
+  unfolding answersAlong
+  free-reached answers no-turn q = same-answers q
+  free-reached {s = s} answers (turn v low row more) q =
+      and-more answers (step ed bytes s v .answer) _ (free-reached (answers ++ (step ed bytes s v .answer ∷ [])) more (stepped q v))
+
+  -- a dispatch
+  dispatch-on-reached :
+      {answers : List StepSaid} {s : Lent} {marks list : List ℕ} {budget : ℕ} {steps : List (ℕ × StepSaid)} {o : dispatching.Outcome}
+      → Reached ed bytes s₀ answers s → OnlyFreeSteps ed bytes s marks list budget steps o
+      → Reached ed bytes s₀ (answers ++ answersAlong steps) (o .after)
+  unfolding answersAlong
+  dispatch-on-reached q (tables-refused h empty e) = rw (empty, e) (same-answers q)
+  dispatch-on-reached q (marks-refused h short empty e) = rw (empty, e) (same-answers q)
+  dispatch-on-reached {answers} q (dispatch-steps h enough free number le looks counted) = free-reached answers free q
+
   -- a call
   call-reached :
       {answers : List StepSaid} (s : Lent) (c : Call) → Reached ed bytes s₀ answers s
@@ -81,12 +105,18 @@ module _ (ed : Edition) (bytes : List ℕ) (s₀ : Lent) where
   unfolding callAnswers callLeaves run
   call-reached s (a-step v) q = stepped q v
   call-reached s (a-run budget) q = run-on-reached budget s q (steppable s)
+  call-reached s (a-dispatch marks list budget) q = dispatch-on-reached q (dispatch-ran ed bytes s marks list budget)
 
   pub run-reached :
       {answers : List StepSaid} (s : Lent) (budget : ℕ) → Reached ed bytes s₀ answers s
       → Reached ed bytes s₀ (answers ++ callAnswers ed bytes s (a-run budget)) (run ed bytes s budget .after)
   unfolding callLeaves
   run-reached s budget q = call-reached s (a-run budget) q
+
+  pub dispatch-reached :
+      {answers : List StepSaid} (s : Lent) (marks list : List ℕ) (budget : ℕ) → Reached ed bytes s₀ answers s
+      → Reached ed bytes s₀ (answers ++ dispatchAnswers ed bytes s marks list budget) (dispatch ed bytes s marks list budget .after)
+  dispatch-reached s marks list budget q = dispatch-on-reached q (dispatch-ran ed bytes s marks list budget)
 
   -- a list of calls, from what was reached
   pub calls-reached :
@@ -196,3 +226,43 @@ run-stands ed bytes s budget = go (steppable s) refl (run-ran ed bytes s budget)
           refused-none = λ n p e. absurd (not-refused n p h ran e);
         }
     go false h ran = stands-none (refused unsound-tables 0) s
+
+-- the steps that a dispatch takes are accepted
+free-accepted :
+    {ed : Edition} {bytes : List ℕ} {s s' : Lent} {d d' : Desk} {steps : List (ℕ × StepSaid)} → FreeSteps ed bytes s d steps s' d'
+    → AllAccepted (answersAlong steps)
+unfolding AllAccepted answersAlong
+free-accepted no-turn = tt
+free-accepted (turn v low row more) = (low .can, free-accepted more)
+
+-- no step at all, and as many answers as steps
+none-stand :
+    (e : dispatching.Ending) (s : Lent) (marks list : List ℕ)
+    → DispatchStandsAs (answersAlong []) s marks list (dispatching.ended e 0 s (desk marks list 0))
+unfolding AllAccepted answersAlong
+none-stand e s marks list = record { all-accepted = tt; their-number = refl; refused-none = λ n p q. (refl, refl, refl) }
+
+answers-number : (steps : List (ℕ × StepSaid)) → length steps ≡ length (answersAlong steps)
+unfolding answersAlong
+answers-number steps = sym (length-map steps (λ x. x .1))
+
+-- A dispatch stands in a list as the steps that it makes, likewise: all are accepted, and it answers their number. A refused one makes none, and
+-- leaves what is lent, the marks and the list as they were.
+pub dispatch-stands :
+    (ed : Edition) (bytes : List ℕ) (s : Lent) (marks list : List ℕ) (budget : ℕ)
+    → DispatchStandsAs (dispatchAnswers ed bytes s marks list budget) s marks list (dispatch ed bytes s marks list budget)
+dispatch-stands ed bytes s marks list budget = go (dispatch-ran ed bytes s marks list budget)
+  where
+    go :
+        {steps : List (ℕ × StepSaid)} {o : dispatching.Outcome} → OnlyFreeSteps ed bytes s marks list budget steps o
+        → DispatchStandsAs (answersAlong steps) s marks list o
+    go (tables-refused h empty e) = rw (empty, e) (none-stand (dispatching.refused unsound-tables 0) s marks list)
+    go (marks-refused h short empty e) = rw (empty, e) (none-stand (dispatching.refused busy-table-too-short 0) s marks list)
+    go {steps} {o} (dispatch-steps h enough free number le looks counted) =
+        record {
+          all-accepted = free-accepted free;
+          their-number = number ∙ answers-number steps;
+          refused-none =
+              λ n p e.
+              absurd (subst (λ (x : dispatching.Ending). DispatchLooks ed bytes budget (o .taken) (o .after) (o .handed-out) x) e looks);
+        }

@@ -11,7 +11,7 @@ use native.Mathlib.Omega.{arith}
 use lib.Dec.{ltb}
 use lib.ListN.{length}
 use borrow.Author.Tests.{lt-ltb, ltb-true, ltb-false}
-use Rattle.graph.specs.Tables.{Lent}
+use Rattle.graph.specs.Tables.{Lent, vertexRows}
 use Rattle.graph.specs.Paths.{CycleFree, more, holds}
 use Rattle.graph.specs.Answers.{Outcome}
 use Rattle.graph.proofs.TestLaws.{true-false, both-true}
@@ -28,14 +28,17 @@ use Rattle.machine.specs.Answers as said
 use Rattle.machine.specs.Ahead.{Ahead}
 use Rattle.machine.specs.Stepping.{steppable, stepLimit, step}
 use Rattle.machine.specs.Running.{canStep, done, spent, RunOutcome, run}
+use Rattle.machine.specs.Dispatching.{waiting, full, dispatch}
+use Rattle.machine.specs.Dispatching as dispatching
 use Rattle.machine.specs.Reached.{Reached, begun, stepped}
 use Rattle.machine.specs.Demand3.{acceptedIn, ranIn, Written, Throughout, Demand3}
-use Rattle.machine.proofs.Calls.{run-reached}
+use Rattle.machine.proofs.Calls.{run-reached, dispatch-reached}
 use Rattle.machine.proofs.LoadLaws.{load-exact}
 use Rattle.machine.proofs.RunDemand2.{run-ran}
+use Rattle.machine.proofs.DispatchDemand2.{dispatch-ran, dispatch-rises}
 use Rattle.machine.proofs.AheadIsPre.{ahead-pre}
 use Rattle.machine.proofs.AheadUnique.{pre-jobs}
-use Rattle.machine.proofs.GhostMachine.Ghost.{Control, draft, fresh, ready, busy, joining, over, State, Event}
+use Rattle.machine.proofs.GhostMachine.Ghost.{Control, draft, fresh, ready, busy, joining, over, Setting, State, Event}
 use Rattle.machine.proofs.GhostMachine.Invariant.{Shape, isNew}
 use Rattle.machine.proofs.GhostMachine.GhostLaws.{clash, ready-old, busy-old, joining-old}
 use Rattle.machine.proofs.GhostMachine.Acyclic.{cycle-free}
@@ -51,7 +54,8 @@ use Rattle.machine.proofs.TablesFollow.Follows.{settingOf, Refuses, abs
 use Rattle.machine.proofs.TablesFollow.Follows.{says-edge, says-release, says-transfer, says-job, says-stop, says-yield, Followed}
 use Rattle.machine.proofs.TablesFollow.Follows.{refused, moved}
 use Rattle.machine.proofs.TablesFollow.Tracked.{Tracked, opens-located, answers-accepted, stepped-as, room-steps, rows-lent, tracked}
-use Rattle.machine.proofs.TablesFollow.RunEnds.{Ends, ends-done, ends-spent, run-ends}
+use Rattle.machine.proofs.TablesFollow.RunEnds.{Ends, ends-done, ends-spent, run-ends, DispatchEnds, at-full-count, before-it}
+use Rattle.machine.proofs.TablesFollow.RunEnds.{too-few-marks, dispatch-ends}
 
 -- no path of held edges closes
 acyclic :
@@ -93,8 +97,15 @@ free-taken shape (at-code e) (is-over lt h) = clash cc
 free-taken shape (at-work e) (is-over lt h) = clash cc
 free-taken shape (unblocked e none) (is-over lt h) = clash cc
 
+-- so its step is accepted
+pub free-follows :
+    {p : Code} {Γ : Setting} {s : Lent} {S : State} {v : ℕ} {o : Outcome StepSaid} → Shape S → Free S v → Followed p Γ s S v o
+    → accepted (o .answer) ≡ true
+free-follows shape f (refused n why e) = absurd (free-taken shape f why)
+free-follows shape f (moved e S' m f' says tally) = answers-accepted says
+
 -- a vertex that answers a job stands at it
-answers-at :
+pub answers-at :
     {S : State} {v n o : ℕ} {e : Event} {a : StepSaid} → Answers S v e a → a ≡ said.job n o
     → (r : Code) × (S .control v ≡ busy (job-at o n r) [])
 answers-at says-start h = clash cc
@@ -132,11 +143,7 @@ module _ (ed : Edition) (bytes : List ℕ) (t : Body) {s₀ : Lent} {answers : L
 
     -- a vertex that can move on can step
     pub free-steps : (v : ℕ) → Free (T .state) v → canStep ed bytes s v ≡ true
-    free-steps v f = go (step ed bytes s v) (seen v)
-      where
-        go : (o : Outcome StepSaid) → Followed (located t) (settingOf ed bytes) s (T .state) v o → accepted (o .answer) ≡ true
-        go o (refused n why e) = absurd (free-taken (T .inv .shape) f why)
-        go o (moved e S' m f' says tally) = answers-accepted says
+    free-steps v f = free-follows (T .inv .shape) f (seen v)
 
     -- where steps are left, some vertex is not over
     live : acceptedIn answers < stepFormula ed (counts t) → (v : ℕ) × (T .state .control v ≡ over → ⊥)
@@ -246,16 +253,32 @@ none-left ed bytes t {s₀} {answers} {s} r q none = go (ltb (acceptedIn answers
         let ge : stepFormula ed (counts t) ≤ acceptedIn answers = ltb-false (acceptedIn answers) (stepFormula ed (counts t)) e in
         omega (arith, ge, U .accepted-are, U .steps-are, steps-bound t (settingOf ed bytes) (U .runs), steps-formula ed t)
 
+-- 12 finds nothing here
+fit :
+    (ed : Edition) (bytes : List ℕ) (t : Body) {s₀ : Lent} {answers : List StepSaid} {s : Lent} → reading ed bytes ≡ program t
+    → Reached ed bytes s₀ answers s → steppable s ≡ true
+unfolding steppable
+fit ed bytes t {s₀} {s = s} r q =
+    let U = tracked ed bytes t r q in
+    both-true (U .follows .sound-is) (lt-ltb (s .steps) stepLimit (room-steps ed bytes t s₀ r (rows-lent ed bytes t r q) U 0))
+
 -- how a run ends from here
 ends :
     (ed : Edition) (bytes : List ℕ) (t : Body) {s₀ : Lent} {answers : List StepSaid} {s : Lent} → reading ed bytes ≡ program t
     → Reached ed bytes s₀ answers s → (budget : ℕ) → Ends ed t s (run ed bytes s budget)
-unfolding steppable
 ends ed bytes t {s₀} {s = s} r q budget =
-    let U = tracked ed bytes t r q in
     let q' = run-reached ed bytes s₀ s budget q in
-    let fit = both-true (U .follows .sound-is) (lt-ltb (s .steps) stepLimit (room-steps ed bytes t s₀ r (rows-lent ed bytes t r q) U 0)) in
-    run-ends (run ed bytes s budget) fit (run-ran ed bytes s budget) (tracked ed bytes t r q') (none-left ed bytes t r q')
+    run-ends (run ed bytes s budget) (fit ed bytes t r q) (run-ran ed bytes s budget) (tracked ed bytes t r q') (none-left ed bytes t r q')
+
+-- and how a dispatch does
+dispatched :
+    (ed : Edition) (bytes : List ℕ) (t : Body) {s₀ : Lent} {answers : List StepSaid} {s : Lent} → reading ed bytes ≡ program t
+    → Reached ed bytes s₀ answers s → (marks list : List ℕ) (budget : ℕ) → DispatchEnds ed t marks s (dispatch ed bytes s marks list budget)
+dispatched ed bytes t {s₀} {s = s} r q marks list budget =
+    let q' = dispatch-reached ed bytes s₀ s marks list budget q in
+    dispatch-ends (dispatch ed bytes s marks list budget) (fit ed bytes t r q) (dispatch-ran ed bytes s marks list budget)
+    (tracked ed bytes t r q')
+    (none-left ed bytes t r q')
 
 -- after loading and after every step
 never :
@@ -280,6 +303,34 @@ rises : {ed : Edition} {t : Body} {s : Lent} {o : RunOutcome} → Ends ed t s o 
 rises (ends-done e f c) = c
 rises (ends-spent e f c) = c
 
+-- what a dispatch's end says
+module _ {ed : Edition} {t : Body} {marks : List ℕ} {s : Lent} {o : dispatching.Outcome} where
+  dispatched-full :
+      DispatchEnds ed t marks s o → vertexRows (s .vertices) ≤ length marks
+      → (o .ending ≡ dispatching.done) ↔ (o .after .steps ≡ stepFormula ed (counts t))
+  dispatched-full (at-full-count e f) enough = (λ h. f, λ h. e)
+  dispatched-full (before-it e f) enough = (λ h. absurd (not-done e h), λ h. absurd (f h))
+    where
+      not-done : (o .ending ≡ waiting) ⊎ ((o .ending ≡ full) ⊎ (o .ending ≡ dispatching.spent)) → o .ending ≡ dispatching.done → ⊥
+      not-done (inl e) h = clash cc
+      not-done (inr (inl e)) h = clash cc
+      not-done (inr (inr e)) h = clash cc
+  dispatched-full (too-few-marks short e) enough = absurd (omega arith)
+
+  dispatched-else :
+      DispatchEnds ed t marks s o → vertexRows (s .vertices) ≤ length marks → (o .ending ≡ dispatching.done → ⊥)
+      → (o .ending ≡ waiting) ⊎ ((o .ending ≡ full) ⊎ (o .ending ≡ dispatching.spent))
+  dispatched-else (at-full-count e f) enough h = absurd (h e)
+  dispatched-else (before-it e f) enough h = e
+  dispatched-else (too-few-marks short e) enough h = absurd (omega arith)
+
+  not-stuck : DispatchEnds ed t marks s o → o .ending ≡ dispatching.stuck → ⊥
+  not-stuck (at-full-count e f) h = clash cc
+  not-stuck (before-it (inl e) f) h = clash cc
+  not-stuck (before-it (inr (inl e)) f) h = clash cc
+  not-stuck (before-it (inr (inr e)) f) h = clash cc
+  not-stuck (too-few-marks short e) h = clash cc
+
 -- in every list of answers
 ordered :
     (ed : Edition) (bytes : List ℕ) (t : Body) {s₀ : Lent} {answers : List StepSaid} {s : Lent} → reading ed bytes ≡ program t
@@ -301,7 +352,7 @@ ordered ed bytes t r (stepped {answers} {s} q v) before after n o p e a =
 pub demand3 :
     (ed : Edition) (bytes : List ℕ) (t : Body) {s₀ : Lent} {answers : List StepSaid} {s : Lent} → reading ed bytes ≡ program t
     → (q : Reached ed bytes s₀ answers s) → Demand3 ed bytes t q
-demand3 ed bytes t {answers} r q =
+demand3 ed bytes t {s = s} r q =
     let U = tracked ed bytes t r q in
     record {
       at-most = omega (arith, U .accepted-are, steps-bound t (settingOf ed bytes) (U .runs), steps-formula ed t);
@@ -317,6 +368,10 @@ demand3 ed bytes t {answers} r q =
       run-done = λ budget. done-full (ends ed bytes t r q budget);
       run-else = λ budget. else-spent (ends ed bytes t r q budget);
       run-counts = λ budget. rises (ends ed bytes t r q budget);
+      dispatch-done = λ marks list budget. dispatched-full (dispatched ed bytes t r q marks list budget);
+      dispatch-else = λ marks list budget. dispatched-else (dispatched ed bytes t r q marks list budget);
+      never-stuck = λ marks list budget. not-stuck (dispatched ed bytes t r q marks list budget);
+      dispatch-counts = λ marks list budget. dispatch-rises ed bytes s marks list budget;
     }
 
 -- What was loaded has a tree.

@@ -6,10 +6,13 @@
 --     Demand3         demand 3, of whatever is reached from an accepted loading
 --     Traces          demand 3 of every list of calls, and of every trace of an engine, which is the plain machine's
 --     FairOrders      every fair order of the jobs can happen, and no other (note 7)
---     Calls           a list of calls, runs among them, reaches what its steps reach; what a run answers of these steps
+--     NothingWaits    for a host that runs jobs on threads, nothing waits needlessly: a job that was not handed out waits for a running one
+--     Calls           a list of calls, runs and dispatches among them, reaches what its steps reach; what these two answer of their steps
 --     LoadLaws        demand 2 of loading: what is accepted, that a refusal changes nothing, and that no word past the usable rows changes
 --     StepDemand2     demand 2 of a step: it is what is due, taken where its command is
 --     RunDemand2      demand 2 of a run: only such steps, and how it ends
+--     DispatchDemand2 demand 2 of a dispatch: only such steps, each of the lowest vertex that is not busy, and how it ends
+--     HandedOut       what a dispatch hands out, which marks it sets, and that it leaves busy vertices alone
 --     LookLaws        a run turn by turn: what its steps keep, which vertex it finds, which cannot step, and what each look comes to
 --     InCounts        the words that start reads are true in whatever is reached, so it answers there as the full search would
 --     Examples        the examples of the table hold
@@ -28,10 +31,13 @@
 pub mod Demand3
 pub mod Traces
 pub mod FairOrders
+pub mod NothingWaits
 pub mod Calls
 pub mod LoadLaws
 pub mod StepDemand2
 pub mod RunDemand2
+pub mod DispatchDemand2
+pub mod HandedOut
 pub mod LookLaws
 pub mod InCounts
 pub mod Examples

@@ -3,6 +3,7 @@
 --
 --     step-sound      a step leaves sound tables sound
 --     step-true       and true in-counts true, on any tables
+--     step-else       and the own words of every other vertex, on any tables
 --     idle-cannot     a vertex that does not execute can step only if it is released, and its word says that no edge leads into it
 --     lowest-none     a look finds none where none can step
 --     lowest-is       it finds the one that can, below which none can
@@ -32,13 +33,14 @@ use Rattle.graph.proofs.LowestLaws.{found-is, none-is}
 use Rattle.graph.proofs.SoundLaws.{Known, sound-tally, sound-fits, fits-sound}
 use Rattle.graph.proofs.Demand2.{stays-sound}
 use Rattle.graph.proofs.InCounts.{stays-true, same-counts}
+use Rattle.graph.proofs.TakenLaws.{after-either}
 use Rattle.program.specs.declared.Edition.{Edition}
 use Rattle.refusal.specs.Refusals.{unsound-tables}
 use Rattle.machine.specs.Answers.{StepSaid, accepted}
-use Rattle.machine.specs.Stepping.{stepLimit, steppable, Own, Due, refusal-due, job-due, command-due, due, doDue, step}
+use Rattle.machine.specs.Stepping.{stepLimit, steppable, Own, ownOf, Due, refusal-due, job-due, command-due, due, doDue, step}
 use Rattle.machine.specs.Running.{canStep, lowest, allFinished, done, stuck, spent, refused, RunOutcome, ended, look, runOn, run}
 use Rattle.machine.specs.Demand2.{Adds, Does}
-use Rattle.machine.proofs.TablesFollow.OwnLaws.{status-not-own, count-not-own}
+use Rattle.machine.proofs.TablesFollow.OwnLaws.{status-not-own, count-not-own, leaves-own, leaves-made, adds-own}
 use Rattle.machine.proofs.TablesFollow.AnswerLaws.{if-passed}
 use Rattle.machine.proofs.TablesFollow.StepLaws.{step-is, due-other, due-new, due-over}
 use Rattle.machine.proofs.StepDemand2.{can-ready, step-does, blocked-step}
@@ -94,6 +96,17 @@ step-true ed bytes s v true-before =
     does-keep (λ s'. CountsTrue s') s v (step ed bytes s v) (due ed bytes s v) (step-does ed bytes s v) true-before
     (λ c. stays-true c s true-before)
     (adds-true v)
+
+-- A step of u leaves the own words of every other made vertex, on any tables.
+pub step-else :
+    (ed : Edition) (bytes : List ℕ) (s : Lent) (u v : ℕ) → (v ≡ u → ⊥) → v < s .made
+    → (v < step ed bytes s u .after .made) × (ownOf (step ed bytes s u .after) v ≡ ownOf s v)
+step-else ed bytes s u v other lt =
+    does-keep (λ s'. (v < s' .made) × (ownOf s' v ≡ ownOf s v)) s u (step ed bytes s u) (due ed bytes s u) (step-does ed bytes s u) (lt, refl)
+    (λ c.
+    after-either (λ s'. (v < s' .made) × (ownOf s' v ≡ ownOf s v)) c s (lt, refl)
+    (λ h. (omega (arith, lt, leaves-made c s), leaves-own c s v lt)))
+    (λ w left after a (l, e). (subst (λ (n : ℕ). v < n) (sym (a .same-made)) l, adds-own v u w left after other a ∙ e))
 
 -- where a vertex that is not released can step, 12 found nothing at all
 can-steppable :

@@ -28,7 +28,7 @@ pub finished-all : (s : Lent) → allFinished s ≡ true → AllFinished s
 unfolding allFinished
 finished-all s h v lt = eqb-true (status (s .vertices) v) FINISHED (every-at (λ v. hasStatus s v FINISHED) (s .made) h v lt)
 
-finished-not : (s : Lent) → allFinished s ≡ false → AllFinished s → ⊥
+pub finished-not : (s : Lent) → allFinished s ≡ false → AllFinished s → ⊥
 unfolding allFinished
 finished-not s h all =
     true-false (every-all (λ v. hasStatus s v FINISHED) (s .made) (λ v lt. eq-eqb (status (s .vertices) v) FINISHED (all v lt))) h

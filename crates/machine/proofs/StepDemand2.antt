@@ -56,7 +56,7 @@ use Rattle.machine.proofs.TablesFollow.OwnLaws.{own-adds}
 use Rattle.machine.proofs.TablesFollow.StepLaws.{step-is, start-due, due-start}
 
 -- a step says that it is accepted where its command does
-said-accepted : (a : of-graph.CommandSaid) → accepted (saidAs a) ≡ of-graph.accepted a
+pub said-accepted : (a : of-graph.CommandSaid) → accepted (saidAs a) ≡ of-graph.accepted a
 said-accepted of-graph.start = refl
 said-accepted (of-graph.new v) = refl
 said-accepted (of-graph.edge a b) = refl

@@ -1,4 +1,4 @@
--- Demand 3 of every list of calls, runs among them and the empty one too, and of every trace of an engine, which is the plain machine's.
+-- Demand 3 of every list of calls, runs and dispatches among them and the empty one too, and of every trace of an engine, which is the plain machine's.
 use Prim.Native.Nat.{ℕ}
 use mathlib.Core.Path.{_≡_, refl, sym, _∙_, ap, subst}
 use mathlib.Core.Bool.{true}
@@ -10,11 +10,12 @@ use Rattle.program.specs.Reader.{reading, program}
 use Rattle.machine.specs.Answers.{StepSaid, isLoaded}
 use Rattle.machine.specs.Loading.{load}
 use Rattle.machine.specs.Stepping.{step}
-use Rattle.machine.specs.Reached.{Reached, begun, stepped, Call, a-step, a-run, callAnswers, callLeaves, answersOf, leavesOf}
+use Rattle.machine.specs.Reached.{Reached, begun, stepped, Call, a-step, a-run, a-dispatch, dispatchAnswers, callAnswers, callLeaves}
+use Rattle.machine.specs.Reached.{answersOf, leavesOf}
 use Rattle.machine.specs.Demand3.{Demand3}
-use Rattle.machine.specs.Traces.{Trace, load-first, then-step, then-run}
+use Rattle.machine.specs.Traces.{Trace, load-first, then-step, then-run, then-dispatch}
 use Rattle.machine.proofs.Demand3.{demand3, reached-program}
-use Rattle.machine.proofs.Calls.{answers-snoc, leaves-snoc, run-reached, calls-reached}
+use Rattle.machine.proofs.Calls.{answers-snoc, leaves-snoc, run-reached, dispatch-reached, calls-reached}
 
 -- its loading was accepted
 pub trace-loaded :
@@ -23,6 +24,7 @@ pub trace-loaded :
 trace-loaded (load-first l h) = sym (ap isLoaded (l .says)) ∙ h
 trace-loaded (then-step v answer tr l) = trace-loaded tr
 trace-loaded (then-run budget ending last taken tr l) = trace-loaded tr
+trace-loaded (then-dispatch marks list budget ending taken marks' list' handed tr l) = trace-loaded tr
 
 -- what a list of calls answers and leaves, and one call more
 one-more :
@@ -36,6 +38,7 @@ one-more ed bytes s cs c e f m l =
 pub trace-reached :
     {ed : Edition} {bytes : List ℕ} {s₀ : Lent} {cs : List Call} {answers : List StepSaid} {s : Lent} → Trace ed bytes s₀ cs answers s
     → Reached ed bytes s₀ answers s
+unfolding callAnswers
 trace-reached {ed} {bytes} {s₀} (load-first l h) =
     subst (λ (s : Lent). Reached ed bytes s₀ [] s) (sym (l .leaves)) (begun (trace-loaded (load-first l h)))
 trace-reached {ed} {bytes} {s₀} (then-step {answers = answers} {s} {s'} v answer tr l) =
@@ -45,6 +48,9 @@ trace-reached {ed} {bytes} {s₀} (then-step {answers = answers} {s} {s'} v answ
 trace-reached {ed} {bytes} {s₀} (then-run {answers = answers} {s} {s'} budget ending last taken tr l) =
     subst (λ (x : Lent). Reached ed bytes s₀ (answers ++ callAnswers ed bytes s (a-run budget)) x) (sym (l .leaves))
     (run-reached ed bytes s₀ s budget (trace-reached tr))
+trace-reached {ed} {bytes} {s₀} (then-dispatch {answers = answers} {s} marks list budget ending taken marks' list' handed tr l) =
+    subst (λ (x : Lent). Reached ed bytes s₀ (answers ++ dispatchAnswers ed bytes s marks list budget) x) (sym (l .leaves))
+    (dispatch-reached ed bytes s₀ s marks list budget (trace-reached tr))
 
 -- Its answers are those of its calls, and so is what it leaves.
 pub trace-answers :
@@ -58,6 +64,9 @@ trace-answers {ed} {bytes} {s₀} (then-step {cs} {answers} {s} v answer tr l) =
 trace-answers {ed} {bytes} {s₀} (then-run {cs} {answers} {s} budget ending last taken tr l) =
     let (e, f) = trace-answers tr in
     one-more ed bytes (load ed bytes s₀ .after) cs (a-run budget) e f refl (l .leaves)
+trace-answers {ed} {bytes} {s₀} (then-dispatch {cs} {answers} {s} marks list budget ending taken marks' list' handed tr l) =
+    let (e, f) = trace-answers tr in
+    one-more ed bytes (load ed bytes s₀ .after) cs (a-dispatch marks list budget) e f refl (l .leaves)
 
 -- Demand 3 of every trace.
 pub trace-demand3 :

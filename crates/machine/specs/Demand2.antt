@@ -1,16 +1,18 @@
--- The words in which demand 2 is stated of loading, of steps and of runs: "A step of a loaded program is the next command of the published
--- encoding, taken where that command is, a run only such steps, and the reader takes exactly the programs of document 01's form, as
--- loading does where the rows they need are lent" (docs/ENGINE.md, "The three demands"; the form is its "Program bytes"). The
--- theorems are in proofs/LoadLaws.antt, StepDemand2.antt and RunDemand2.antt.
+-- The words in which demand 2 is stated of loading, of steps, of runs and of dispatch: "A step of a loaded program is the next command of the
+-- published encoding, taken where that command is, a run only such steps, and the reader takes exactly the programs of document 01's form, as
+-- loading does where the rows they need are lent" (docs/ENGINE.md, "The three demands"; the form is its "Program bytes"). A dispatch is only such
+-- steps, too. The theorems are in proofs/LoadLaws.antt, StepDemand2.antt, RunDemand2.antt and DispatchDemand2.antt.
 use Prim.Native.Nat.{ℕ, suc, _+_, _*_, _<_, _≤_}
 use mathlib.Core.Path.{_≡_}
 use mathlib.Core.Logic.{_⊎_}
 use mathlib.Core.Bool.{true, false}
-use mathlib.Core.List.{List}
+use mathlib.Core.List.{List, [], _∷_}
 use mathlib.Core.Option.{Option, none, some}
+use lib.ListN.{length}
 use Rattle.graph.specs.Tables.{Lent, FINISHED, vertexWords, placeWord, phaseWord, madeWord, futureWord, vertexRows, edgeRows, status}
 use Rattle.refusal.specs.Refusals.{no-such-vertex, vertex-is-new, vertex-is-finished, number-malformed, job-too-large}
 use Rattle.refusal.specs.Refusals.{too-few-vertex-rows, too-few-edge-rows, unsound-tables, nothing-starts, no-such-future}
+use Rattle.refusal.specs.Refusals.{busy-table-too-short}
 use Rattle.graph.specs.Answers as of-graph
 use Rattle.graph.specs.Commands.{command}
 use Rattle.graph.specs.Demand2.{graph, SameBut}
@@ -23,6 +25,8 @@ use Rattle.program.specs.Reader.{program, refusal, reading}
 use Rattle.machine.specs.Answers.{StepSaid, accepted, refuse, saidAs}
 use Rattle.machine.specs.Stepping.{steppable, Own, ownOf, Due, refusal-due, job-due, command-due, due, step}
 use Rattle.machine.specs.Running.{canStep, Ending, done, stuck, spent, refused, RunOutcome, ended}
+use Rattle.machine.specs.Dispatching.{isBusy, Desk, desk, marksOf, listOf, handedOf, room, handOut}
+use Rattle.machine.specs.Dispatching as dispatching
 
 -- LOADING
 -- "where the rows they need are lent"
@@ -115,3 +119,49 @@ pub data OnlySuchSteps (ed : Edition) (bytes : List ℕ) (s : Lent) (budget : �
   run-steps :
       steppable s ≡ true → Steps ed bytes s (o .taken) (o .last) (o .after) → o .taken ≤ budget
       → Looks ed bytes budget (o .taken) (o .after) (o .ending) → o .after .steps ≡ s .steps + o .taken → OnlySuchSteps ed bytes s budget o
+
+-- DISPATCH
+-- "the lowest vertex that can step and is not busy"
+pub record LowestFree (ed : Edition) (bytes : List ℕ) (s : Lent) (marks : List ℕ) (v : ℕ) : Type 0 where
+  pub can : canStep ed bytes s v ≡ true
+  pub not-busy : isBusy marks v ≡ false
+  pub none-lower : (u : ℕ) → u < v → canStep ed bytes s u ≡ true → isBusy marks u ≡ true
+
+-- Steps from s with the marks and the list of d, the vertices that they name and their answers: each is of the lowest such vertex of its time, and
+-- the list has a row left before it. They leave s' and d'.
+pub data FreeSteps (ed : Edition) (bytes : List ℕ) : Lent → Desk → List (ℕ × StepSaid) → Lent → Desk → Type 0 where
+  no-turn : {s : Lent} {d : Desk} → FreeSteps ed bytes s d [] s d
+  turn :
+      {s s' : Lent} {d d' : Desk} {steps : List (ℕ × StepSaid)} (v : ℕ) → LowestFree ed bytes s (marksOf d) v
+      → handedOf d < room (listOf d)
+      → FreeSteps ed bytes (step ed bytes s v .after) (handOut v (step ed bytes s v .answer) d) steps s' d'
+      → FreeSteps ed bytes s d ((v, step ed bytes s v .answer) ∷ steps) s' d'
+
+-- "it ends when the list is full, only busy vertices could step (waiting), all are finished (done), none can step (stuck) or the budget is used
+-- (spent)"
+abbrev pub DispatchLooks : Edition → List ℕ → ℕ → ℕ → Lent → Desk → dispatching.Ending → Type 0
+DispatchLooks ed bytes budget taken s d dispatching.done = AllFinished s
+DispatchLooks ed bytes budget taken s d dispatching.stuck = (AllFinished s → ⊥) × ((v : ℕ) → canStep ed bytes s v ≡ false)
+DispatchLooks ed bytes budget taken s d dispatching.waiting =
+    (AllFinished s → ⊥) × ((v : ℕ) × (canStep ed bytes s v ≡ true))
+    × ((v : ℕ) → canStep ed bytes s v ≡ true → isBusy (marksOf d) v ≡ true)
+DispatchLooks ed bytes budget taken s d dispatching.full =
+    (AllFinished s → ⊥) × ((v : ℕ) × LowestFree ed bytes s (marksOf d) v) × (room (listOf d) ≤ handedOf d)
+DispatchLooks ed bytes budget taken s d dispatching.spent =
+    (AllFinished s → ⊥) × ((v : ℕ) × LowestFree ed bytes s (marksOf d) v) × (handedOf d < room (listOf d)) × (taken ≡ budget)
+DispatchLooks ed bytes budget taken s d (dispatching.refused n p) = ⊥
+
+-- a dispatch's outcome: refused by 12 or 44, or such steps
+pub data OnlyFreeSteps (ed : Edition) (bytes : List ℕ) (s : Lent) (marks list : List ℕ) (budget : ℕ) (steps : List (ℕ × StepSaid)) (o : dispatching.Outcome) : Type 0 where
+  tables-refused :
+      steppable s ≡ false → steps ≡ [] → o ≡ dispatching.ended (dispatching.refused unsound-tables 0) 0 s (desk marks list 0)
+      → OnlyFreeSteps ed bytes s marks list budget steps o
+  marks-refused :
+      steppable s ≡ true → length marks < vertexRows (s .vertices) → steps ≡ []
+      → o ≡ dispatching.ended (dispatching.refused busy-table-too-short 0) 0 s (desk marks list 0)
+      → OnlyFreeSteps ed bytes s marks list budget steps o
+  dispatch-steps :
+      steppable s ≡ true → vertexRows (s .vertices) ≤ length marks
+      → FreeSteps ed bytes s (desk marks list 0) steps (o .after) (o .handed-out) → o .taken ≡ length steps → o .taken ≤ budget
+      → DispatchLooks ed bytes budget (o .taken) (o .after) (o .handed-out) (o .ending) → o .after .steps ≡ s .steps + o .taken
+      → OnlyFreeSteps ed bytes s marks list budget steps o

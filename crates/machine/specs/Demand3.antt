@@ -6,7 +6,8 @@ use mathlib.Core.Logic.{_⊎_, _↔_}
 use mathlib.Core.List.{List, [], _∷_, _++_}
 use mathlib.Core.Option.{some}
 use lib.Dec.{eqb}
-use Rattle.graph.specs.Tables.{Lent}
+use lib.ListN.{length}
+use Rattle.graph.specs.Tables.{Lent, vertexRows}
 use Rattle.refusal.specs.Refusals.{no-such-vertex, edge-leads-in, vertex-is-new, vertex-is-finished}
 use Rattle.graph.specs.Paths.{CycleFree, holds}
 use Rattle.program.specs.Trees.{Body, counts}
@@ -17,6 +18,8 @@ use Rattle.machine.specs.Answers.{StepSaid, accepted, start, new, edge, 
 use Rattle.machine.specs.Loading.{load}
 use Rattle.machine.specs.Stepping.{step}
 use Rattle.machine.specs.Running.{canStep, done, spent, run}
+use Rattle.machine.specs.Dispatching.{waiting, full, dispatch}
+use Rattle.machine.specs.Dispatching as dispatching
 use Rattle.machine.specs.Reached.{Reached, begun, stepped}
 use Rattle.machine.specs.Ahead.{Ahead}
 
@@ -87,3 +90,18 @@ pub record Demand3 (ed : Edition) (bytes : List ℕ) (t : Body) {s₀ : Lent} {a
   pub run-done : (budget : ℕ) → (run ed bytes s budget .ending ≡ done) ↔ (run ed bytes s budget .after .steps ≡ stepFormula ed (counts t))
   pub run-else : (budget : ℕ) → (run ed bytes s budget .ending ≡ done → ⊥) → run ed bytes s budget .ending ≡ spent
   pub run-counts : (budget : ℕ) → run ed bytes s budget .after .steps ≡ s .steps + run ed bytes s budget .taken
+  -- A dispatch with enough marks answers done exactly when the full count is then reached, otherwise waiting, full or spent; none is ever stuck, and
+  -- its steps are the tally's rise.
+  pub dispatch-done :
+      (marks list : List ℕ) (budget : ℕ) → vertexRows (s .vertices) ≤ length marks
+      → (dispatch ed bytes s marks list budget .ending ≡ dispatching.done)
+      ↔ (dispatch ed bytes s marks list budget .after .steps ≡ stepFormula ed (counts t))
+  pub dispatch-else :
+      (marks list : List ℕ) (budget : ℕ) → vertexRows (s .vertices) ≤ length marks
+      → (dispatch ed bytes s marks list budget .ending ≡ dispatching.done → ⊥)
+      → (dispatch ed bytes s marks list budget .ending ≡ waiting)
+      ⊎ ((dispatch ed bytes s marks list budget .ending ≡ full) ⊎ (dispatch ed bytes s marks list budget .ending ≡ dispatching.spent))
+  pub never-stuck : (marks list : List ℕ) (budget : ℕ) → dispatch ed bytes s marks list budget .ending ≡ dispatching.stuck → ⊥
+  pub dispatch-counts :
+      (marks list : List ℕ) (budget : ℕ)
+      → dispatch ed bytes s marks list budget .after .steps ≡ s .steps + dispatch ed bytes s marks list budget .taken

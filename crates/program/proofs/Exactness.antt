@@ -1,7 +1,7 @@
 -- The reader is exact: it accepts the encodings of the trees within all limits, each as its own tree, and nothing else.
 use Prim.Native.Nat.{ℕ, suc}
 use mathlib.Core.Path.{_≡_, sym, ap, _∙_}
-use mathlib.Core.List.{List, [], append-nil}
+use mathlib.Core.List.{List, [], _++_}
 use mathlib.Core.Logic.{_↔_}
 use native.Mathlib.Omega.{arith}
 use Rattle.program.specs.declared.Edition.{Edition}
@@ -31,13 +31,19 @@ reading-exact ed bytes = (
   λ (b, h, e). (b, ap (reading ed) e ∙ reading-complete ed b h),
 )
 
--- No two trees have the same encoding.
-pub encode-unique : (b c : Body) → Fits b → Fits c → encode b ≡ encode c → b ≡ c
-encode-unique b c p q e = let h : took b [] ≡ took c [] = sym (back b p) ∙ ap (body 1 (suc jobLimit)) e ∙ back c q in cc
+-- No bytes begin with the encodings of two trees,
+pub begins-unique :
+    (b c : Body) (rest rest' : List ℕ) → Fits b → Fits c → encode b ++ rest ≡ encode c ++ rest' → b ≡ c
+begins-unique b c rest rest' p q e =
+    let h : took b rest ≡ took c rest' = sym (back b rest p) ∙ ap (body 1 (suc jobLimit)) e ∙ back c rest' q in
+    cc
   where
     -- where every force has its future
-    back : (b : Body) → Fits b → body 1 (suc jobLimit) (encode b) ≡ took b []
-    back b f =
+    back : (b : Body) (rest : List ℕ) → Fits b → body 1 (suc jobLimit) (encode b ++ rest) ≡ took b rest
+    back b rest f =
         let l = f .levels in
-        ap (body 1 (suc jobLimit)) (sym (append-nil (encode b)))
-        ∙ body-complete 1 (suc jobLimit) b [] (f .numbers) (omega arith) (all-open (suc jobLimit) b (f .numbers) (omega arith))
+        body-complete 1 (suc jobLimit) b rest (f .numbers) (omega arith) (all-open (suc jobLimit) b (f .numbers) (omega arith))
+
+-- and no two trees have the same encoding.
+pub encode-unique : (b c : Body) → Fits b → Fits c → encode b ≡ encode c → b ≡ c
+encode-unique b c p q e = begins-unique b c [] [] p q (ap (λ xs. xs ++ []) e)

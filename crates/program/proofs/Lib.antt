@@ -19,6 +19,8 @@
 --     ItemLaws      what the item reader of a step tells at its place, and the reader that it hands back
 --     PlaceLaws     what starts and what stands at a place of a whole program
 --     MarkLaws      marks for the places of a whole program
+--     EndLaws       where the body ends, from each place of a whole program on
+--     EndedLaws     what stands at a place of it, told by ends
 -- The theorems:
 --     Exactness     the reader accepts the encodings of the trees within all limits, each as its own tree, and nothing else
 --     Refusals      what each refusal says of the bytes
@@ -45,6 +47,8 @@ pub mod SkipLaws
 pub mod ItemLaws
 pub mod PlaceLaws
 pub mod MarkLaws
+pub mod EndLaws
+pub mod EndedLaws
 pub mod Exactness
 pub mod Refusals
 pub mod Formulas

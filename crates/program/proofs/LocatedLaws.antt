@@ -16,7 +16,8 @@
 --     code-inner     codeAt m (startOf d) ≡ some d, where Inner c d: d is a body of c's first item (async-body, finish-body, fork-left,
 --                    fork-right, future-body), or what is behind this item (job-rest, async-rest, finish-rest, fork-rest, future-rest,
 --                    force-rest); a force's own body is not inside it
---     code-missing   codeAt m p ≡ none, where p is outside of m
+--     code-same      codeAt m q ≡ codeAt c q, where p ≤ q and q ≤ last c
+--     code-missing   codeAt m p ≡ none, where p is outside of m; code-before the same before its start
 --     item-stands    itemAt ed bytes p ≡ head c, where reading ed bytes ≡ program t and m is located t
 --
 -- `Part m c`, c is m or is anywhere inside, is what these have in common: a search finds parts (code-part), and in laid code it finds
@@ -60,10 +61,11 @@ pub here-later : (o p : ℕ) (c : Code) (x : Option Code) → o < p → here (eq
 unfolding here
 here-later o p c x h = rw (ne-eqb p o (λ q. absurd (omega arith))) refl
 
--- what the first has stands, and where it has nothing, the second counts
-orElse-some : {x : Option Code} {c : Code} (y : Option Code) → x ≡ some c → orElse x y ≡ some c
+-- where the second has nothing, the first counts, and where the first has nothing, the second
+orElse-first : (x : Option Code) {y : Option Code} → y ≡ none → orElse x y ≡ x
 unfolding orElse
-orElse-some y q = rw q refl
+orElse-first none q = q
+orElse-first (some c) q = refl
 
 pub orElse-none : {x : Option Code} (y : Option Code) → x ≡ none → orElse x y ≡ y
 unfolding orElse
@@ -282,7 +284,7 @@ laid-le (future-at o b r) l = omega (arith, l .0 .starts, l .0 .body, l .0 .ends
 laid-le (force-at o n b r) l = omega (arith, l .0 .starts, l .0 .rest)
 
 -- what is inside laid code is laid, and stands behind its start and before its end
-laid-inner : {m d : Code} → Inner m d → Laid m → Laid d × (startOf m < startOf d) × (last d ≤ last m)
+pub laid-inner : {m d : Code} → Inner m d → Laid m → Laid d × (startOf m < startOf d) × (last d ≤ last m)
 unfolding Laid startOf last
 laid-inner job-rest l = (l .1, l .0 .starts, omega arith)
 laid-inner async-body l = (l .1, omega (arith, l .0 .starts), omega (arith, l .0 .ends, l .0 .rest))
@@ -338,37 +340,62 @@ code-missing m p l out = go (codeAt m p) refl
 code-behind : (m : Code) (p : ℕ) → Laid m → last m < p → codeAt m p ≡ none
 code-behind m p l h = code-missing m p l (λ u v. absurd (omega arith))
 
--- what starts inside starts there in the whole
-code-within :
-    {m d c : Code} (p : ℕ) → Inner m d → Laid m → startOf m < p → startOf d ≤ p → codeAt d p ≡ some c → codeAt m p ≡ some c
+-- and before its start
+pub code-before : (m : Code) (p : ℕ) → Laid m → p < startOf m → codeAt m p ≡ none
+code-before m p l h = code-missing m p l (λ u v. absurd (omega arith))
+
+-- of an item with one body: where the body's places are, and where those of the rest are
+body-same :
+    {o : ℕ} {b r : Code} (x : Code) (p : ℕ) → OneBody o b r → Laid r → startOf b ≤ p → p ≤ last b
+    → here (eqb p o) x (orElse (codeAt b p) (codeAt r p)) ≡ codeAt b p
+body-same {r = r} x p one l le ge =
+    here-later _ p _ _ (omega (arith, one .starts)) ∙ orElse-first _ (code-before r p l (omega (arith, one .ends)))
+
+rest-same :
+    {o : ℕ} {b r : Code} (x : Code) (p : ℕ) → OneBody o b r → Laid b → startOf r ≤ p
+    → here (eqb p o) x (orElse (codeAt b p) (codeAt r p)) ≡ codeAt r p
+rest-same {b = b} x p one l le =
+    here-later _ p _ _ (omega (arith, one .starts, one .body, one .ends)) ∙ orElse-none _ (code-behind b p l (omega (arith, one .ends)))
+
+-- where the places of what is right inside are, the whole has what that has
+inner-same : {m d : Code} (p : ℕ) → Inner m d → Laid m → startOf d ≤ p → p ≤ last d → codeAt m p ≡ codeAt d p
 unfolding Laid codeAt startOf
-code-within p job-rest l lt le h = here-later _ p _ _ lt ∙ h
-code-within p async-body l lt le h = here-later _ p _ _ lt ∙ orElse-some _ h
-code-within p (async-rest {b = b}) l lt le h =
-    here-later _ p _ _ lt ∙ orElse-none _ (code-behind b p (l .1) (omega (arith, l .0 .ends))) ∙ h
-code-within p finish-body l lt le h = here-later _ p _ _ lt ∙ orElse-some _ h
-code-within p (finish-rest {b = b}) l lt le h =
-    here-later _ p _ _ lt ∙ orElse-none _ (code-behind b p (l .1) (omega (arith, l .0 .ends))) ∙ h
-code-within p fork-left l lt le h = here-later _ p _ _ lt ∙ orElse-some _ h
-code-within p (fork-right {b = b}) l lt le h =
-    here-later _ p _ _ lt ∙ orElse-none _ (code-behind b p (l .1) (omega (arith, l .0 .between))) ∙ orElse-some _ h
-code-within p (fork-rest {b = b} {c = c}) l lt le h =
-    here-later _ p _ _ lt
+inner-same p job-rest l le ge = here-later _ p _ _ (omega (arith, l .0 .starts))
+inner-same p async-body l le ge = body-same _ p (l .0) (l .2) le ge
+inner-same p async-rest l le ge = rest-same _ p (l .0) (l .1) le
+inner-same p finish-body l le ge = body-same _ p (l .0) (l .2) le ge
+inner-same p finish-rest l le ge = rest-same _ p (l .0) (l .1) le
+inner-same p (fork-left {c = c} {r = r}) l le ge =
+    here-later _ p _ _ (omega (arith, l .0 .starts))
+    ∙ orElse-first _ (orElse-none _ (code-before c p (l .2) (omega (arith, l .0 .between)))
+    ∙ code-before r p (l .3) (omega (arith, l .0 .between, l .0 .right, l .0 .ends)))
+inner-same p (fork-right {b = b} {r = r}) l le ge =
+    here-later _ p _ _ (omega (arith, l .0 .starts, l .0 .left, l .0 .between))
+    ∙ orElse-none _ (code-behind b p (l .1) (omega (arith, l .0 .between)))
+    ∙ orElse-first _ (code-before r p (l .3) (omega (arith, l .0 .ends)))
+inner-same p (fork-rest {b = b} {c = c}) l le ge =
+    here-later _ p _ _ (omega (arith, l .0 .starts, l .0 .left, l .0 .between, l .0 .right, l .0 .ends))
     ∙ orElse-none _ (code-behind b p (l .1) (omega (arith, l .0 .between, l .0 .right, l .0 .ends)))
     ∙ orElse-none _ (code-behind c p (l .2) (omega (arith, l .0 .ends)))
-    ∙ h
-code-within p future-body l lt le h = here-later _ p _ _ lt ∙ orElse-some _ h
-code-within p (future-rest {b = b}) l lt le h =
-    here-later _ p _ _ lt ∙ orElse-none _ (code-behind b p (l .1) (omega (arith, l .0 .ends))) ∙ h
-code-within p force-rest l lt le h = here-later _ p _ _ lt ∙ h
+inner-same p future-body l le ge = body-same _ p (l .0) (l .2) le ge
+inner-same p future-rest l le ge = rest-same _ p (l .0) (l .1) le
+inner-same p force-rest l le ge = here-later _ p _ _ (omega (arith, l .0 .starts))
+
+-- so it is with any part
+part-same : {m c : Code} (p : ℕ) → Part m c → Laid m → startOf c ≤ p → p ≤ last c → codeAt m p ≡ codeAt c p
+part-same p itself l le ge = refl
+part-same p (inside i q) l le ge =
+    let (k, s, e) = laid-inner i l in
+    let (k', s', e') = laid-part q k in
+    inner-same p i l (omega (arith, s')) (omega (arith, e')) ∙ part-same p q k le ge
+
+-- and with what starts at a place
+pub code-same : (m : Code) (p q : ℕ) {c : Code} → Laid m → codeAt m p ≡ some c → p ≤ q → q ≤ last c → codeAt m q ≡ codeAt c q
+code-same m p q l h le ge = part-same q (code-part m p h) l (omega (arith, code-place m p h)) ge
 
 -- each part starts at its place
 pub part-code : {m c : Code} → Part m c → Laid m → codeAt m (startOf c) ≡ some c
-part-code {m} itself l = code-here m
-part-code {c = c} (inside i q) l =
-    let (k, s, e) = laid-inner i l in
-    let (k', s', e') = laid-part q k in
-    code-within (startOf c) i l (omega (arith, s, s')) s' (part-code q k)
+part-code {c = c} q l = part-same (startOf c) q l (omega arith) (laid-le c (laid-part q l .0)) ∙ code-here c
 
 -- what is right inside code that starts at a place starts at its own place
 pub code-inner : (m : Code) (p : ℕ) {c d : Code} → Laid m → codeAt m p ≡ some c → Inner c d → codeAt m (startOf d) ≡ some d

@@ -9,16 +9,10 @@ use lib.Dec.{eqb, ltb}
 use lib.ListN.{length, getD, set, replicate, length-set, getD-replicate}
 use lib.Seq.{getD-set-same, getD-set-other}
 use borrow.Author.Tests.{eqb-true, eqb-false, lt-ltb, le-ltb, ltb-true, ltb-false}
-use Rattle.program.specs.declared.Edition.{Edition}
-use Rattle.program.specs.Trees.{Counts}
-use Rattle.program.specs.Reader.{reading}
-use Rattle.program.specs.Answers.{ProgramSaid, loads, told}
-use Rattle.program.specs.Located.{startsAt, MarksStarts}
 use Rattle.program.specs.Internal.Progress.{inNumber, Outside}
-use Rattle.program.proofs.PlaceLaws.{starts-refused, starts-outside, starts-inside}
 
 -- marks that are all 0 have 0 at each place
-zero-at : (marks : List ℕ) → marks ≡ replicate (length marks) 0 → (p : ℕ) → p < length marks → getD marks p 0 ≡ 0
+pub zero-at : (marks : List ℕ) → marks ≡ replicate (length marks) 0 → (p : ℕ) → p < length marks → getD marks p 0 ≡ 0
 zero-at marks zeros p lt = ap (λ l. getD l p 0) zeros ∙ getD-replicate (length marks) p 0 0 lt
 
 -- Marks are being set where all were 0, as f tells: so far those of the places before i, and the others are still 0.
@@ -69,6 +63,11 @@ mark-byte xs p inside lt h = rw (lt-ltb p (length xs) lt, sym h) (go inside)
     go true = refl
     go false = refl
 
+-- a mark is 0 or 1
+pub mark-small : (starts : Bool) {x : ℕ} → x ≡ cond starts 1 0 → x ≤ 1
+mark-small true is = omega arith
+mark-small false is = omega arith
+
 -- all places of the program that have a mark are marked
 pub marking-outside :
     {before marks : List ℕ} {i : ℕ} (xs : List ℕ) → Marking (byteMark xs) before marks i
@@ -82,24 +81,3 @@ marking-outside {before} {marks} {i} xs m over = (m .long, λ p lt. go p lt (ltb
     go p lt false e =
         let le : i ≤ p = ltb-false p i e in
         m .still p le lt ∙ mark-behind xs p (over p le lt)
-
--- the program is refused: nothing starts, and all marks are 0
-pub marked-refused :
-    (ed : Edition) (bytes marks : List ℕ) (n q : ℕ) → ProgramSaid.refused n q ≡ told (reading ed bytes) → marks ≡ replicate (length marks) 0
-    → MarksStarts ed bytes marks
-marked-refused ed bytes marks n q is zeros p lt =
-    zero-at marks zeros p lt ∙ ap (λ (t : Bool). cond t 1 0) (starts-refused ed bytes p n q is)
-
--- it is read: an item or an end byte starts at each byte outside its numbers
-pub marked-read :
-    (ed : Edition) (bytes marks : List ℕ) (c : Counts) → loads c ≡ told (reading ed bytes) → Outside bytes marks → MarksStarts ed bytes marks
-unfolding byteMark
-marked-read ed bytes marks c is outside p lt = outside p lt ∙ go (ltb p (length bytes)) refl
-  where
-    go : (t : Bool) → ltb p (length bytes) ≡ t → byteMark bytes p ≡ cond (startsAt ed bytes p) 1 0
-    go true e =
-        let lt : p < length bytes = ltb-true p (length bytes) e in
-        sym (mark-byte bytes p _ lt refl) ∙ ap (λ (t : Bool). cond t 1 0) (starts-inside ed bytes p c is lt)
-    go false e =
-        let le : length bytes ≤ p = ltb-false p (length bytes) e in
-        sym (mark-behind bytes p le) ∙ ap (λ (t : Bool). cond t 1 0) (starts-outside ed bytes p c is le)

@@ -25,10 +25,10 @@ use Rattle.program.proofs.StartLaws.{Placed, placed, code-bytes, starts
 use Rattle.program.proofs.SkipLaws.{part, part-is, part-length}
 
 -- a program is read from bytes: they are those of its tree
-data Loads (ed : Edition) (bytes : List ℕ) : Type 0 where
+pub data Loads (ed : Edition) (bytes : List ℕ) : Type 0 where
   loaded : (b : Body) → reading ed bytes ≡ program b → bytes ≡ encode b → length bytes ≡ size b → Loadable ed b → Loads ed bytes
 
-loads-told : (ed : Edition) (bytes : List ℕ) (c : Counts) → loads c ≡ told (reading ed bytes) → Loads ed bytes
+pub loads-told : (ed : Edition) (bytes : List ℕ) (c : Counts) → loads c ≡ told (reading ed bytes) → Loads ed bytes
 unfolding told size
 loads-told ed bytes c is = go (reading ed bytes) refl is
   where
@@ -46,6 +46,13 @@ loads-encoding ed bytes c is = go (loads-told ed bytes c is)
   where
     go : Loads ed bytes → Encoding bytes
     go (loaded b e same long fits) = encoding b (fits .fits) (fits .forced) same
+
+-- and it has not too many bytes
+pub loads-few : (ed : Edition) (bytes : List ℕ) (c : Counts) → loads c ≡ told (reading ed bytes) → length bytes ≤ programBytes
+loads-few ed bytes c is = go (loads-told ed bytes c is)
+  where
+    go : Loads ed bytes → length bytes ≤ programBytes
+    go (loaded b e same long fits) = omega (arith, fits .bytes)
 
 -- in a program that is read, something starts where the search finds code
 starts-read : (ed : Edition) (bytes : List ℕ) (b : Body) (p : ℕ) → reading ed bytes ≡ program b
@@ -93,7 +100,7 @@ data Starts (ed : Edition) (bytes : List ℕ) (p : ℕ) : Type 0 where
       → length bytes ≤ programBytes → p < length bytes → Starts ed bytes p
 
 -- what the definition's test tells
-code-some : (x : Option Code) → isSome x ≡ true → (c : Code) × (x ≡ some c)
+pub code-some : (x : Option Code) → isSome x ≡ true → (c : Code) × (x ≡ some c)
 unfolding isSome
 code-some none h = absurd (true≢false (sym h))
 code-some (some c) h = (c, refl)

@@ -62,7 +62,7 @@ unfolding encode size
 size-fork c d r = omega (arith, length-append (encode c) (encode d ++ encode r), length-append (encode d) (encode r))
 
 -- a body is not longer than the bytes that begin with it
-size-within : (xs : List ℕ) (b : Body) (rest : List ℕ) → xs ≡ encode b ++ rest → (0 < length xs) × (size b ≤ length xs)
+pub size-within : (xs : List ℕ) (b : Body) (rest : List ℕ) → xs ≡ encode b ++ rest → (0 < length xs) × (size b ≤ length xs)
 unfolding size
 size-within xs b rest e =
     let long : length xs ≡ length (encode b) + length rest = ap length e ∙ length-append (encode b) rest in

@@ -5,7 +5,7 @@
 --     Bytes       the bytes of a number and of a program
 --     Encodings   what each item does, as a table of commands, and what is counted from it
 --     Reader      the reader: the tree that bytes stand for, or the first refusal with its place
---     Located     a tree laid out from an offset on, what stands at a place, and where something starts
+--     Located     a tree laid out from an offset on, what stands at a place, where something starts, and where bodies end
 --     Answers     what reading a program and reading an item answer
 --     Claims      the words in which the reader's theorems are stated
 -- Nobody has to believe what stands in Internal: contracts of private functions cite it.

@@ -1,7 +1,7 @@
 -- A tree laid out from an offset on, and what stands at a place.
 use Prim.Native.Nat.{ℕ, zero, suc, _+_, _<_}
 use mathlib.Core.Path.{_≡_}
-use mathlib.Core.Bool.{Bool, true, false, cond}
+use mathlib.Core.Bool.{Bool, true, false}
 use mathlib.Core.List.{List, [], _∷_}
 use mathlib.Core.Option.{Option, none, some}
 use lib.Dec.{eqb}
@@ -121,6 +121,19 @@ startsIn (refusal n q) p = false
 unfoldable pub startsAt : Edition → List ℕ → ℕ → Bool
 startsAt ed bytes p = startsIn (reading ed bytes) p
 
--- marks that tell of each of their places whether something starts there
-abbrev pub MarksStarts : Edition → List ℕ → List ℕ → Type 0
-MarksStarts ed bytes marks = (p : ℕ) → p < length marks → getD marks p 0 ≡ cond (startsAt ed bytes p) 1 0
+-- the place past the end byte of the body that code stands in
+unfoldable pub endOf : Option Code → ℕ
+endOf none = 0
+endOf (some c) = suc (last c)
+
+unfoldable pub endIn : Reading → ℕ → ℕ
+endIn (program b) p = endOf (codeAt (located b) p)
+endIn (refusal n q) p = 0
+
+-- where the body ends that a place is in: past its end byte; 0 where the program is refused, and where no item or end byte starts
+unfoldable pub endAt : Edition → List ℕ → ℕ → ℕ
+endAt ed bytes p = endIn (reading ed bytes) p
+
+-- ends that tell it of each of their places
+abbrev pub MarksEnds : Edition → List ℕ → List ℕ → Type 0
+MarksEnds ed bytes ends = (p : ℕ) → p < length ends → getD ends p 0 ≡ endAt ed bytes p

@@ -95,7 +95,7 @@ impl Reader {
     }
 
     // The job at this reader's place, where `bytes` start.
-    fn job_here(self, bytes: &[u8]) -> ItemRead
+    pub(crate) fn job_here(self, bytes: &[u8]) -> ItemRead
         requires { ⌜ (1 ≤ length (now bytes)) × (self .place + length (now bytes) ≤ programBytes) ⌝ }
         ensures { λ r. ⌜ ShowsNumbered Stands.job (now (bytes .entry)) (self .place) (stands r) × (handedBack r ≡ movedPast self (stands r)) ⌝ }
     {
@@ -107,7 +107,7 @@ impl Reader {
     }
 
     // The force at this reader's place, where `bytes` start.
-    fn force_here(self, bytes: &[u8]) -> ItemRead
+    pub(crate) fn force_here(self, bytes: &[u8]) -> ItemRead
         requires { ⌜ (1 ≤ length (now bytes)) × (self .place + length (now bytes) ≤ programBytes) ⌝ }
         ensures { λ r. ⌜ ShowsNumbered Stands.force (now (bytes .entry)) (self .place) (stands r) × (handedBack r ≡ movedPast self (stands r)) ⌝ }
     {

@@ -1,8 +1,10 @@
 // Reading programs: the bytes of a program to its items, their counts, and the refusals of its writer.
 //
-// `reading::read` reads a whole program, `items::item_at` tells what stands at a place of it, `starts::mark_starts` marks where items and
-// end bytes start. None of them asks anything of the bytes. `Reader::item_here`, the item reader of a step, serves the engine.
+// `reading::read` reads a whole program, `items::item_at` tells what stands at a place of it. Neither asks anything of the bytes.
+// `Reader::item_here`, the item reader of a step, serves the engine; so do `ends::mark_ends`, which tells of every place at once where its body ends,
+// and `ends::item_by_ends`, which then tells what stands at a place without a search.
 mod bodies;
+pub mod ends;
 pub mod format;
 pub mod items;
 mod numbers;

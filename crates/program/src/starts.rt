@@ -9,11 +9,11 @@ ghost use mathlib.Core.Path.{_≡_};
 ghost use mathlib.Core.Bool.{cond};
 ghost use Prim.Native.Nat.{_≤_};
 ghost use lib.Dec.{leb};
-ghost use lib.ListN.{length, replicate};
+ghost use lib.ListN.{length};
 ghost use Rattle.program.specs.Bytes.{topBit};
-ghost use Rattle.program.specs.Located.{startsAt, MarksStarts};
+ghost use Rattle.program.specs.Located.{startsAt};
 ghost use Rattle.program.specs.Claims.{Encoding};
-ghost use Rattle.program.specs.Internal.Progress.{opensNumber, inNumber, Outside};
+ghost use Rattle.program.specs.Internal.Progress.{opensNumber, inNumber};
 
 // Whether an item or an end byte starts at a place of a program.
 pub fn starts_at(program: &[u8], edition: Edition, place: u32) -> bool
@@ -32,41 +32,15 @@ pub fn starts_at(program: &[u8], edition: Edition, place: u32) -> bool
     }
 }
 
-// The same of every place at once: marks with 1 the places where an item or an end byte starts. The marks handed in are 0.
-pub fn mark_starts(program: &[u8], edition: Edition, marks: &mut [u8])
-    requires { ⌜ now marks ≡ replicate (length (now marks)) 0 ⌝ }
-    ensures { λ _. ⌜ (length (now (marks .exit)) ≡ length (now (marks .entry))) × MarksStarts edition (now (program .entry)) (now (marks .exit)) ⌝ }
-{
-    let reading = read(program, edition);
-    match reading {
-        ProgramRead::Refused(refusal) => {}
-        ProgramRead::Program(counts) => mark_outside_numbers(program, marks),
-    }
-}
-
-// Marks the places of the program that are not inside a number.
-fn mark_outside_numbers(program: &[u8], marks: &mut [u8])
-    requires { ⌜ now marks ≡ replicate (length (now marks)) 0 ⌝ }
-    ensures { λ _. ⌜ (length (now (marks .exit)) ≡ length (now (marks .entry))) × Outside (now (program .entry)) (now (marks .exit)) ⌝ }
-{
-    let mut inside = false;
-    for i in 0..program.len() {
-        if marks.len() <= i {
-            return;
-        }
-        marks[i] = mark(!inside);
-        inside = still_inside(inside, program[i]);
-    }
-}
-
-fn mark(starts: bool) -> u8
+// The mark of a place, 1 where something starts there.
+pub(crate) fn mark(starts: bool) -> u8
     ensures { λ r. ⌜ r ≡ cond starts 1 0 ⌝ }
 {
     if starts { 1 } else { 0 }
 }
 
 // The byte behind `byte` stands inside a number, where `inside` tells it of `byte` itself.
-fn still_inside(inside: bool, byte: u8) -> bool
+pub(crate) fn still_inside(inside: bool, byte: u8) -> bool
     ensures { λ r. ⌜ r ≡ cond inside (leb topBit byte) (opensNumber byte) ⌝ }
 {
     if inside {
@@ -76,7 +50,7 @@ fn still_inside(inside: bool, byte: u8) -> bool
 }
 
 // The byte is a job's first or a force's, unless it is itself one of a number.
-fn opens_number(byte: u8) -> bool
+pub(crate) fn opens_number(byte: u8) -> bool
     ensures { λ r. ⌜ r ≡ opensNumber byte ⌝ }
 {
     byte == JOB || byte == FORCE

@@ -9,8 +9,8 @@ use mathlib.Core.List.{List, [], _∷_}
 use lib.ListN.{length, getD, replicate}
 use lib.Dec.{eqb, ltb}
 use Rattle.graph.specs.Tests.{both}
-use Rattle.graph.specs.Tables.{usableLimit}
 use Rattle.graph.specs.Paths.{holds}
+use Rattle.graph.specs.Internal.Search.{searchLimit}
 
 -- by the marks m, x is one edge nearer to `to` than a is
 unfoldable pub isNearer : List ℕ → ℕ → ℕ → ℕ → Bool
@@ -18,13 +18,13 @@ isNearer m to a x = cond (eqb x to) (eqb (getD m a 0) 1) (both (ltb 0 (getD m x 
 
 -- an array in which no vertex is found yet
 abbrev pub noneNearer : List ℕ
-noneNearer = replicate usableLimit usableLimit
+noneNearer = replicate searchLimit searchLimit
 
--- `near` has for each vertex the lowest vertex one edge nearer to which one of the first n rows leads, and the usable limit where there
+-- `near` has for each vertex the lowest vertex one edge nearer to which one of the first n rows leads, and the search limit where there
 -- is none
 pub record Nearest (e : List ℕ) (n to : ℕ) (m near : List ℕ) : Type 0 where
-  pub long : length near ≡ usableLimit
-  pub found : (a : ℕ) → getD near a 0 < usableLimit → a < usableLimit → (holds e n a (getD near a 0) ≡ true) × (isNearer m to a (getD near a 0) ≡ true)
+  pub long : length near ≡ searchLimit
+  pub found : (a : ℕ) → getD near a 0 < searchLimit → a < searchLimit → (holds e n a (getD near a 0) ≡ true) × (isNearer m to a (getD near a 0) ≡ true)
   pub lowest : (a x : ℕ) → holds e n a x ≡ true → isNearer m to a x ≡ true → getD near a 0 ≤ x
 
 -- the vertices from a on, k times on to the nearer one
@@ -32,7 +32,7 @@ unfoldable pub walk : List ℕ → ℕ → ℕ → List ℕ
 walk near zero a = a ∷ []
 walk near (suc k) a = a ∷ walk near k (getD near a 0)
 
--- each of them but the last is a usable vertex
+-- each of them but the last is a vertex of a search
 unfoldable pub Walkable : List ℕ → ℕ → ℕ → Type 0
 Walkable near zero a = Unit {0}
-Walkable near (suc k) a = (a < usableLimit) × Walkable near k (getD near a 0)
+Walkable near (suc k) a = (a < searchLimit) × Walkable near k (getD near a 0)

@@ -7,7 +7,7 @@ use mathlib.Core.Option.{Option, none, some}
 use lib.Dec.{eqb}
 use lib.ListN.{length}
 use Rattle.graph.specs.Tests.{both}
-use Rattle.graph.specs.Tables.{Lent, lent, RELEASED, status, inCount}
+use Rattle.graph.specs.Tables.{Lent, RELEASED, status, inCount}
 use Rattle.graph.specs.Answers as of-graph
 use Rattle.graph.specs.Commands.{command}
 use Rattle.program.specs.declared.Edition.{Edition}
@@ -19,9 +19,6 @@ use Rattle.machine.specs.Stepping.{scope, place, latest, openFuture, further, t
 use Rattle.machine.specs.Stepping.{nextAt, due}
 use Rattle.machine.specs.Running.{lowest, allFinished, Ending, done, stuck, spent}
 use Rattle.machine.specs.Traces.{Stepped}
-use Rattle.engine.specs.declared.Attempt.{Attempt}
-use Rattle.engine.specs.declared.Attempt.the-variants as of-attempt
-use Rattle.engine.specs.Answers.{said}
 
 -- in an edition, d is due at the step of the executing vertex v with the scope σ and these own words, where so many vertices are made, the
 -- program's last byte is at L, and this stands at v's place
@@ -90,12 +87,6 @@ takes s (command-due c w) = of-graph.accepted (command c s .answer)
 -- vertex k is released, and its word says that no edge leads into it
 unfoldable pub mayStart : List ℕ → ℕ → Bool
 mayStart t k = both (eqb (status t k) RELEASED) (eqb (inCount t k) 0)
-
--- a step of the lowest vertex whose step would be accepted, if there is one
-abbrev pub Attempted : Edition → List ℕ → Lent → Attempt → List ℕ → List ℕ → Type 0
-Attempted ed bytes s of-attempt.NoStep vs es = (lowest ed bytes s ≡ none) × (vs ≡ s .vertices) × (es ≡ s .edges)
-Attempted ed bytes s (of-attempt.Taken d) vs es =
-    (v : ℕ) × (lowest ed bytes s ≡ some v) × Stepped ed bytes s v (said (d .answer)) (lent vs es (d .tally))
 
 -- how a run ends where no step would be accepted: all vertices are finished, or not
 abbrev pub atRest : Bool → Ending

@@ -1,5 +1,6 @@
--- What the functions of the path search promise one another, and the crate `chains`. This serves the proofs of the code, and nobody has to
--- believe it: `reaches` of src/paths.rt is held to `reaches` of Paths, and `chains` to definitions of its own.
+-- What the functions of the path search promise one another, and the crates `chains` and `index`. This serves the proofs of the code, and
+-- nobody has to believe it: `reaches` of src/paths.rt is held to `reaches` of Paths, and so is that of `index`, and `chains` to definitions of
+-- its own.
 --
 -- The search goes backwards from the vertex to be reached, breadth first. A vertex is marked once a path of one or more edges is
 -- known to lead from it to that vertex, and is put into the queue at the same time. Its mark is its distance, the number of edges of the
@@ -12,26 +13,39 @@ use mathlib.Core.Logic.{_⊎_}
 use mathlib.Core.List.{List, [], _∷_}
 use lib.ListN.{length, getD, replicate}
 use lib.Dec.{eqb}
-use Rattle.graph.specs.Tables.{edgeWords, usableLimit, source, target}
+use Rattle.graph.specs.Tables.{edgeWords, targetWord, usableLimit, edgeWord, source, target}
 use Rattle.graph.specs.Sound.{edgesMade}
 use Rattle.graph.specs.Paths.{holds}
 
--- the first n rows can be read, and their ends are usable vertices
+-- The vertices of a search are below this: a run's own index gives a dropped row one vertex more for its source, which nothing leads into.
+abbrev pub searchLimit : ℕ
+searchLimit = usableLimit + 1
+
+-- The most rows of a search: a run's own index keeps its dropped rows until it is taken anew.
+abbrev pub searchRows : ℕ
+searchRows = 2 * usableLimit
+
+-- the first n rows can be read, and their ends are vertices of a search
 pub record Rows (e : List ℕ) (n : ℕ) : Type 0 where
   pub full : edgeWords * n ≤ length e
-  pub few : n ≤ usableLimit
-  pub ends : edgesMade e usableLimit n ≡ true
+  pub few : n ≤ searchRows
+  pub ends : edgesMade e searchLimit n ≡ true
 
--- and the two vertices are usable
+-- they are no more than an edge table can hold, and the two vertices are vertices of a search
 pub record Searchable (e : List ℕ) (n from to : ℕ) : Type 0 where
   pub rows : Rows e n
-  pub from-usable : from < usableLimit
-  pub to-usable : to < usableLimit
+  pub held : n ≤ usableLimit
+  pub from-usable : from < searchLimit
+  pub to-usable : to < searchLimit
 
--- Of the rows below n the last that leads into v, counted from 1, or 0 where there is none.
-unfoldable pub lastInto : List ℕ → ℕ → ℕ → ℕ
-lastInto e v zero = zero
-lastInto e v (suc n) = cond (eqb (target e n) v) (suc n) (lastInto e v n)
+-- Of the rows below n the last whose word w is v, counted from 1, or 0 where there is none.
+unfoldable pub lastWith : ℕ → List ℕ → ℕ → ℕ → ℕ
+lastWith w e v zero = zero
+lastWith w e v (suc n) = cond (eqb (edgeWord e n w) v) (suc n) (lastWith w e v n)
+
+-- the last that leads into v
+abbrev pub lastInto : List ℕ → ℕ → ℕ → ℕ
+lastInto e v n = lastWith targetWord e v n
 
 -- The first n rows are linked by their targets: `first` has the last row into each vertex, and `next` has for each row the one
 -- before it that leads into the same vertex.
@@ -39,13 +53,13 @@ abbrev pub Links : List ℕ → ℕ → List ℕ → Type 0
 Links e n next = (i : ℕ) → i < n → getD next i 0 ≡ lastInto e (target e i) i
 
 pub record Linked (e : List ℕ) (n : ℕ) (first next : List ℕ) : Type 0 where
-  pub long : length first ≡ usableLimit
-  pub starts : (v : ℕ) → v < usableLimit → getD first v 0 ≡ lastInto e v n
+  pub long : length first ≡ searchLimit
+  pub starts : (v : ℕ) → v < searchLimit → getD first v 0 ≡ lastInto e v n
   pub links : Links e n next
 
 -- an array of which nothing is written
 abbrev pub blank : List ℕ
-blank = replicate usableLimit 0
+blank = replicate searchLimit 0
 
 unfoldable pub zeros : List ℕ → ℕ
 zeros [] = zero
@@ -54,9 +68,9 @@ zeros (suc x ∷ l) = zeros l
 
 -- the queue, filled up to `tail`, has a place left for each vertex that is not marked
 pub record Room (m q : List ℕ) (tail : ℕ) : Type 0 where
-  pub marks : length m ≡ usableLimit
-  pub places : length q ≡ usableLimit
-  pub free : tail + zeros m ≡ usableLimit
+  pub marks : length m ≡ searchLimit
+  pub places : length q ≡ searchLimit
+  pub free : tail + zeros m ≡ searchLimit
 
 abbrev pub IsMarked : List ℕ → ℕ → Type 0
 IsMarked m x = 0 < getD m x 0
@@ -114,7 +128,7 @@ pub record Scanned (e : List ℕ) (c distance : ℕ) (m q : List ℕ) (tail c′
 -- What a search over the first n rows of e leaves: a mark is the distance of its vertex, and where the search gets to `from`, each vertex
 -- that is less far away has its mark.
 pub record Measured (e : List ℕ) (n from to : ℕ) (found : Bool) (m : List ℕ) : Type 0 where
-  pub long : length m ≡ usableLimit
+  pub long : length m ≡ searchLimit
   pub leads : (x : ℕ) → IsMarked m x → Hops (holds e n) (getD m x 0) x to
   pub least : (x k : ℕ) → IsMarked m x → Hops (holds e n) (suc k) x to → getD m x 0 ≤ suc k
   pub marked : found ≡ true → IsMarked m from

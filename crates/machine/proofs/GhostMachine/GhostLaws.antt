@@ -18,7 +18,7 @@
 -- Lists
 --     in-cases       In x (y ∷ ys): x is y, or In x ys
 --     in-none        nothing is in the empty list; in-empty: nor in one that is equal to it
---     in-left        In x xs → In x (xs ++ ys)
+--     in-left        In x xs → In x (xs ++ ys); in-right: In x ys → In x (xs ++ ys); in-either: In x (xs ++ ys), which of them
 --     in-last        In x (xs ++ (x ∷ []))
 --     in-snoc        In x (xs ++ (y ∷ [])): In x xs, or x is y
 --     once-snoc      Once (xs ++ (x ∷ [])), where x is not in xs
@@ -205,6 +205,18 @@ in-empty {x = x} e i = in-none (subst (λ l. In x l) e i)
 pub in-left : {A : Type 0} {x : A} {xs : List A} (ys : List A) → In x xs → In x (xs ++ ys)
 in-left ys here = here
 in-left ys (later i) = later (in-left ys i)
+
+pub in-right : {A : Type 0} {x : A} (xs : List A) {ys : List A} → In x ys → In x (xs ++ ys)
+in-right [] i = i
+in-right (y ∷ xs) i = later (in-right xs i)
+
+-- and what is in a longer one is in one of its parts
+pub in-either : {A : Type 0} {x : A} (xs : List A) {ys : List A} → In x (xs ++ ys) → In x xs ⊎ In x ys
+in-either [] i = inr i
+in-either {x = x} (y ∷ xs) i =
+    in-cases i
+    (λ e. inl (subst (λ z. In x (z ∷ xs)) e here))
+    (λ k. ⊎-elim (λ l. inl (later l)) (λ r. inr r) (in-either xs k))
 
 -- the last element
 pub in-last : {A : Type 0} (x : A) (xs : List A) → In x (xs ++ (x ∷ []))

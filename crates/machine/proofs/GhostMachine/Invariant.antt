@@ -15,11 +15,7 @@ use Rattle.program.specs.Located.{Code, end-at, job-at, async-at, finish-at, fo
 use Rattle.program.proofs.OpenLaws.{Opens}
 use Rattle.machine.proofs.GhostMachine.Ghost.{Do, link, hand, free, yield, Control, draft, fresh, ready, busy, joining, over, State, Kid, kids}
 use Rattle.machine.proofs.GhostMachine.Ghost.{scopeFor, live}
-
--- x is in a list
-pub data In {A : Type 0} (x : A) : List A → Type 0 where
-  here : {xs : List A} → In x (x ∷ xs)
-  later : {y : A} {xs : List A} → In x xs → In x (y ∷ xs)
+pub use Rattle.machine.specs.HandedOut.{In, here, later}
 
 -- x stands before y in a list
 pub data Precedes {A : Type 0} (x y : A) : List A → Type 0 where

@@ -98,27 +98,34 @@ module _ {S : State} (shape : Shape S) (only : OnlyJobs S) where
   held-left p v (joining d k ks) c e h = let (o, (n, r, at)) = only v (at-work e) in clash cc
   held-left p v over c e h = absurd (Option·none-ne-some c h)
 
-  -- A job that some vertex holds, and of which nothing ahead is still to be answered, is one that a vertex stands at.
-  pub at-hand :
-      {m : Code} → Ranks S → Ended S → Orders m S → (u o : ℕ) → Held S u o → ((w p : ℕ) → Held S w p → Pre m p o → ⊥) → AtJob S u o
-  at-hand {m} ranks ended orders u o (Held.held c h j) first =
+  -- Of a job that some vertex holds, it or one that is ahead of it is one that a vertex stands at.
+  pub some-at-hand :
+      {m : Code} → Ranks S → Ended S → Orders m S → (u o : ℕ) → Held S u o
+      → AtJob S u o ⊎ ((w : ℕ) × (p : ℕ) × AtJob S w p × Pre m p o)
+  some-at-hand {m} ranks ended orders u o (Held.held c h j) =
       ⊎-elim
       (λ (p, at). standing p at)
-      (λ (w, p, at, way). absurd (awaiting w p at way))
+      (λ (w, p, at, way). awaiting w p at way)
       (from-job (goes-back shape ranks ended u (λ z. over-holds z h)))
     where
-      -- another job is not ahead
-      not-behind : (w p : ℕ) → AtJob S w p → Waits S u p ⊎ Pre c p o → ⊥
-      not-behind w p at before = first w p (at-held at) (orders .each u o c h j w p (at-held at) before)
+      -- another job is ahead
+      behind : (w p : ℕ) → AtJob S w p → Waits S u p ⊎ Pre c p o → Pre m p o
+      behind w p at before = orders .each u o c h j w p (at-held at) before
 
-      standing : (p : ℕ) → AtJob S u p → AtJob S u o
+      standing : (p : ℕ) → AtJob S u p → AtJob S u o ⊎ ((w : ℕ) × (p : ℕ) × AtJob S w p × Pre m p o)
       standing p (n, r, at) =
           let same : c ≡ job-at p n r = holds-one (S .control u) h (busy-holds at) in
           ⊎-elim
-          (λ e. (n, r, subst (λ (x : ℕ). S .control u ≡ busy (job-at x n r) []) (sym e) at))
-          (λ f. absurd (not-behind u p (n, r, at) (inr (subst (λ (d : Code). Pre d p o) (sym same) f))))
+          (λ e. inl (n, r, subst (λ (x : ℕ). S .control u ≡ busy (job-at x n r) []) (sym e) at))
+          (λ f. inr (u, p, (n, r, at), behind u p (n, r, at) (inr (subst (λ (d : Code). Pre d p o) (sym same) f))))
           (first-ahead p n o r (subst (λ (d : Code). Job d o) same j))
 
-      awaiting : (w p : ℕ) → AtJob S w p → Way (Settled S) w u → ⊥
+      awaiting : (w p : ℕ) → AtJob S w p → Way (Settled S) w u → AtJob S u o ⊎ ((w : ℕ) × (p : ℕ) × AtJob S w p × Pre m p o)
       awaiting w p (n, r, at) way =
-          not-behind w p (n, r, at) (inl (for-way w (job-at p n r) (busy-holds at) way (first-awaited p n r)))
+          inr (w, p, (n, r, at), behind w p (n, r, at) (inl (for-way w (job-at p n r) (busy-holds at) way (first-awaited p n r))))
+
+  -- So one of which nothing ahead is still to be answered is one that a vertex stands at.
+  pub at-hand :
+      {m : Code} → Ranks S → Ended S → Orders m S → (u o : ℕ) → Held S u o → ((w p : ℕ) → Held S w p → Pre m p o → ⊥) → AtJob S u o
+  at-hand ranks ended orders u o h first =
+      ⊎-elim (λ at. at) (λ (w, p, at, before). absurd (first w p (at-held at) before)) (some-at-hand ranks ended orders u o h)

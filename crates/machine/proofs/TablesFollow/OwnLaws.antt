@@ -1,8 +1,8 @@
 -- A vertex's own words, stored and read: what storing them adds to the tables, and that it adds nothing where they stand there already. A
 -- command leaves them alone.
-use Prim.Native.Nat.{ℕ, _+_, _*_, _<_}
+use Prim.Native.Nat.{ℕ, _+_, _*_, _<_, _≤_}
 use mathlib.Core.Path.{_≡_, refl, sym, _∙_, ap}
-use mathlib.Core.Bool.{cond}
+use mathlib.Core.Bool.{Bool, true, false, cond}
 use mathlib.Core.Logic.{inl, inr, ⊎-elim}
 use mathlib.Core.List.{List}
 use mathlib.Core.Option.{none, some}
@@ -12,6 +12,7 @@ use lib.ListN.{length, getD, length-set}
 use lib.Seq.{getD-set-other, set-getD}
 use Rattle.graph.specs.Tables.{Lent, vertexWords, statusWord, placeWord, phaseWord, madeWord, futureWord, inCountWord, vertexRows, vertexWord, status}
 use Rattle.graph.specs.Paths.{holds}
+use Rattle.graph.specs.Commands.{addsNothing, withVertex, withEdge, withMoved, stopped}
 use Rattle.graph.specs.Demand2.{graph, VertexWordOf}
 use Rattle.graph.specs.declared.Command as single
 use Rattle.graph.specs.declared.Command.the-variants.{NewTd, NewEdge, Release, Transfer, Start, Stop, Yield}
@@ -105,3 +106,34 @@ leaves-own c s v lt =
 pub leaves-stored : (c : single.Command) (s : Lent) (v : ℕ) → v < s .made → withOwn (leaves c s) v (ownOf s v) ≡ leaves c s
 leaves-stored c s v lt =
     ap (withOwn (leaves c s) v) (sym (leaves-own c s v lt)) ∙ own-stays (leaves c s) v
+
+-- a command leaves as many vertices made, or one more
+pub leaves-made : (c : single.Command) (s : Lent) → s .made ≤ leaves c s .made
+unfolding withVertex withEdge withMoved stopped
+leaves-made (NewTd t place scope) s = omega arith
+leaves-made (NewEdge t t1 t2) s = go (addsNothing s t1 t2)
+  where
+    go : (b : Bool) → s .made ≤ cond b s (withEdge s t1 t2) .made
+    go true = omega arith
+    go false = omega arith
+leaves-made (Release t t') s = omega arith
+leaves-made (Transfer t t') s = omega arith
+leaves-made (Start t) s = omega arith
+leaves-made (Stop t) s = omega arith
+leaves-made (Yield t) s = omega arith
+
+-- the words of another vertex are not its own
+else-not-own : (v u w : ℕ) → (v ≡ u → ⊥) → w < vertexWords → OwnWord u (vertexWords * v + w) → ⊥
+else-not-own v u w other lw = ⊎-elim (λ q. other (omega arith)) (⊎-elim (λ q. other (omega arith)) (λ (lo, hi). other (omega arith)))
+
+-- so what a step of u adds leaves the own words of every other vertex
+pub adds-own : (v u : ℕ) (x : Own) (left after : Lent) → (v ≡ u → ⊥) → Adds u x left after → ownOf after v ≡ ownOf left v
+unfolding ownOf
+adds-own v u x left after other a =
+    λ i.
+    own (at placeWord (omega arith) i) (at phaseWord (omega arith) i) (at madeWord (omega arith) i) (at (madeWord + 1) (omega arith) i)
+    (at (madeWord + 2) (omega arith) i)
+    (at futureWord (omega arith) i)
+  where
+    at : (w : ℕ) → w < vertexWords → vertexWord (after .vertices) v w ≡ vertexWord (left .vertices) v w
+    at w lw = a .vertex-words .1 (vertexWords * v + w) (else-not-own v u w other lw)

@@ -1,20 +1,27 @@
--- How a run ends from what was reached: done where nothing is left to do, and otherwise spent, since some vertex can always step.
+-- How a run ends from what was reached: done where nothing is left to do, and otherwise spent, since some vertex can always step. A dispatch
+-- with enough marks ends done there, too, and otherwise waiting, full or spent.
 use Prim.Native.Nat.{ℕ, _+_, _<_}
 use mathlib.Core.Path.{_≡_, refl, sym, _∙_, ap, subst}
 use mathlib.Core.Bool.{true, false}
+use mathlib.Core.Logic.{_⊎_, inl, inr}
 use mathlib.Core.List.{List}
 use native.Mathlib.Omega.{arith}
-use Rattle.graph.specs.Tables.{Lent, FINISHED}
+use lib.ListN.{length}
+use Rattle.graph.specs.Tables.{Lent, FINISHED, vertexRows}
 use Rattle.graph.proofs.TestLaws.{true-false}
 use Rattle.program.specs.Trees.{Body, counts}
 use Rattle.program.specs.declared.Edition.{Edition}
 use Rattle.program.specs.Encodings.{stepsTaken, stepFormula}
 use Rattle.program.proofs.Formulas.{steps-formula}
+use Rattle.refusal.specs.Refusals.{busy-table-too-short}
 use Rattle.machine.specs.Answers.{StepSaid}
 use Rattle.machine.specs.Stepping.{steppable}
 use Rattle.machine.specs.Running.{canStep, Ending, done, stuck, spent, RunOutcome}
 use Rattle.machine.specs.Running as running
-use Rattle.machine.specs.Demand2.{AllFinished, Looks, OnlySuchSteps, run-refused, run-steps}
+use Rattle.machine.specs.Dispatching.{waiting, full}
+use Rattle.machine.specs.Dispatching as dispatching
+use Rattle.machine.specs.Demand2.{AllFinished, Looks, OnlySuchSteps, run-refused, run-steps, DispatchLooks, OnlyFreeSteps, tables-refused}
+use Rattle.machine.specs.Demand2.{marks-refused, dispatch-steps}
 use Rattle.machine.proofs.GhostMachine.Ghost.{Control, draft, fresh, ready, busy, joining, over}
 use Rattle.machine.proofs.Counting.Weights.{total, each}
 use Rattle.machine.proofs.Counting.CountLaws.{all-over, over-all, steps-run}
@@ -69,3 +76,31 @@ run-ends {ed} {bytes} {t} {s = s} {budget = budget} o fit (run-steps h stepsTake
     go stuck p l = absurd (l .0 (full-finished T (live (l .1))))
     go spent p l = ends-spent p (λ f. l .0 (full-finished T f)) counts-up
     go (running.refused n k) p l = absurd l
+
+-- A dispatch ends done at the full count, or otherwise before it, or is refused by 44.
+pub data DispatchEnds (ed : Edition) (t : Body) (marks : List ℕ) (s : Lent) (o : dispatching.Outcome) : Type 0 where
+  at-full-count : o .ending ≡ dispatching.done → o .after .steps ≡ stepFormula ed (counts t) → DispatchEnds ed t marks s o
+  before-it :
+      (o .ending ≡ waiting) ⊎ ((o .ending ≡ full) ⊎ (o .ending ≡ dispatching.spent)) → (o .after .steps ≡ stepFormula ed (counts t) → ⊥)
+      → DispatchEnds ed t marks s o
+  too-few-marks : length marks < vertexRows (s .vertices) → o .ending ≡ dispatching.refused busy-table-too-short 0 → DispatchEnds ed t marks s o
+
+pub dispatch-ends :
+    {ed : Edition} {bytes : List ℕ} {t : Body} {s₀ s : Lent} {answers : List StepSaid} {marks list : List ℕ} {budget : ℕ}
+    {steps : List (ℕ × StepSaid)} (o : dispatching.Outcome) → steppable s ≡ true → OnlyFreeSteps ed bytes s marks list budget steps o
+    → Tracked ed bytes t s₀ answers (o .after)
+    → (((v : ℕ) → canStep ed bytes (o .after) v ≡ false) → o .after .steps ≡ stepFormula ed (counts t)) → DispatchEnds ed t marks s o
+dispatch-ends o fit (tables-refused h empty e) T live = true-false fit h
+dispatch-ends o fit (marks-refused h short empty e) T live = too-few-marks short (ap (λ (x : dispatching.Outcome). x .ending) e)
+dispatch-ends {ed} {bytes} {t} {s = s} {marks = marks} {budget = budget} o fit (dispatch-steps h enough free number le looks counted) T live =
+    go (o .ending) refl looks
+  where
+    go :
+        (e : dispatching.Ending) → o .ending ≡ e → DispatchLooks ed bytes budget (o .taken) (o .after) (o .handed-out) e
+        → DispatchEnds ed t marks s o
+    go dispatching.done p l = at-full-count p (finished-full T l)
+    go dispatching.stuck p l = absurd (l .0 (full-finished T (live (l .1))))
+    go waiting p l = before-it (inl p) (λ f. l .0 (full-finished T f))
+    go full p l = before-it (inr (inl p)) (λ f. l .0 (full-finished T f))
+    go dispatching.spent p l = before-it (inr (inr p)) (λ f. l .0 (full-finished T f))
+    go (dispatching.refused n k) p l = absurd l

@@ -129,7 +129,7 @@ module _ {S : State} {v : ℕ} where
   answers-accepted says-stop = refl
   answers-accepted says-yield = refl
 
-  answers-jobs : {e : Event} {a : StepSaid} → Answers S v e a → (o : ℕ) → answersJob o a ≡ jobAt o e
+  pub answers-jobs : {e : Event} {a : StepSaid} → Answers S v e a → (o : ℕ) → answersJob o a ≡ jobAt o e
   unfolding answersJob jobAt
   answers-jobs says-start o = refl
   answers-jobs says-new o = refl
@@ -263,7 +263,7 @@ module _ (ed : Edition) (bytes : List ℕ) (t : Body) (s₀ : Lent) (r : reading
         old k o (inl i) = T .only-written k o i
         old k o (inr e) = clash cc
 
-    moved-tracked :
+    pub moved-tracked :
         {e : Event} {S' : State} {a : StepSaid} {s' : Lent} → Move (T .state) v e S'
         → Follows (located t) (settingOf ed bytes) s' S' → CountsTrue s' → Answers (T .state) v e a → Tallied e s s'
         → Tracked ed bytes t s₀ (answers ++ (a ∷ [])) s'
@@ -299,6 +299,13 @@ module _ (ed : Edition) (bytes : List ℕ) (t : Body) (s₀ : Lent) (r : reading
         wrote : (k o : ℕ) → Answered (said.job k o) answers ⊎ (said.job k o ≡ a) → Written t o k
         wrote k o (inl i) = T .only-written k o i
         wrote k o (inr q) = answers-written (T .inv .coded) says q
+
+    pub moved-state :
+        {e : Event} {S' : State} {a : StepSaid} {s' : Lent} (m : Move (T .state) v e S') (f : Follows (located t) (settingOf ed bytes) s' S')
+        (true-after : CountsTrue s') (says : Answers (T .state) v e a) (tally : Tallied e s s')
+        → moved-tracked m f true-after says tally .state ≡ S'
+    unfolding moved-tracked
+    moved-state m f true-after says tally = refl
 
     -- what the step is of the ghost machine
     pub stepped-as : Followed (located t) (settingOf ed bytes) s (T .state) v (step ed bytes s v)

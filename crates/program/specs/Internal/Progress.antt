@@ -3,6 +3,7 @@ use Prim.Native.Nat.{ℕ, zero, suc, _+_, _-_, _<_, _≤_}
 use mathlib.Core.Path.{_≡_}
 use mathlib.Core.Bool.{Bool, true, false, cond}
 use mathlib.Core.List.{List, [], _∷_, _++_}
+use mathlib.Core.Option.{some}
 use lib.Dec.{eqb, ltb, leb}
 use lib.ListN.{length, getD, drop}
 use Rattle.program.specs.declared.Reader.{Reader}
@@ -12,11 +13,12 @@ use Rattle.program.specs.declared.NumberRead.{NumberRead}
 use Rattle.program.specs.declared.NumberRead.the-variants as of-number
 use Rattle.program.specs.Limits.{jobLimit, programBytes, vertexLimit}
 use Rattle.program.specs.Trees.{Counts, counts, Body, end, Item, withFirst}
-use Rattle.program.specs.Bytes.{jobByte, asyncByte, finishByte, forkByte, futureByte, forceByte, topBit, encodeNumber, numberSize, encode, size}
+use Rattle.program.specs.Bytes.{endByte, jobByte, asyncByte, finishByte, forkByte, futureByte, forceByte, topBit}
+use Rattle.program.specs.Bytes.{encodeNumber, numberSize, encode, size}
 use Rattle.refusal.specs.Refusals.{number-malformed, bytes-after-end, job-too-large, too-many-vertices}
 use Rattle.program.specs.Reader.{Read, took, refused}
 use Rattle.program.specs.Answers.{ProgramSaid, loads, itemCounts, Stands}
-use Rattle.program.specs.Located.{locate, head}
+use Rattle.program.specs.Located.{Code, locate, located, last, codeAt, endOf, head}
 use Rattle.program.specs.Encodings.{vertexFormula}
 use Rattle.program.specs.declared.Edition.{Edition}
 use Rattle.program.specs.Claims.{Fits}
@@ -132,3 +134,30 @@ inNumber xs (suc i) = cond (inNumber xs i) (leb topBit (getD xs i 0)) (opensNumb
 -- marks that tell of each of their places whether it is one of these bytes' and outside their numbers
 abbrev pub Outside : List ℕ → List ℕ → Type 0
 Outside xs marks = (p : ℕ) → p < length marks → getD marks p 0 ≡ cond (ltb p (length xs)) (cond (inNumber xs p) 0 1) 0
+
+-- Where the body ends from a place on, by the byte that starts there: past an end byte; as what follows a job or a force; and as what follows
+-- an item with bodies, behind the last of them. `after` is the end from the next place on where something starts, and `ends` has the ends from
+-- all places behind.
+unfoldable pub endBy : ℕ → ℕ → ℕ → List ℕ → ℕ
+endBy first place after ends =
+    cond (eqb first endByte) (place + 1)
+    (cond (opensNumber first) after
+    (cond (eqb first forkByte) (getD ends (getD ends after 0) 0) (getD ends after 0)))
+
+-- it looks at places that have an end
+abbrev pub LooksWithin : ℕ → ℕ → List ℕ → Type 0
+LooksWithin first after ends =
+    (first ≡ endByte → ⊥) → opensNumber first ≡ false → (after < length ends) × (first ≡ forkByte → getD ends after 0 < length ends)
+
+-- ends that tell of each of their places where the body ends from there on, in the tree that these bytes stand for
+abbrev pub Ended : List ℕ → List ℕ → Type 0
+Ended xs ends = (b : Body) → Fits b → xs ≡ encode b → (p : ℕ) → p < length ends → getD ends p 0 ≡ endOf (codeAt (located b) p)
+
+-- ends that tell it of each place of this code where something starts
+abbrev pub EndsIn : List ℕ → Code → Type 0
+EndsIn ends m = (q : ℕ) (c : Code) → codeAt m q ≡ some c → getD ends q 0 ≡ suc (last c)
+
+-- these bytes begin with a body's, laid out from p on, and these ends tell where the bodies in it end
+pub data BeginsEnded (xs : List ℕ) (p : ℕ) (ends : List ℕ) : Type 0 where
+  begins-ended :
+      (opened : List Code) (b : Body) → Fits b → (rest : List ℕ) → xs ≡ encode b ++ rest → EndsIn ends (locate opened p b) → BeginsEnded xs p ends

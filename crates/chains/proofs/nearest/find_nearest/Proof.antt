@@ -4,7 +4,8 @@ use mathlib.Core.Path.{sym, _∙_, subst}
 use mathlib.Core.List.{List}
 use native.Mathlib.Omega.{arith}
 use borrow.Author.Tests.{not-true, not-false}
-use Rattle.graph.specs.Tables.{usableLimit, source, target}
+use Rattle.graph.specs.Tables.{source, target}
+use Rattle.graph.specs.Internal.Search.{searchLimit}
 use Rattle.graph.proofs.RowLinks.{ends-made}
 use Rattle.graph.proofs.TestLaws.{true-false}
 use Rattle.chains.specs.Internal.Walk.{Nearest}
@@ -18,11 +19,11 @@ Inv-loop edges held to distances nearest₀ i₀ nearest i = (i ≤ held) × Nea
 abbrev μ-loop : tie.MeasureT-loop
 μ-loop edges held to distances nearest₀ i₀ nearest i = held - i
 
--- the ends of the row at hand are usable vertices
+-- the ends of the row at hand are vertices of a search
 usable :
     (c : tie.In-loop Inv-loop μ-loop)
-    → (source (c .before .before .before .before .before .args .edges .now) (c .before .loop .i) < usableLimit)
-    × (target (c .before .before .before .before .before .args .edges .now) (c .before .loop .i) < usableLimit)
+    → (source (c .before .before .before .before .before .args .edges .now) (c .before .loop .i) < searchLimit)
+    × (target (c .before .before .before .before .before .args .edges .now) (c .before .loop .i) < searchLimit)
 usable c = ends-made _ _ (c .before .loop .i) (c .before .before .before .before .before .pre .0) (c .loop-test .taken)
 
 loop-holds : tie.Need-loop-holds Inv-loop μ-loop

@@ -2,7 +2,7 @@
 use Prim.Native.Nat.{_-_, _≤_, _<_}
 use native.Mathlib.Omega.{arith}
 use lib.ListN.{length-set}
-use Rattle.graph.specs.Tables.{usableLimit}
+use Rattle.graph.specs.Internal.Search.{searchLimit}
 use Rattle.chains.proofs.WalkLaws.{Along, along-start, along-usable, along-more, along-end}
 use Rattle.chains.proofs.nearest.write_walk.Statement.{statement}
 use Rattle.chains.proofs.nearest.write_walk.Tie as tie
@@ -13,7 +13,7 @@ Inv-loop nearest links from list₀ vertex₀ k₀ list vertex k = (k ≤ links)
 abbrev μ-loop : tie.MeasureT-loop
 μ-loop nearest links from list₀ vertex₀ k₀ list vertex k = links - k
 
-usable : (c : tie.In-loop Inv-loop μ-loop) → c .before .loop .vertex < usableLimit
+usable : (c : tie.In-loop Inv-loop μ-loop) → c .before .loop .vertex < searchLimit
 usable c = along-usable (c .before .loop .inv .1) (c .loop-test .taken)
 
 loop-again : tie.Need-loop-again Inv-loop μ-loop

@@ -1,10 +1,6 @@
--- Refused where no step is taken; else a look with the marks just made.
-use Prim.Native.Nat.{ℕ}
-use mathlib.Core.Path.{_∙_}
+-- Refused where no step is taken; else a look with the ends of bodies just told.
 use borrow.Author.Needs.{needs}
-use lib.ListN.{length-replicate}
 use Rattle.graph.proofs.CallLaws.{answered-yes, answered-no}
-use Rattle.program.specs.Limits.{programBytes}
 use Rattle.engine.proofs.DueLaws.{steppable-sound}
 use Rattle.engine.proofs.LowestLaws.{choice-turned, choice-looks}
 use Rattle.engine.proofs.look.lowest_vertex.Statement.{statement}
@@ -13,10 +9,10 @@ use Rattle.engine.proofs.look.lowest_vertex.Tie as tie
 returns : tie.Need-returns
 returns c = choice-turned _ _ _ (answered-no (c .before .before .is-steppable .ensures) (c .before .if1 .taken)) (c .refused .ensures)
 
-lowest-marked-requires : tie.Need-lowest-marked-requires
-lowest-marked-requires c κs = (
-  c .before .before .mark-starts .ensures .1,
-  c .before .before .mark-starts .ensures .0 ∙ length-replicate {A = ℕ} programBytes 0,
+lowest-by-ends-requires : tie.Need-lowest-by-ends-requires
+lowest-by-ends-requires c κs = (
+  c .before .before .mark-ends .ensures .1,
+  c .before .before .mark-ends .ensures .0,
   steppable-sound _ (answered-yes (c .before .before .before .before .before .is-steppable .ensures) (c .before .before .before .before .if1 .left)),
 )
 
@@ -24,7 +20,7 @@ returns-2 : tie.Need-returns-2
 returns-2 c =
     choice-looks _ _ _
     (answered-yes (c .before .before .before .before .before .before .is-steppable .ensures) (c .before .before .before .before .before .if1 .left))
-    (c .lowest-marked .ensures)
+    (c .lowest-by-ends .ensures)
 
 pub lowest-vertex-spec : {M : Type 1} → statement M
 lowest-vertex-spec =
@@ -36,5 +32,5 @@ lowest-vertex-spec =
     (λ c. search needs)
     (λ c κs. search needs)
     (λ c. search needs)
-    lowest-marked-requires
+    lowest-by-ends-requires
     returns-2)

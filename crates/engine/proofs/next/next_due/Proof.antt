@@ -51,8 +51,9 @@ returns-4 c = search dues depth 12
 returns-5 : tie.Need-returns-5
 returns-5 c =
     let made = c .before .before .before .before .before .before .before .before in
-    due-item _ _ _ _ _ (start made .pre) (takes-steps made) (made .if2 .left) (c .before .before .before .before .before .before .if3 .left) (c .before .before .before .before .if4 .left) (c .before .before .before .own-words .ensures)
-    (c .executing .ensures)
+    due-item _ _ _ _ _ (start made .pre) (takes-steps made) (made .if2 .left) (c .before .before .before .before .before .before .if3 .left)
+    (c .before .before .before .before .if4 .left) (c .before .before .before .own-words .ensures)
+    (c .by-item .ensures)
 
 pub next-due-spec : {M : Type 1} → statement M
 next-due-spec =
@@ -75,5 +76,5 @@ next-due-spec =
     (λ c. search needs)
     (λ c. search needs)
     (λ c. omega (arith, row (c .before .before .before .before .before .before .before)))
-    (λ c κs. (c .before .starts-at .ensures, rows (c .before .before .before .before .before .before .before)))
+    (λ c κs. (c .before .item-at .ensures .0, rows (c .before .before .before .before .before .before .before)))
     returns-5)

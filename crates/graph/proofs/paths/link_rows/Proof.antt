@@ -4,8 +4,8 @@ use mathlib.Core.Path.{_≡_, refl, sym, subst}
 use mathlib.Core.List.{List}
 use native.Mathlib.Omega.{arith}
 use lib.ListN.{length, length-set}
-use Rattle.graph.specs.Tables.{usableLimit, target}
-use Rattle.graph.specs.Internal.Search.{Linked}
+use Rattle.graph.specs.Tables.{target}
+use Rattle.graph.specs.Internal.Search.{searchLimit, Linked}
 use Rattle.graph.proofs.RowLinks.{blank-long, link-none, link-more, ends-made}
 use Rattle.graph.proofs.paths.link_rows.Statement.{statement}
 use Rattle.graph.proofs.paths.link_rows.Tie as tie
@@ -17,7 +17,7 @@ Inv-loop edges first₀ next₀ i₀ i-end first next i =
 abbrev μ-loop : tie.MeasureT-loop
 μ-loop edges first₀ next₀ i₀ i-end first next i = i-end - i
 
-usable : (c : tie.In-loop Inv-loop μ-loop) → target (c .before .before .args .edges .now) (c .before .loop .i) < usableLimit
+usable : (c : tie.In-loop Inv-loop μ-loop) → target (c .before .before .args .edges .now) (c .before .loop .i) < searchLimit
 usable c = ends-made _ _ (c .before .loop .i) (c .before .before .pre .0) (omega arith) .1
 
 loop-holds : tie.Need-loop-holds Inv-loop μ-loop

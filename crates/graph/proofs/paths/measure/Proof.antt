@@ -4,21 +4,26 @@ use Prim.Native.Nat.{ℕ, _≤_}
 use mathlib.Core.Path.{_≡_, refl, sym, _∙_, ap}
 use mathlib.Core.List.{List, _++_}
 use native.Mathlib.Omega.{arith}
-use lib.ListN.{length, take, drop, length-append}
+use lib.ListN.{length, take, drop, replicate, length-append, length-replicate}
 use lib.Seq.{length-take-le, take-at}
 use borrow.Author.Needs.{needs}
-use Rattle.graph.specs.Internal.Search.{blank, Rows, Linked}
+use Rattle.graph.specs.Tables.{usableLimit}
+use Rattle.graph.specs.Internal.Search.{Rows, Linked}
 use Rattle.graph.proofs.RowLinks.{blank-long}
 use Rattle.graph.proofs.paths.measure.Statement.{statement}
 use Rattle.graph.proofs.paths.measure.Tie as tie
+
+-- `next` as it is made
+abbrev unlinked : List ℕ
+unlinked = replicate usableLimit 0
 
 module _ (c : tie.Start) where
   rows : Rows (c .args .edges .now) (c .args .held)
   rows = c .pre .0 .rows
 
   -- the part that is lent to be written
-  lent-long : length (take (c .args .held) blank) ≡ c .args .held
-  lent-long = length-take-le (c .args .held) blank (omega (arith, blank-long refl))
+  lent-long : length (take (c .args .held) unlinked) ≡ c .args .held
+  lent-long = length-take-le (c .args .held) unlinked (omega (arith, length-replicate {A = ℕ} usableLimit 0))
 
 module _ (c : tie.After-link-rows) where
   abbrev entry : tie.Start
@@ -32,16 +37,16 @@ module _ (c : tie.After-link-rows) where
 
   -- the whole of `next` afterwards
   abbrev whole : List ℕ
-  whole = written ++ drop held blank
+  whole = written ++ drop held unlinked
 
   written-long : length written ≡ held
   written-long = c .link-rows .kept .1 .1 .0 ∙ lent-long entry
 
   part : take held whole ≡ written
-  part = take-at written (drop held blank) held written-long
+  part = take-at written (drop held unlinked) held written-long
 
   part-fits : held ≤ length whole
-  part-fits = omega (arith, length-append written (drop held blank), written-long)
+  part-fits = omega (arith, length-append written (drop held unlinked), written-long)
 
   part-long : length (take held whole) ≡ held
   part-long = ap length part ∙ written-long

@@ -2,8 +2,8 @@
 use Prim.Native.Nat.{_≤_, _<_, _-_}
 use native.Mathlib.Omega.{arith}
 use lib.ListN.{getD}
-use Rattle.graph.specs.Tables.{usableLimit, source}
-use Rattle.graph.specs.Internal.Search.{Scanned}
+use Rattle.graph.specs.Tables.{source}
+use Rattle.graph.specs.Internal.Search.{searchLimit, Scanned}
 use Rattle.graph.proofs.RowLinks.{linked-row}
 use Rattle.graph.proofs.Frontier.{room-left, room-taken, seen, found}
 use Rattle.graph.proofs.paths.scan.Statement.{statement}
@@ -18,7 +18,7 @@ abbrev μ-loop : tie.MeasureT-loop
 
 row-good :
     (c : tie.In-loop Inv-loop μ-loop)
-    → (source (c .before .before .args .edges .now) (c .before .loop .left - 1) < usableLimit)
+    → (source (c .before .before .args .edges .now) (c .before .loop .left - 1) < searchLimit)
     × (getD (c .before .before .args .next .now) (c .before .loop .left - 1) 0 ≤ c .before .loop .left - 1)
 row-good c = linked-row _ _ (c .before .before .args .row) _ (c .before .before .pre .0) (omega arith)
 

@@ -5,8 +5,7 @@ use mathlib.Core.Path.{_≡_, refl}
 use mathlib.Core.Bool.{true, false}
 use native.Mathlib.Omega.{arith}
 use lib.ListN.{length, getD}
-use Rattle.graph.specs.Tables.{usableLimit}
-use Rattle.graph.specs.Internal.Search.{Room, Frontier}
+use Rattle.graph.specs.Internal.Search.{searchLimit, Room, Frontier}
 use Rattle.graph.proofs.TestLaws.{true-false}
 use Rattle.graph.proofs.RowLinks.{blank-long, rows-into}
 use Rattle.graph.proofs.Frontier.{room-blank, start, queued-usable, turn, answer-yes, answer-no, measured}
@@ -15,11 +14,11 @@ use Rattle.graph.proofs.paths.search_back.Tie as tie
 
 abbrev Inv-loop : tie.InvT-loop
 Inv-loop edges first next from to distances₀ queue₀ vertex₀ distance₀ head₀ tail₀ distances queue vertex distance head tail =
-    (vertex < usableLimit) × Room distances queue tail
+    (vertex < searchLimit) × Room distances queue tail
     × Frontier edges (length next) to vertex distance head (getD first vertex 0) distances queue tail
 
 abbrev μ-loop : tie.MeasureT-loop
-μ-loop edges first next from to distances₀ queue₀ vertex₀ distance₀ head₀ tail₀ distances queue vertex distance head tail = usableLimit - head
+μ-loop edges first next from to distances₀ queue₀ vertex₀ distance₀ head₀ tail₀ distances queue vertex distance head tail = searchLimit - head
 
 loop-holds : tie.Need-loop-holds Inv-loop μ-loop
 loop-holds c =
@@ -45,13 +44,13 @@ module _ (c : tie.After-scan Inv-loop μ-loop) where
       (at .loop .head) 0 (c .scan .last .1 .1 .1 .1 .0) (c .scan .last .1 .1 .1 .1 .1 .0) (c .scan .result)
   looked = c .scan .ensures .frontier _ _ _ _ _ (omega arith) (at .loop .inv .2)
 
-  marks-long : length (entry .args .distances .now) ≡ usableLimit
+  marks-long : length (entry .args .distances .now) ≡ searchLimit
   marks-long = blank-long (entry .pre .1 .1 .1 .0)
 
   -- the next vertex, where there is one
   next-usable :
       (at .loop .head ≡ c .scan .result → ⊥)
-      → (at .loop .head < c .scan .result) × (getD (c .scan .last .1 .1 .1 .1 .1 .0) (at .loop .head) 0 < usableLimit)
+      → (at .loop .head < c .scan .result) × (getD (c .scan .last .1 .1 .1 .1 .1 .0) (at .loop .head) 0 < searchLimit)
   next-usable more =
       let lt : at .loop .head < c .scan .result = omega (arith, looked) in
       (lt, queued-usable looked (c .scan .ensures .room) _ lt)

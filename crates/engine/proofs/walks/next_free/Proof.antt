@@ -1,0 +1,44 @@
+-- Before the turn of a vertex none from `from` on is free below it.
+use Prim.Native.Nat.{_-_, _≤_}
+use mathlib.Core.Path.{sym, _∙_}
+use native.Mathlib.Omega.{arith}
+use Rattle.engine.proofs.FreeLaws.{NoneFree, one-more}
+use Rattle.engine.proofs.walks.next_free.Statement.{statement}
+use Rattle.engine.proofs.walks.next_free.Tie as tie
+
+abbrev Inv-loop : tie.InvT-loop
+Inv-loop vertices busy made from vertex₀ vertex = (from ≤ vertex) × NoneFree vertices busy from vertex
+
+abbrev μ-loop : tie.MeasureT-loop
+μ-loop vertices busy made from vertex₀ vertex = made - vertex
+
+loop-holds : tie.Need-loop-holds Inv-loop μ-loop
+loop-holds c = (omega arith, λ u le lt. absurd (omega arith))
+
+returns : tie.Need-returns Inv-loop μ-loop
+returns c =
+    let turn = c .before .before .before .loop in
+    (omega arith, λ lt. (turn .inv .0, sym (c .before .is-free .ensures) ∙ c .if1 .taken), turn .inv .1)
+
+loop-again : tie.Need-loop-again Inv-loop μ-loop
+loop-again c =
+    let turn = c .before .before .before in
+    let marks = turn .before .before .before .args .busy .now in
+    (omega arith, one-more _ marks _ _ (turn .loop .inv .1) (sym (c .before .is-free .ensures) ∙ c .if1 .left))
+
+returns-2 : tie.Need-returns-2 Inv-loop μ-loop
+returns-2 c = (omega arith, λ lt. absurd (omega arith), λ u le lt. c .before .loop .inv .1 u le (omega arith))
+
+pub next-free-spec : {M : Type 1} → statement M
+next-free-spec =
+    tie.close
+    (tie.spec
+    Inv-loop
+    μ-loop
+    loop-holds
+    (λ c κs. omega arith)
+    returns
+    (λ c. omega arith)
+    (λ c. omega arith)
+    loop-again
+    returns-2)
