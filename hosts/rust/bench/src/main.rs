@@ -141,6 +141,20 @@ fn repeated(item: &[u8], times: usize) -> Vec<u8> {
     [item.repeat(times), vec![0]].concat()
 }
 
+/// 31 items, each of them all of the body of the one before, and this in the innermost.
+fn nested(item: u8, innermost: &[u8]) -> Vec<u8> {
+    [&[item; 31], innermost, &[0; 32]].concat()
+}
+
+/// A fork in each branch of a fork, so many deep, and a job at the leaves.
+fn fork_tree(depth: usize) -> Vec<u8> {
+    if depth == 0 {
+        return vec![1, 5];
+    }
+    let branch = [fork_tree(depth - 1), vec![0]].concat();
+    [vec![4], branch.clone(), branch].concat()
+}
+
 fn thousands(number: usize) -> String {
     if number < 1000 {
         number.to_string()
@@ -180,7 +194,12 @@ fn main() {
         ("682 retunes", repeated(&[1, 0xA0, 0xD1, 0xA5, 0xD5, 0x0C], 682)),
         // In turn a future with a job in its body, its force, and a job behind that.
         ("200 futures", repeated(&[5, 1, 5, 0, 6, 0, 1, 5], 200)),
-        ("nesting 31 deep", [[2].repeat(31), [0].repeat(32)].concat()),
+        ("nesting 31 deep", nested(2, &[])),
+        // Eight forks deep, with a job at each of 256 leaves.
+        ("255 forks in a tree", [fork_tree(8), vec![0]].concat()),
+        ("16 x 31 nested finishes", [nested(3, &[])[..62].repeat(16), vec![0]].concat()),
+        ("255 async{finish{async}}", repeated(&[2, 3, 2, 0, 0, 0], 255)),
+        ("31 asyncs over 2,000 jobs", nested(2, &[1, 5].repeat(2000))),
         ("mixed", compare::programs::mixed()),
     ];
     programs.extend(others.map(|(name, bytes)| (name.into(), bytes, Edition::First)));
@@ -203,6 +222,15 @@ fn main() {
     for ((name, ..), times) in repeats.iter().zip(timed.chunks(2)) {
         let growth = |by: fn(&Timed) -> f64| format!("x {:.2}", by(&times[1]) / by(&times[0]));
         println!("| {name:<10} | {:>12} | {:>12} |", growth(|times| times.step[0]), growth(|times| times.run[0]));
+    }
+
+    println!("\nNanoseconds per vertex of a run, load counted in.\n");
+    println!("| {:<25} | {:>8} | {:>8} | {:>8} |", "program", "vertices", "engine", "paper");
+    println!("|:{0:-<26}|{0:->9}:|{0:->9}:|{0:->9}:|", "");
+    for (((name, _, times), vertices_of_one), timed) in repeats.iter().zip([1, 3, 2]).zip(timed.chunks(2)) {
+        let vertices = 2 + vertices_of_one * times;
+        let [engine, paper] = timed[1].run.map(|per_step| per_step * timed[1].steps as f64 / vertices as f64);
+        println!("| {:<25} | {:>8} | {engine:>8.0} | {paper:>8.0} |", format!("{} {name}", thousands(*times)), thousands(vertices));
     }
 
     println!("\nNanoseconds per single command or chain on 1,024 vertices.\n");
