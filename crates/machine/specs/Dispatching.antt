@@ -1,6 +1,6 @@
--- Dispatch, a call for hosts that run jobs on threads (docs/ENGINE.md, "Dispatch"): it "steps the lowest vertex that can step and is not busy, again
--- and again; where a step answers a job, it marks that vertex busy in a lent table and writes vertex, number and offset into a lent list". "The
--- host clears a vertex's mark when its job has ended, and calls again."
+-- Dispatch, a call for hosts that run jobs on threads (docs/DECISIONS.md, "A run on its own index, and dispatch"): it "steps the lowest vertex
+-- that can step and is not busy, again and again; where a step answers a job, it marks that vertex busy in a lent table and writes vertex, number
+-- and offset into a lent list". "The host clears a vertex's mark when its job has ended, and calls again."
 use Prim.Native.Nat.{ℕ, zero, suc, _+_, _*_, _/_}
 use mathlib.Core.Bool.{Bool, true, false, not, cond}
 use mathlib.Core.List.{List}
