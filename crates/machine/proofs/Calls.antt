@@ -12,11 +12,11 @@ use Rattle.graph.specs.Tables.{Lent}
 use Rattle.graph.proofs.TestLaws.{true-false}
 use Rattle.graph.proofs.LowestLaws.{Finds}
 use Rattle.program.specs.declared.Edition.{Edition}
-use Rattle.refusal.specs.Refusals.{unsound-tables}
+use Rattle.refusal.specs.Refusals.{unsound-tables, busy-table-too-short}
 use Rattle.machine.specs.Answers.{StepSaid, accepted}
 use Rattle.machine.specs.Stepping.{steppable, step}
 use Rattle.machine.specs.Running.{canStep, lowest, allFinished, Ending, refused, RunOutcome, ended, look, runOn, run}
-use Rattle.machine.specs.Dispatching.{Desk, desk, dispatch, busy-table-too-short}
+use Rattle.machine.specs.Dispatching.{Desk, desk, dispatch}
 use Rattle.machine.specs.Dispatching as dispatching
 use Rattle.machine.specs.Demand2.{Looks, OnlySuchSteps, run-refused, run-steps, FreeSteps, no-turn, turn, DispatchLooks, OnlyFreeSteps}
 use Rattle.machine.specs.Demand2.{tables-refused, marks-refused, dispatch-steps}

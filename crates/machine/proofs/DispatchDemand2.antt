@@ -15,11 +15,11 @@ use Rattle.graph.specs.Tables.{Lent, vertexRows}
 use Rattle.graph.proofs.TestLaws.{true-false, not-so, both-left, both-right}
 use Rattle.graph.proofs.LowestLaws.{Finds, below-finds}
 use Rattle.program.specs.declared.Edition.{Edition}
-use Rattle.refusal.specs.Refusals.{unsound-tables}
+use Rattle.refusal.specs.Refusals.{unsound-tables, busy-table-too-short}
 use Rattle.machine.specs.Answers.{StepSaid}
 use Rattle.machine.specs.Stepping.{steppable, step}
 use Rattle.machine.specs.Running.{canStep, lowest, allFinished}
-use Rattle.machine.specs.Dispatching.{isBusy, Desk, desk, marksOf, listOf, handedOf, room, handOut, lowestFree, Ending, done, stuck, waiting, busy-table-too-short}
+use Rattle.machine.specs.Dispatching.{isBusy, Desk, desk, marksOf, listOf, handedOf, room, handOut, lowestFree, Ending, done, stuck, waiting}
 use Rattle.machine.specs.Dispatching.{full, spent, refused, Outcome, ended, look, lookAt, dispatchOn, dispatch}
 use Rattle.machine.specs.Demand2.{LowestFree, FreeSteps, no-turn, turn, DispatchLooks, OnlyFreeSteps, tables-refused, marks-refused}
 use Rattle.machine.specs.Demand2.{dispatch-steps}

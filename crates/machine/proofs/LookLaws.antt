@@ -6,15 +6,13 @@
 --     step-else       and the own words of every other vertex, on any tables
 --     idle-cannot     a vertex that does not execute can step only if it is released, and its word says that no edge leads into it
 --     lowest-none     a look finds none where none can step
---     lowest-is       it finds the one that can, below which none can
---     late-none       it finds none once the steps are used up
 --     finished-none   nor once all vertices are finished
 --     run-turned      a run on tables that take no step is refused by 12
 --     run-goes        another one looks
 --     rests           it ends where it finds none
 --     used-up         or where the budget is used
 --     goes-on         and otherwise goes on behind the step of the vertex that it found
-use Prim.Native.Nat.{ℕ, zero, suc, _+_, _*_, _<_, _≤_}
+use Prim.Native.Nat.{ℕ, zero, suc, _+_, _*_, _<_}
 use mathlib.Core.Path.{_≡_, refl, sym, _∙_, ap, subst}
 use mathlib.Core.Bool.{Bool, true, false, cond}
 use mathlib.Core.Logic.{_⊎_, ⊎-elim}
@@ -29,7 +27,7 @@ use Rattle.graph.specs.declared.Command.{Command}
 use Rattle.graph.specs.InCounts.{CountsTrue}
 use Rattle.graph.specs.Answers.{Outcome}
 use Rattle.graph.proofs.TestLaws.{true-false, decide, not-so, equal?}
-use Rattle.graph.proofs.LowestLaws.{found-is, none-is}
+use Rattle.graph.proofs.LowestLaws.{none-is}
 use Rattle.graph.proofs.SoundLaws.{Known, sound-tally, sound-fits, fits-sound}
 use Rattle.graph.proofs.Demand2.{stays-sound}
 use Rattle.graph.proofs.InCounts.{stays-true, same-counts}
@@ -37,7 +35,7 @@ use Rattle.graph.proofs.TakenLaws.{after-either}
 use Rattle.program.specs.declared.Edition.{Edition}
 use Rattle.refusal.specs.Refusals.{unsound-tables}
 use Rattle.machine.specs.Answers.{StepSaid, accepted}
-use Rattle.machine.specs.Stepping.{stepLimit, steppable, Own, ownOf, Due, refusal-due, job-due, command-due, due, doDue, step}
+use Rattle.machine.specs.Stepping.{steppable, Own, ownOf, Due, refusal-due, job-due, command-due, due, doDue, step}
 use Rattle.machine.specs.Running.{canStep, lowest, allFinished, done, stuck, spent, refused, RunOutcome, ended, look, runOn, run}
 use Rattle.machine.specs.Demand2.{Adds, Does}
 use Rattle.machine.proofs.TablesFollow.OwnLaws.{status-not-own, count-not-own, leaves-own, leaves-made, adds-own}
@@ -166,19 +164,6 @@ idle-cannot ed bytes s v known made idle waits =
 pub lowest-none : (ed : Edition) (bytes : List ℕ) (s : Lent) → ((u : ℕ) → u < s .made → canStep ed bytes s u ≡ false) → lowest ed bytes s ≡ none
 unfolding lowest
 lowest-none ed bytes s = none-is (canStep ed bytes s) (s .made)
-
--- and the vertex that can step, below which none can.
-pub lowest-is :
-    (ed : Edition) (bytes : List ℕ) (s : Lent) (v : ℕ) → v < s .made → canStep ed bytes s v ≡ true
-    → ((u : ℕ) → u < v → canStep ed bytes s u ≡ false) → lowest ed bytes s ≡ some v
-unfolding lowest
-lowest-is ed bytes s = found-is (canStep ed bytes s) (s .made)
-
--- It finds none once the steps are used up,
-pub late-none : (ed : Edition) (bytes : List ℕ) (s : Lent) → stepLimit ≤ s .steps → lowest ed bytes s ≡ none
-late-none ed bytes s late =
-    lowest-none ed bytes s
-    (λ u lt. not-so (canStep ed bytes s u) (λ h. let early : s .steps < stepLimit = can-ready ed bytes s u h .1 in absurd (omega arith)))
 
 -- and once all vertices are finished.
 pub finished-none : (ed : Edition) (bytes : List ℕ) (s : Lent) → allFinished s ≡ true → lowest ed bytes s ≡ none

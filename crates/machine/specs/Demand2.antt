@@ -10,7 +10,7 @@ use mathlib.Core.List.{List, [], _∷_}
 use mathlib.Core.Option.{Option, none, some}
 use lib.ListN.{length}
 use Rattle.graph.specs.Tables.{Lent, FINISHED, vertexWords, placeWord, phaseWord, madeWord, futureWord, vertexRows, edgeRows, status}
-use Rattle.refusal.specs.Refusals.{no-such-vertex, vertex-is-new, vertex-is-finished, number-malformed, job-too-large}
+use Rattle.refusal.specs.Refusals.{no-such-vertex, vertex-is-new, vertex-is-finished, number-malformed, job-too-large, busy-table-too-short}
 use Rattle.refusal.specs.Refusals.{too-few-vertex-rows, too-few-edge-rows, unsound-tables, nothing-starts, no-such-future}
 use Rattle.graph.specs.Answers as of-graph
 use Rattle.graph.specs.Commands.{command}
@@ -24,7 +24,7 @@ use Rattle.program.specs.Reader.{program, refusal, reading}
 use Rattle.machine.specs.Answers.{StepSaid, accepted, refuse, saidAs}
 use Rattle.machine.specs.Stepping.{steppable, Own, ownOf, Due, refusal-due, job-due, command-due, due, step}
 use Rattle.machine.specs.Running.{canStep, Ending, done, stuck, spent, refused, RunOutcome, ended}
-use Rattle.machine.specs.Dispatching.{isBusy, Desk, desk, marksOf, listOf, handedOf, room, handOut, busy-table-too-short}
+use Rattle.machine.specs.Dispatching.{isBusy, Desk, desk, marksOf, listOf, handedOf, room, handOut}
 use Rattle.machine.specs.Dispatching as dispatching
 
 -- LOADING

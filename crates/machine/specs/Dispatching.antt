@@ -9,7 +9,7 @@ use lib.Dec.{eqb, leb, ltb}
 use lib.ListN.{length, getD, set}
 use Rattle.graph.specs.Tests.{both, lowestBelow}
 use Rattle.graph.specs.Tables.{Lent, vertexRows}
-use Rattle.refusal.specs.Refusals.{unsound-tables}
+use Rattle.refusal.specs.Refusals.{unsound-tables, busy-table-too-short}
 use Rattle.program.specs.declared.Edition.{Edition}
 use Rattle.machine.specs.Answers.{StepSaid, start, new, edge, release, transfer, job, stop, yield}
 use Rattle.machine.specs.Stepping.{steppable, step}
@@ -107,10 +107,6 @@ lookAt ed bytes again budget s d taken =
 unfoldable pub dispatchOn : Edition → List ℕ → ℕ → Lent → Desk → ℕ → Outcome
 dispatchOn ed bytes zero s d taken = lookAt ed bytes (λ s' d' t. ended spent t s' d') 0 s d taken
 dispatchOn ed bytes (suc budget) s d taken = lookAt ed bytes (dispatchOn ed bytes budget) (suc budget) s d taken
-
--- the table of marks has fewer words than the vertex table has usable rows
-abbrev pub busy-table-too-short : ℕ
-busy-table-too-short = 44
 
 -- "Any lengths and contents of both tables end in such an ending or a numbered refusal that changed nothing": 12 as for a run, then 44 where
 -- the table of marks has fewer words than the vertex table has usable rows. The list may have any length.

@@ -1,7 +1,7 @@
 -- Where the body ends, from each place of a program on: one law for each turn of the loop that turns marks into ends, and what they tell then.
 use Prim.Native.Nat.{ℕ, suc, _+_, _<_, _≤_}
 use mathlib.Core.Path.{_≡_, refl, sym, ap, subst, _∙_}
-use mathlib.Core.Bool.{Bool, true, false, cond, true≢false}
+use mathlib.Core.Bool.{Bool, true, false, not, cond, true≢false}
 use mathlib.Core.List.{List, [], _++_}
 use mathlib.Core.Logic.{_≢_}
 use mathlib.Core.Option.{Option, none, some, Option·some-injective, Option·none-ne-some}
@@ -12,21 +12,20 @@ use lib.Seq.{getD-set-same, getD-set-other}
 use borrow.Author.Tests.{eqb-true, eqb-false, ne-eqb, ltb-true, ltb-false}
 use Rattle.program.specs.declared.Edition.{Edition}
 use Rattle.program.specs.Limits.{programBytes}
-use Rattle.program.specs.Trees.{Counts, Body, end, job, async, finish, fork, future, force}
+use Rattle.program.specs.Trees.{Body, end, job, async, finish, fork, future, force}
 use Rattle.program.specs.Bytes.{endByte, jobByte, asyncByte, finishByte, forkByte, futureByte, forceByte, encode, size}
 use Rattle.program.specs.Reader.{Reading, program, refusal, reading}
-use Rattle.program.specs.Answers.{ProgramSaid, loads, refused, told}
 use Rattle.program.specs.Located.{Code, end-at, job-at, async-at, finish-at, fork-at, future-at, force-at, locate, located, startOf, last}
-use Rattle.program.specs.Located.{codeAt, isSome, endOf, endIn, endAt, MarksEnds}
+use Rattle.program.specs.Located.{codeAt, isSome, startsIn, startsAt, endOf, endIn, endAt, MarksEnds, MarksStarts}
 use Rattle.program.specs.Claims.{Fits, Encoding, encoding}
-use Rattle.program.specs.Internal.Progress.{opensNumber, inNumber, Outside, endBy, LooksWithin, Ended}
+use Rattle.program.specs.Internal.Progress.{isRead, opensNumber, inNumber, Outside, Clear, endBy, LooksWithin, Ended}
 use Rattle.program.proofs.LocatedLaws.{here-later, Inner, job-rest, async-body, async-rest, finish-body, finish-rest, fork-left, fork-right}
 use Rattle.program.proofs.LocatedLaws.{fork-rest, future-body, future-rest, force-rest, Laid, last-locate, laid-located, laid-le, laid-inner}
 use Rattle.program.proofs.LocatedLaws.{code-place, code-laid, code-range, code-before, code-inner, code-same}
 use Rattle.program.proofs.StartLaws.{Placed, placed, code-bytes, starts, starts-within}
-use Rattle.program.proofs.PlaceLaws.{Loads, loaded, loads-told, loads-few}
+use Rattle.program.proofs.PlaceLaws.{Loads, loaded, loads-read}
 use Rattle.program.proofs.SkipLaws.{first-behind}
-use Rattle.program.proofs.MarkLaws.{zero-at, byteMark, mark-behind, mark-byte}
+use Rattle.program.proofs.MarkLaws.{byteMark, mark-behind, mark-byte}
 
 -- The places from `above` on have their ends in m, and those before still have what they had. `after` is the end from the lowest place on, of
 -- the places that are done, where something starts.
@@ -312,37 +311,35 @@ filled-more {bytes} {before} {ends} {o} {after} x t there is b fits same = go (m
 pub all-zero : (ends : List ℕ) (n : ℕ) → ends ≡ replicate n 0 → (length ends ≡ n) × (ends ≡ replicate (length ends) 0)
 all-zero ends n is = let long : length ends ≡ n = ap length is ∙ length-replicate n 0 in (long, is ∙ ap (λ (k : ℕ). replicate k 0) (sym long))
 
--- there is one for each byte of a program that is read
-pub all-room :
-    (ed : Edition) (bytes ends : List ℕ) (c : Counts) → loads c ≡ told (reading ed bytes) → ends ≡ replicate programBytes 0
-    → (ends ≡ replicate (length ends) 0) × (length bytes ≤ length ends)
-all-room ed bytes ends c is zero =
-    let (long, zeros) = all-zero ends programBytes zero in
-    (zeros, omega (arith, long, loads-few ed bytes c is))
-
 -- the program is refused: nothing starts, and all ends are 0
-pub ends-refused :
-    (ed : Edition) (bytes ends : List ℕ) (n q : ℕ) → ProgramSaid.refused n q ≡ told (reading ed bytes) → ends ≡ replicate (length ends) 0
-    → MarksEnds ed bytes ends
-unfolding told endAt endIn
-ends-refused ed bytes ends n q is zeros p lt = zero-at ends zeros p lt ∙ go (reading ed bytes) is
+pub ends-refused : (ed : Edition) (bytes ends : List ℕ) → isRead (reading ed bytes) ≡ false → Clear ends → MarksEnds ed bytes ends
+unfolding isRead endAt endIn
+ends-refused ed bytes ends is clear p lt = clear p lt ∙ go (reading ed bytes) is
   where
-    Refusing : ProgramSaid → Type 0
-    Refusing (loads c) = ⊥
-    Refusing (refused n p) = Unit {0}
-
-    go : (r : Reading) → ProgramSaid.refused n q ≡ told r → 0 ≡ endIn r p
-    go (program b) is = absurd (subst Refusing is tt)
+    go : (r : Reading) → isRead r ≡ false → 0 ≡ endIn r p
+    go (program b) is = absurd (true≢false is)
     go (refusal n p) is = refl
 
 -- it is read: the ends are those in its tree
-pub ends-read :
-    (ed : Edition) (bytes ends : List ℕ) (c : Counts) → loads c ≡ told (reading ed bytes) → Ended bytes ends → MarksEnds ed bytes ends
+pub ends-read : (ed : Edition) (bytes ends : List ℕ) → isRead (reading ed bytes) ≡ true → Ended bytes ends → MarksEnds ed bytes ends
 unfolding endAt endIn
-ends-read ed bytes ends c is ended p lt = go (loads-told ed bytes c is)
+ends-read ed bytes ends is ended p lt = go (loads-read ed bytes is)
   where
     go : Loads ed bytes → getD ends p 0 ≡ endAt ed bytes p
     go (loaded b e same long fits) = ended b (fits .fits) same p lt ∙ sym (ap (λ r. endIn r p) e)
+
+-- Ends are marks of the places where something starts: where the body ends is past its end byte, and so not 0.
+pub ends-tell-starts : (ed : Edition) (bytes ends : List ℕ) → MarksEnds ed bytes ends → MarksStarts ed bytes ends
+unfolding endAt endIn endOf startsAt startsIn isSome
+ends-tell-starts ed bytes ends marks p lt = ap (λ (n : ℕ). not (eqb n 0)) (marks p lt) ∙ go (reading ed bytes)
+  where
+    told : (x : Option Code) → not (eqb (endOf x) 0) ≡ isSome x
+    told none = refl
+    told (some c) = ap not (ne-eqb (suc (last c)) 0 (omega arith))
+
+    go : (r : Reading) → not (eqb (endIn r p) 0) ≡ startsIn r p
+    go (program b) = told (codeAt (located b) p)
+    go (refusal n q) = refl
 
 -- what each path through `end_from` tells: an end byte,
 pub by-end : (first place after : ℕ) (ends : List ℕ) → first ≡ endByte → place + 1 ≡ endBy first place after ends

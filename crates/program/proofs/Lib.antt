@@ -3,6 +3,7 @@
 --     NumberLaws    reading a number is exact, with any room
 --     Soundness     what is read stands in the bytes, and fits
 --     ReaderLaws    the body reader and the item reader unrolled
+--     StackLaws     the body reader without recursion, by the items that are open around a body
 --     Completeness  every tree within the limits in which every force has its future is read back from its bytes
 --     ReadingLaws   reading a whole program, by what its main body comes to
 --     StopLaws      where reading stops, and why
@@ -17,6 +18,7 @@
 --     NumberEnds    where a number ends, and which bytes stand inside one
 --     SkipLaws      the search for a body's end
 --     ItemLaws      what the item reader of a step tells at its place, and the reader that it hands back
+--     CheckLaws     whether a whole program is read, told in one pass
 --     PlaceLaws     what starts and what stands at a place of a whole program
 --     MarkLaws      marks for the places of a whole program
 --     EndLaws       where the body ends, from each place of a whole program on
@@ -29,6 +31,7 @@ pub mod ReadLaws
 pub mod NumberLaws
 pub mod Soundness
 pub mod ReaderLaws
+pub mod StackLaws
 pub mod Completeness
 pub mod ReadingLaws
 pub mod StopLaws
@@ -45,6 +48,7 @@ pub mod WholeLaws
 pub mod NumberEnds
 pub mod SkipLaws
 pub mod ItemLaws
+pub mod CheckLaws
 pub mod PlaceLaws
 pub mod MarkLaws
 pub mod EndLaws

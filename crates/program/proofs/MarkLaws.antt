@@ -1,49 +1,25 @@
 -- Marks for the places of a program: one law for each turn of the loop that sets them, and what the marks tell then.
-use Prim.Native.Nat.{ℕ, _+_, _<_, _≤_}
+use Prim.Native.Nat.{ℕ, zero, suc, _+_, _<_, _≤_}
 use mathlib.Core.Path.{_≡_, refl, sym, ap, _∙_}
 use mathlib.Core.Bool.{Bool, true, false, not, cond}
-use mathlib.Core.List.{List}
+use mathlib.Core.List.{List, [], _∷_}
 use mathlib.Core.Logic.{_≢_}
 use native.Mathlib.Omega.{arith}
 use lib.Dec.{eqb, ltb}
 use lib.ListN.{length, getD, set, replicate, length-set, getD-replicate}
 use lib.Seq.{getD-set-same, getD-set-other}
 use borrow.Author.Tests.{eqb-true, eqb-false, lt-ltb, le-ltb, ltb-true, ltb-false}
-use Rattle.program.specs.Internal.Progress.{inNumber, Outside}
+use Rattle.program.specs.Internal.Progress.{inNumber}
 
 -- marks that are all 0 have 0 at each place
 pub zero-at : (marks : List ℕ) → marks ≡ replicate (length marks) 0 → (p : ℕ) → p < length marks → getD marks p 0 ≡ 0
 zero-at marks zeros p lt = ap (λ l. getD l p 0) zeros ∙ getD-replicate (length marks) p 0 0 lt
 
--- Marks are being set where all were 0, as f tells: so far those of the places before i, and the others are still 0.
-pub record Marking (f : ℕ → ℕ) (before : List ℕ) (marks : List ℕ) (i : ℕ) : Type 0 where
-  pub long : length marks ≡ length before
-  pub done : (p : ℕ) → p < i → getD marks p 0 ≡ f p
-  pub still : (p : ℕ) → i ≤ p → p < length marks → getD marks p 0 ≡ 0
-
--- before the first turn
-pub marking-none : {f : ℕ → ℕ} {before : List ℕ} → before ≡ replicate (length before) 0 → Marking f before before 0
-marking-none {f} {before} zeros =
-    record { long = refl; done = λ p lt. absurd (omega arith); still = λ p le lt. zero-at before zeros p lt }
-
--- one mark more
-pub marking-more :
-    {f : ℕ → ℕ} {before marks : List ℕ} {i : ℕ} (x : ℕ) → Marking f before marks i → i < length marks → x ≡ f i
-    → Marking f before (set marks i x) (i + 1)
-marking-more {f} {before} {marks} {i} x m lt is =
-    record {
-      long = length-set marks i x ∙ m .long;
-      done = λ p below. go p below (eqb p i) refl;
-      still = λ p le within. getD-set-other marks i p x 0 (omega arith) ∙ m .still p (omega arith) (omega (arith, length-set marks i x));
-    }
-  where
-    go : (p : ℕ) → p < i + 1 → (t : Bool) → eqb p i ≡ t → getD (set marks i x) p 0 ≡ f p
-    go p below true e =
-        let q : p ≡ i = eqb-true p i e in
-        ap (λ (k : ℕ). getD (set marks i x) k 0) q ∙ getD-set-same marks i x 0 lt ∙ is ∙ ap f (sym q)
-    go p below false e =
-        let other : p ≢ i = eqb-false p i e in
-        getD-set-other marks i p x 0 other ∙ m .done p (omega arith)
+-- there is nothing to set behind the last one
+pub set-beyond : (marks : List ℕ) (p x : ℕ) → length marks ≤ p → marks ≡ set marks p x
+set-beyond [] p x le = refl
+set-beyond (m ∷ marks) zero x le = absurd (omega arith)
+set-beyond (m ∷ marks) (suc p) x le = ap (λ (l : List ℕ). m ∷ l) (set-beyond marks p x (omega arith))
 
 -- what the mark of a place is to be, by whether it is inside a number
 unfoldable pub byteMark : List ℕ → ℕ → ℕ
@@ -63,21 +39,49 @@ mark-byte xs p inside lt h = rw (lt-ltb p (length xs) lt, sym h) (go inside)
     go true = refl
     go false = refl
 
--- a mark is 0 or 1
-pub mark-small : (starts : Bool) {x : ℕ} → x ≡ cond starts 1 0 → x ≤ 1
-mark-small true is = omega arith
-mark-small false is = omega arith
+-- marks of 1 at the places before i that are outside the numbers of these bytes, and 0 elsewhere
+abbrev pub Marked : List ℕ → List ℕ → ℕ → Type 0
+Marked xs marks i = (p : ℕ) → p < length marks → getD marks p 0 ≡ cond (ltb p i) (cond (inNumber xs p) 0 1) 0
 
--- all places of the program that have a mark are marked
-pub marking-outside :
-    {before marks : List ℕ} {i : ℕ} (xs : List ℕ) → Marking (byteMark xs) before marks i
-    → ((p : ℕ) → i ≤ p → p < length marks → length xs ≤ p)
-    → (length marks ≡ length before) × Outside xs marks
-unfolding byteMark
-marking-outside {before} {marks} {i} xs m over = (m .long, λ p lt. go p lt (ltb p i) refl)
+-- before the first mark
+pub marked-none : (xs marks : List ℕ) → marks ≡ replicate (length marks) 0 → Marked xs marks 0
+marked-none xs marks zeros p lt = zero-at marks zeros p lt ∙ rw (le-ltb p 0 (omega arith)) refl
+
+-- one mark more, at a place outside that only places inside a number follow up to j
+pub marked-more :
+    (xs marks : List ℕ) (i j : ℕ) → Marked xs marks i → inNumber xs i ≡ false → i < j
+    → ((q : ℕ) → i < q → q < j → inNumber xs q ≡ true) → Marked xs (set marks i 1) j
+marked-more xs marks i j m out lt inside p within = go (ltb p i) refl (eqb p i) refl (ltb p j) refl
   where
-    go : (p : ℕ) → p < length marks → (t : Bool) → ltb p i ≡ t → getD marks p 0 ≡ byteMark xs p
-    go p lt true e = m .done p (ltb-true p i e)
-    go p lt false e =
-        let le : i ≤ p = ltb-false p i e in
-        m .still p le lt ∙ mark-behind xs p (over p le lt)
+    there : p < length marks
+    there = omega (arith, length-set marks i 1)
+
+    go : (s : Bool) → ltb p i ≡ s → (t : Bool) → eqb p i ≡ t → (u : Bool) → ltb p j ≡ u
+        → getD (set marks i 1) p 0 ≡ cond (ltb p j) (cond (inNumber xs p) 0 1) 0
+    go s a true b u c =
+        let same : p ≡ i = eqb-true p i b in
+        rw (same, lt-ltb i j lt, out) (getD-set-same marks i 1 0 (omega (arith, there)))
+    go true a false b u c =
+        let less : p < i = ltb-true p i a in
+        let other : p ≢ i = eqb-false p i b in
+        getD-set-other marks i p 1 0 other ∙ m p there ∙ rw (a, lt-ltb p j (omega arith)) refl
+    go false a false b true c =
+        let other : p ≢ i = eqb-false p i b in
+        let ge : i ≤ p = ltb-false p i a in
+        let less : p < j = ltb-true p j c in
+        getD-set-other marks i p 1 0 other ∙ m p there ∙ rw (a, c, inside p (omega arith) less) refl
+    go false a false b false c =
+        let other : p ≢ i = eqb-false p i b in
+        getD-set-other marks i p 1 0 other ∙ m p there ∙ rw (a, c) refl
+
+-- the marks of the places before i are 0
+abbrev pub ClearTo : List ℕ → ℕ → Type 0
+ClearTo marks i = (p : ℕ) → p < i → getD marks p 0 ≡ 0
+
+-- one more is set to 0
+pub clear-more : (marks : List ℕ) (i : ℕ) → ClearTo marks i → i < length marks → ClearTo (set marks i 0) (i + 1)
+clear-more marks i clear lt p below = go (eqb p i) refl
+  where
+    go : (t : Bool) → eqb p i ≡ t → getD (set marks i 0) p 0 ≡ 0
+    go true e = ap (λ (k : ℕ). getD (set marks i 0) k 0) (eqb-true p i e) ∙ getD-set-same marks i 0 0 lt
+    go false e = let other : p ≢ i = eqb-false p i e in getD-set-other marks i p 0 0 other ∙ clear p (omega arith)

@@ -88,13 +88,6 @@ pub inside-none : (xs : List ℕ) → false ≡ inNumber xs 0
 unfolding inNumber
 inside-none xs = refl
 
--- one byte more
-pub inside-more :
-    (xs : List ℕ) (i : ℕ) (inside : Bool) → inside ≡ inNumber xs i
-    → cond inside (leb topBit (getD xs i 0)) (opensNumber (getD xs i 0)) ≡ inNumber xs (i + 1)
-unfolding inNumber
-inside-more xs i inside h = rw (add-one i, h) refl
-
 -- a byte that a number stands behind is a job's first, or else a force's
 pub opens-job : (x : ℕ) → x ≡ jobByte → eqb x jobByte ≡ opensNumber x
 unfolding opensNumber

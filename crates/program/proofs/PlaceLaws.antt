@@ -1,24 +1,24 @@
 -- What starts and what stands at a place of a whole program: one law for each path through `starts_at`, and what follows where an item
 -- or an end byte starts and where none does.
 use Prim.Native.Nat.{ℕ, _+_, _<_, _≤_}
-use mathlib.Core.Path.{_≡_, refl, sym, ap, _∙_, subst}
-use mathlib.Core.Bool.{Bool, true, false, not, true≢false}
+use mathlib.Core.Path.{_≡_, refl, sym, ap, _∙_}
+use mathlib.Core.Bool.{Bool, true, false, not, cond, true≢false}
 use mathlib.Core.List.{List, [], _++_}
 use mathlib.Core.Option.{Option, none, some, Option·none-ne-some}
 use native.Mathlib.Omega.{arith}
-use lib.Dec.{ltb}
-use lib.ListN.{length, drop}
+use lib.Dec.{eqb, ltb}
+use lib.ListN.{length, drop, getD, List·getD-eq-default}
 use borrow.Author.Tests.{ltb-true, ltb-false}
 use Rattle.program.specs.declared.Edition.{Edition}
 use Rattle.program.specs.Limits.{programBytes}
-use Rattle.program.specs.Trees.{Body, Counts}
+use Rattle.program.specs.Trees.{Body}
 use Rattle.program.specs.Bytes.{encode, size}
 use Rattle.program.specs.Reader.{Reading, program, refusal, reading}
 use Rattle.refusal.specs.Refusals.{nothing-starts}
-use Rattle.program.specs.Answers.{ProgramSaid, loads, refused, told, Stands}
-use Rattle.program.specs.Located.{Code, locate, located, codeAt, head, found, standsIn, itemAt, isSome, startsIn, startsAt}
+use Rattle.program.specs.Answers.{Stands}
+use Rattle.program.specs.Located.{Code, locate, located, codeAt, head, found, standsIn, itemAt, isSome, startsIn, startsAt, MarksStarts}
 use Rattle.program.specs.Claims.{Fits, Loadable, Encoding, encoding}
-use Rattle.program.specs.Internal.Progress.{BeginsWithBody, begins, Shows, inNumber}
+use Rattle.program.specs.Internal.Progress.{BeginsWithBody, begins, Shows, isRead, inNumber, Outside, Clear}
 use Rattle.program.proofs.Exactness.{reading-sound}
 use Rattle.program.proofs.LocatedLaws.{head-locate, item-stands}
 use Rattle.program.proofs.StartLaws.{Placed, placed, code-bytes, starts, starts-within}
@@ -28,31 +28,20 @@ use Rattle.program.proofs.SkipLaws.{part, part-is, part-length}
 pub data Loads (ed : Edition) (bytes : List ℕ) : Type 0 where
   loaded : (b : Body) → reading ed bytes ≡ program b → bytes ≡ encode b → length bytes ≡ size b → Loadable ed b → Loads ed bytes
 
-pub loads-told : (ed : Edition) (bytes : List ℕ) (c : Counts) → loads c ≡ told (reading ed bytes) → Loads ed bytes
-unfolding told size
-loads-told ed bytes c is = go (reading ed bytes) refl is
+pub loads-read : (ed : Edition) (bytes : List ℕ) → isRead (reading ed bytes) ≡ true → Loads ed bytes
+unfolding isRead size
+loads-read ed bytes is = go (reading ed bytes) refl is
   where
-    Loading : ProgramSaid → Type 0
-    Loading (loads c) = Unit {0}
-    Loading (refused n p) = ⊥
-
-    go : (r : Reading) → reading ed bytes ≡ r → loads c ≡ told r → Loads ed bytes
+    go : (r : Reading) → reading ed bytes ≡ r → isRead r ≡ true → Loads ed bytes
     go (program b) e is = let (same, fits) = reading-sound ed bytes b e in loaded b e same (ap length same) fits
-    go (refusal n p) e is = absurd (subst Loading is tt)
+    go (refusal n p) e is = absurd (true≢false (sym is))
 
--- what `in_number` asks
-pub loads-encoding : (ed : Edition) (bytes : List ℕ) (c : Counts) → loads c ≡ told (reading ed bytes) → Encoding bytes
-loads-encoding ed bytes c is = go (loads-told ed bytes c is)
+-- what `in_number` and `fill_ends` ask: the bytes are an encoding, and not too many
+pub loads-encoding : (ed : Edition) (bytes : List ℕ) → isRead (reading ed bytes) ≡ true → Encoding bytes × (length bytes ≤ programBytes)
+loads-encoding ed bytes is = go (loads-read ed bytes is)
   where
-    go : Loads ed bytes → Encoding bytes
-    go (loaded b e same long fits) = encoding b (fits .fits) (fits .forced) same
-
--- and it has not too many bytes
-pub loads-few : (ed : Edition) (bytes : List ℕ) (c : Counts) → loads c ≡ told (reading ed bytes) → length bytes ≤ programBytes
-loads-few ed bytes c is = go (loads-told ed bytes c is)
-  where
-    go : Loads ed bytes → length bytes ≤ programBytes
-    go (loaded b e same long fits) = omega (arith, fits .bytes)
+    go : Loads ed bytes → Encoding bytes × (length bytes ≤ programBytes)
+    go (loaded b e same long fits) = (encoding b (fits .fits) (fits .forced) same, omega (arith, fits .bytes))
 
 -- in a program that is read, something starts where the search finds code
 starts-read : (ed : Edition) (bytes : List ℕ) (b : Body) (p : ℕ) → reading ed bytes ≡ program b
@@ -61,37 +50,49 @@ unfolding startsAt startsIn
 starts-read ed bytes b p e = ap (λ r. startsIn r p) e
 
 -- the program is refused
-pub starts-refused :
-    (ed : Edition) (bytes : List ℕ) (p n q : ℕ) → ProgramSaid.refused n q ≡ told (reading ed bytes) → false ≡ startsAt ed bytes p
-unfolding told startsAt startsIn
-starts-refused ed bytes p n q is = go (reading ed bytes) is
+pub starts-refused : (ed : Edition) (bytes : List ℕ) (p : ℕ) → isRead (reading ed bytes) ≡ false → false ≡ startsAt ed bytes p
+unfolding isRead startsAt startsIn
+starts-refused ed bytes p is = go (reading ed bytes) is
   where
-    Refusing : ProgramSaid → Type 0
-    Refusing (loads c) = ⊥
-    Refusing (refused n p) = Unit {0}
-
-    go : (r : Reading) → ProgramSaid.refused n q ≡ told r → false ≡ startsIn r p
-    go (program b) is = absurd (subst Refusing is tt)
+    go : (r : Reading) → isRead r ≡ false → false ≡ startsIn r p
+    go (program b) is = absurd (true≢false is)
     go (refusal n p) is = refl
 
 -- the place is not in the program
 pub starts-outside :
-    (ed : Edition) (bytes : List ℕ) (p : ℕ) (c : Counts) → loads c ≡ told (reading ed bytes) → length bytes ≤ p → false ≡ startsAt ed bytes p
+    (ed : Edition) (bytes : List ℕ) (p : ℕ) → isRead (reading ed bytes) ≡ true → length bytes ≤ p → false ≡ startsAt ed bytes p
 unfolding isSome
-starts-outside ed bytes p c is le = go (loads-told ed bytes c is)
+starts-outside ed bytes p is le = go (loads-read ed bytes is)
   where
     go : Loads ed bytes → false ≡ startsAt ed bytes p
     go (loaded b e same long fits) = sym (starts-read ed bytes b p e ∙ ap isSome (starts-within b p (omega arith)))
 
 -- it is in the program
 pub starts-inside :
-    (ed : Edition) (bytes : List ℕ) (p : ℕ) (c : Counts) → loads c ≡ told (reading ed bytes) → p < length bytes
+    (ed : Edition) (bytes : List ℕ) (p : ℕ) → isRead (reading ed bytes) ≡ true → p < length bytes
     → not (inNumber bytes p) ≡ startsAt ed bytes p
-starts-inside ed bytes p c is lt = go (loads-told ed bytes c is)
+starts-inside ed bytes p is lt = go (loads-read ed bytes is)
   where
     go : Loads ed bytes → not (inNumber bytes p) ≡ startsAt ed bytes p
     go (loaded b e same long fits) =
         ap (λ l. not (inNumber l p)) same ∙ starts b p (fits .fits .numbers) (omega arith) ∙ sym (starts-read ed bytes b p e)
+
+-- marks that are all 0 tell it of a program that is refused,
+pub clear-starts : (ed : Edition) (bytes marks : List ℕ) → isRead (reading ed bytes) ≡ false → Clear marks → MarksStarts ed bytes marks
+clear-starts ed bytes marks is clear p lt = ap (λ (m : ℕ). not (eqb m 0)) (clear p lt) ∙ starts-refused ed bytes p is
+
+-- and those of the places outside its numbers of one that is read
+pub outside-starts :
+    (ed : Edition) (bytes marks : List ℕ) → isRead (reading ed bytes) ≡ true → Outside bytes marks → MarksStarts ed bytes marks
+outside-starts ed bytes marks is outside p lt = ap (λ (m : ℕ). not (eqb m 0)) (outside p lt) ∙ go (ltb p (length bytes)) refl
+  where
+    unmarked : (t : Bool) → not (eqb (cond t 0 1) 0) ≡ not t
+    unmarked true = refl
+    unmarked false = refl
+
+    go : (t : Bool) → ltb p (length bytes) ≡ t → not (eqb (cond (ltb p (length bytes)) (cond (inNumber bytes p) 0 1) 0) 0) ≡ startsAt ed bytes p
+    go true e = rw e (unmarked (inNumber bytes p)) ∙ starts-inside ed bytes p is (ltb-true p (length bytes) e)
+    go false e = rw e refl ∙ starts-outside ed bytes p is (ltb-false p (length bytes) e)
 
 -- an item or an end byte starts there: the bytes from there on begin with a body, and what that begins with stands there
 data Starts (ed : Edition) (bytes : List ℕ) (p : ℕ) : Type 0 where
@@ -184,3 +185,15 @@ not-starting ed bytes p is = go (reading ed bytes) is
     go : (r : Reading) → startsIn r p ≡ false → standsIn r p ≡ Stands.refused nothing-starts 0
     go (program b) is = ap found (code-none (codeAt (located b) p) is)
     go (refusal n q) is = refl
+
+-- what the mark of a place tells; beyond the marks nothing starts
+pub marked-starts :
+    (ed : Edition) (bytes marks : List ℕ) (p : ℕ) {r : Bool} → MarksStarts ed bytes marks → length marks ≡ programBytes
+    → r ≡ not (eqb (getD marks p 0) 0) → r ≡ startsAt ed bytes p
+marked-starts ed bytes marks p marked full e = e ∙ go (ltb p (length marks)) refl
+  where
+    go : (b : Bool) → ltb p (length marks) ≡ b → not (eqb (getD marks p 0) 0) ≡ startsAt ed bytes p
+    go true h = marked p (ltb-true p (length marks) h)
+    go false h =
+        let beyond : length marks ≤ p = ltb-false p (length marks) h in
+        ap (λ (x : ℕ). not (eqb x 0)) (List·getD-eq-default marks 0 beyond) ∙ sym (starts-beyond ed bytes p (omega arith))

@@ -58,7 +58,7 @@ plus-end c =
     }
 
 -- what a body weighs, by its first item
-total-ahead : (g : Kind → ℕ) (i : Item) (b : Body) → total g (withFirst i b) ≡ total g (withFirst i end) + total g b
+pub total-ahead : (g : Kind → ℕ) (i : Item) (b : Body) → total g (withFirst i b) ≡ total g (withFirst i end) + total g b
 unfolding total withFirst
 total-ahead g (a-job n) b = omega arith
 total-ahead g (an-async c) b = omega arith

@@ -149,7 +149,7 @@ in-number-after xs (suc i) h =
     ∙ ap (after false) (sym (take-suc xs i 0 h))
 
 -- the bytes of a number: the top bit is set on every byte but its last
-data Groups : List ℕ → Type 0 where
+pub data Groups : List ℕ → Type 0 where
   last-group : {x : ℕ} → x < topBit → Groups (x ∷ [])
   more-groups : {x : ℕ} {xs : List ℕ} → topBit ≤ x → Groups xs → Groups (x ∷ xs)
 
@@ -173,7 +173,7 @@ groups-number (suc room) n h =
     go false e g = more-groups {x = topBit + n % topBit} (omega arith) g
 
 -- the one place where the limit on jobs and the bytes of a number meet
-number-groups : (n : ℕ) → n ≤ jobLimit → Groups (encodeNumber n)
+pub number-groups : (n : ℕ) → n ≤ jobLimit → Groups (encodeNumber n)
 unfolding encodeNumber
 number-groups n h = groups-number (pred numberBytes) n (lt-of-le-of-lt h (lit< {m = jobLimit} {n = topBit ^ numberBytes} tt))
 

@@ -1,8 +1,8 @@
 // Where the body ends, from each place of a program on, and what stands at a place, told by these ends.
 use crate::Edition;
 use crate::ItemRead;
-use crate::ProgramRead;
 use crate::Reader;
+use crate::checks::check;
 use crate::format::ASYNC;
 use crate::format::END;
 use crate::format::FINISH;
@@ -11,10 +11,8 @@ use crate::format::FORK;
 use crate::format::FUTURE;
 use crate::format::JOB;
 use crate::format::PROGRAM_BYTES;
-use crate::reading::read;
-use crate::starts::mark;
+use crate::starts::clear;
 use crate::starts::opens_number;
-use crate::starts::still_inside;
 use refusal::NOTHING_STARTS;
 use refusal::Refusal;
 ghost use mathlib.Core.Path.{_≡_};
@@ -32,26 +30,11 @@ pub fn mark_ends(program: &[u8], edition: Edition, ends: &mut [u16])
     requires { ⌜ now ends ≡ replicate programBytes 0 ⌝ }
     ensures { λ _. ⌜ (length (now (ends .exit)) ≡ programBytes) × MarksEnds edition (now (program .entry)) (now (ends .exit)) ⌝ }
 {
-    let reading = read(program, edition);
-    match reading {
-        ProgramRead::Refused(refusal) => {}
-        ProgramRead::Program(counts) => {
-            mark_places(program, ends);
-            fill_ends(program, ends);
-        }
+    if !check(program, edition, ends) {
+        clear(ends);
+        return;
     }
-}
-
-// Marks with 1 the places of the program that are not inside a number.
-fn mark_places(program: &[u8], ends: &mut [u16])
-    requires { ⌜ (now ends ≡ replicate (length (now ends)) 0) × (length (now program) ≤ length (now ends)) ⌝ }
-    ensures { λ _. ⌜ (length (now (ends .exit)) ≡ length (now (ends .entry))) × Outside (now (program .entry)) (now (ends .exit)) ⌝ }
-{
-    let mut inside = false;
-    for i in 0..program.len() {
-        ends[i] = mark(!inside) as u16;
-        inside = still_inside(inside, program[i]);
-    }
+    fill_ends(program, ends);
 }
 
 // Turns the marks into ends, from the last place to the first. `after` is the end from the lowest place on where something starts, of those
@@ -64,11 +47,10 @@ fn fill_ends(program: &[u8], ends: &mut [u16])
     let mut place = program.len();
     while 0 < place {
         place -= 1;
-        if ends[place] == 0 {
-            continue;
+        if ends[place] != 0 {
+            after = end_from(program[place], place, after, ends);
+            ends[place] = after;
         }
-        after = end_from(program[place], place, after, ends);
-        ends[place] = after;
     }
 }
 

@@ -16,10 +16,12 @@ use crate::starts::starts_at;
 use refusal::NOTHING_STARTS;
 use refusal::Refusal;
 ghost use mathlib.Core.Path.{_≡_};
+ghost use mathlib.Core.Bool.{not};
 ghost use Prim.Native.Nat.{_+_, _≤_};
-ghost use lib.ListN.{length};
+ghost use lib.Dec.{eqb};
+ghost use lib.ListN.{length, getD};
 ghost use Rattle.program.specs.Limits.{programBytes};
-ghost use Rattle.program.specs.Located.{itemAt};
+ghost use Rattle.program.specs.Located.{itemAt, startsAt, MarksStarts};
 ghost use Rattle.program.specs.Answers.{Stands, stands, readerAt, handedBack, movedPast};
 ghost use Rattle.program.specs.Internal.Progress.{BeginsWithBody, Shows, ShowsNumbered, Sized};
 
@@ -28,7 +30,34 @@ ghost use Rattle.program.specs.Internal.Progress.{BeginsWithBody, Shows,
 pub fn item_at(program: &[u8], edition: Edition, place: u32) -> ItemRead
     ensures { λ r. ⌜ (stands r ≡ itemAt edition (now (program .entry)) place) × (handedBack r ≡ movedPast (readerAt place) (stands r)) ⌝ }
 {
-    if !starts_at(program, edition, place) {
+    item_if_starts(program, edition, place, starts_at(program, edition, place))
+}
+
+// The same, in a program whose places are marked where something starts.
+pub fn item_by_marks(program: &[u8], marks: &[u16], edition: Edition, place: u32) -> ItemRead
+    requires { ⌜ MarksStarts edition (now program) (now marks) × (length (now marks) ≡ programBytes) ⌝ }
+    ensures { λ r. ⌜ (stands r ≡ itemAt edition (now (program .entry)) place) × (handedBack r ≡ movedPast (readerAt place) (stands r)) ⌝ }
+{
+    item_if_starts(program, edition, place, is_marked(marks, place))
+}
+
+// Beyond the marks nothing is marked.
+fn is_marked(marks: &[u16], place: u32) -> bool
+    ensures { λ r. ⌜ r ≡ not (eqb (getD (now (marks .entry)) place 0) 0) ⌝ }
+{
+    let at = place as usize;
+    if marks.len() <= at {
+        return false;
+    }
+    marks[at] != 0
+}
+
+// The same, told whether an item or an end byte starts at the place.
+fn item_if_starts(program: &[u8], edition: Edition, place: u32, starts: bool) -> ItemRead
+    requires { ⌜ starts ≡ startsAt edition (now program) place ⌝ }
+    ensures { λ r. ⌜ (stands r ≡ itemAt edition (now (program .entry)) place) × (handedBack r ≡ movedPast (readerAt place) (stands r)) ⌝ }
+{
+    if !starts {
         return ItemRead::Refused(Refusal {
             number: NOTHING_STARTS,
             place: 0,

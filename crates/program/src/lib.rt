@@ -2,8 +2,10 @@
 //
 // `reading::read` reads a whole program, `items::item_at` tells what stands at a place of it. Neither asks anything of the bytes.
 // `Reader::item_here`, the item reader of a step, serves the engine; so do `ends::mark_ends`, which tells of every place at once where its body ends,
-// and `ends::item_by_ends`, which then tells what stands at a place without a search.
+// and `ends::item_by_ends`, which then tells what stands at a place without a search. `starts::mark_starts` tells of every place whether something
+// starts there. `mark_ends`, `mark_starts` and `item_at` need only know whether the program is read, which `checks::check` tells in one pass.
 mod bodies;
+mod checks;
 pub mod ends;
 pub mod format;
 pub mod items;

@@ -43,7 +43,7 @@ pub fn edge_rows(items: ItemCounts) -> u64
 }
 
 // The vertices that so many forks make.
-fn fork_vertices(forks: u16, edition: Edition) -> u64
+pub(crate) fn fork_vertices(forks: u16, edition: Edition) -> u64
     ensures { λ r. ⌜ (r ≡ forkVertices edition * forks) × (r ≤ 3 * forks) ⌝ }
 {
     match edition {

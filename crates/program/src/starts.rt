@@ -1,52 +1,49 @@
 // Where items and end bytes start in a program.
 use crate::Edition;
-use crate::ProgramRead;
+use crate::checks::check;
 use crate::format::FORCE;
 use crate::format::JOB;
 use crate::format::TOP_BIT;
-use crate::reading::read;
 ghost use mathlib.Core.Path.{_≡_};
-ghost use mathlib.Core.Bool.{cond};
 ghost use Prim.Native.Nat.{_≤_};
-ghost use lib.Dec.{leb};
-ghost use lib.ListN.{length};
-ghost use Rattle.program.specs.Bytes.{topBit};
-ghost use Rattle.program.specs.Located.{startsAt};
+ghost use lib.ListN.{length, replicate};
+ghost use Rattle.program.specs.Limits.{programBytes};
+ghost use Rattle.program.specs.Located.{startsAt, MarksStarts};
 ghost use Rattle.program.specs.Claims.{Encoding};
-ghost use Rattle.program.specs.Internal.Progress.{opensNumber, inNumber};
+ghost use Rattle.program.specs.Internal.Progress.{opensNumber, inNumber, Clear};
 
 // Whether an item or an end byte starts at a place of a program.
 pub fn starts_at(program: &[u8], edition: Edition, place: u32) -> bool
     ensures { λ r. ⌜ r ≡ startsAt edition (now (program .entry)) place ⌝ }
 {
-    let reading = read(program, edition);
-    match reading {
-        ProgramRead::Refused(refusal) => false,
-        ProgramRead::Program(counts) => {
-            let at = place as usize;
-            if program.len() <= at {
-                return false;
-            }
-            !in_number(program, at)
-        }
+    let mut no_marks = [0u16; 1];
+    if !check(program, edition, &mut no_marks) {
+        return false;
+    }
+    let at = place as usize;
+    if program.len() <= at {
+        return false;
+    }
+    !in_number(program, at)
+}
+
+// Marks every place of a program where an item or an end byte starts. All marks handed in are 0, and those of the other places stay so.
+pub fn mark_starts(program: &[u8], edition: Edition, marks: &mut [u16])
+    requires { ⌜ now marks ≡ replicate programBytes 0 ⌝ }
+    ensures { λ _. ⌜ (length (now (marks .exit)) ≡ programBytes) × MarksStarts edition (now (program .entry)) (now (marks .exit)) ⌝ }
+{
+    if !check(program, edition, marks) {
+        clear(marks);
     }
 }
 
-// The mark of a place, 1 where something starts there.
-pub(crate) fn mark(starts: bool) -> u8
-    ensures { λ r. ⌜ r ≡ cond starts 1 0 ⌝ }
+// Sets all marks to 0.
+pub(crate) fn clear(marks: &mut [u16])
+    ensures { λ _. ⌜ (length (now (marks .exit)) ≡ length (now (marks .entry))) × Clear (now (marks .exit)) ⌝ }
 {
-    if starts { 1 } else { 0 }
-}
-
-// The byte behind `byte` stands inside a number, where `inside` tells it of `byte` itself.
-pub(crate) fn still_inside(inside: bool, byte: u8) -> bool
-    ensures { λ r. ⌜ r ≡ cond inside (leb topBit byte) (opensNumber byte) ⌝ }
-{
-    if inside {
-        return TOP_BIT <= byte;
+    for i in 0..marks.len() {
+        marks[i] = 0;
     }
-    opens_number(byte)
 }
 
 // The byte is a job's first or a force's, unless it is itself one of a number.

@@ -123,6 +123,11 @@ no-chain = 41
 abbrev pub list-too-short : ℕ
 list-too-short = 42
 
+-- A HOST THAT HAS JOBS HANDED OUT
+-- the table of marks has fewer words than the vertex table has usable rows
+abbrev pub busy-table-too-short : ℕ
+busy-table-too-short = 44
+
 -- A HOST THAT ASKS FOR A COMMAND OR AN EDITION BY NUMBER
 -- no edition has this number
 abbrev pub no-such-edition : ℕ

@@ -68,6 +68,9 @@ pub const NO_CHAIN: u32 = 41;
 
 pub const LIST_TOO_SHORT: u32 = 42;
 
+// A host that has jobs handed out.
+pub const BUSY_TABLE_TOO_SHORT: u32 = 44;
+
 // A host that asks for a command or an edition by number.
 pub const NO_SUCH_EDITION: u32 = 98;
 

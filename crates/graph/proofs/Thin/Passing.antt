@@ -52,11 +52,11 @@ module _ {n : ℕ} where
   abbrev pub bytes : (j : ℕ) → AllWithin n (j ∷ []) → Slot n
   bytes j ok = shrSliceOf (j ∷ []) ok (plain (λ _. u8))
 
-  abbrev tally : (j : ℕ) → AllWithin n (j ∷ []) → Slot n
+  abbrev pub tally : (j : ℕ) → AllWithin n (j ∷ []) → Slot n
   tally j ok = mutRefTo (j ∷ []) ok (plain (λ _. T.the-row))
 
   -- what is had of it at exit: it is kept
-  abbrev kept : (j : ℕ) (ok : AllWithin n (j ∷ [])) → Stay (tally j ok) yes
+  abbrev pub kept : (j : ℕ) (ok : AllWithin n (j ∷ [])) → Stay (tally j ok) yes
   kept j ok = stay-ref (j ∷ []) ok (plain (λ _. T.the-row))
 
 -- the MIR type of a program, which is passed on
@@ -84,7 +84,7 @@ pub record Plain : Type 2 where
   pub typed : {M : Type 1} (𝓤 : URA M) (H : Heap 𝓤) (A : Atoms 𝓤) → Given 𝓤 H A → (x : row .Denot) → Is row x (word x ∷ []) → Typed (type ∷ []) (word x ∷ [])
 
 -- the row with that exit, which at a type that is written out is the row itself
-abbrev still : Plain → RattleType
+abbrev pub still : Plain → RattleType
 still ν =
     record {
       Denot = ν .row .Denot;
@@ -96,7 +96,7 @@ still ν =
       coded = ν .row .coded;
     }
 
-abbrev value : {n : ℕ} → Plain → Slot n
+abbrev pub value : {n : ℕ} → Plain → Slot n
 value ν = plain (λ _. still ν)
 
 module _ {M : Type 1} (𝓤 : URA M) (H : Heap 𝓤) (A : Atoms 𝓤) (W : Given 𝓤 H A) (ν : Plain) where

@@ -9,6 +9,7 @@ use native.Mathlib.Omega.{arith}
 use lib.ListN.{length}
 use Rattle.graph.specs.Tables.{Lent, FINISHED, vertexRows}
 use Rattle.graph.proofs.TestLaws.{true-false}
+use Rattle.refusal.specs.Refusals.{busy-table-too-short}
 use Rattle.program.specs.Trees.{Body, counts}
 use Rattle.program.specs.declared.Edition.{Edition}
 use Rattle.program.specs.Encodings.{stepsTaken, stepFormula}
@@ -17,7 +18,7 @@ use Rattle.machine.specs.Answers.{StepSaid}
 use Rattle.machine.specs.Stepping.{steppable}
 use Rattle.machine.specs.Running.{canStep, Ending, done, stuck, spent, RunOutcome}
 use Rattle.machine.specs.Running as running
-use Rattle.machine.specs.Dispatching.{waiting, full, busy-table-too-short}
+use Rattle.machine.specs.Dispatching.{waiting, full}
 use Rattle.machine.specs.Dispatching as dispatching
 use Rattle.machine.specs.Demand2.{AllFinished, Looks, OnlySuchSteps, run-refused, run-steps, DispatchLooks, OnlyFreeSteps, tables-refused}
 use Rattle.machine.specs.Demand2.{marks-refused, dispatch-steps}

@@ -16,7 +16,7 @@ use Rattle.program.specs.Trees.{Counts, counts, Body, end, Item, withFir
 use Rattle.program.specs.Bytes.{endByte, jobByte, asyncByte, finishByte, forkByte, futureByte, forceByte, topBit}
 use Rattle.program.specs.Bytes.{encodeNumber, numberSize, encode, size}
 use Rattle.refusal.specs.Refusals.{number-malformed, bytes-after-end, job-too-large, too-many-vertices}
-use Rattle.program.specs.Reader.{Read, took, refused}
+use Rattle.program.specs.Reader.{Read, took, refused, Reading, program, refusal}
 use Rattle.program.specs.Answers.{ProgramSaid, loads, itemCounts, Stands}
 use Rattle.program.specs.Located.{Code, locate, located, last, codeAt, endOf, head}
 use Rattle.program.specs.Encodings.{vertexFormula}
@@ -91,6 +91,20 @@ finished ed len place c =
     cond (ltb place len) (ProgramSaid.refused bytes-after-end place)
     (cond (leb (vertexFormula ed c) vertexLimit) (loads c) (ProgramSaid.refused too-many-vertices 0))
 
+-- loading reads the program
+unfoldable pub isRead : Reading → Bool
+isRead (program b) = true
+isRead (refusal n p) = false
+
+-- a job with a number of one byte stands at this place
+abbrev pub ShortJob : List ℕ → ℕ → Type 0
+ShortJob xs p = (getD xs p 0 ≡ jobByte) × (p + 1 < length xs) × (getD xs (p + 1) 0 < topBit)
+
+-- the place behind a number, in a program of this length, 0 where it is refused or not below the bound
+unfoldable pub pastNumber : ℕ → ℕ → Read ℕ → ℕ
+pastNumber len bound (took n rest) = cond (ltb n bound) (len - length rest) 0
+pastNumber len bound (refused n left) = 0
+
 -- A reader at the start of these bytes: they end within a program's limit, and no more items were counted than bytes were read.
 pub record Ready (r : Reader) (left : List ℕ) : Type 0 where
   pub within : r .place + length left ≤ programBytes
@@ -134,6 +148,10 @@ inNumber xs (suc i) = cond (inNumber xs i) (leb topBit (getD xs i 0)) (opensNumb
 -- marks that tell of each of their places whether it is one of these bytes' and outside their numbers
 abbrev pub Outside : List ℕ → List ℕ → Type 0
 Outside xs marks = (p : ℕ) → p < length marks → getD marks p 0 ≡ cond (ltb p (length xs)) (cond (inNumber xs p) 0 1) 0
+
+-- marks that are all 0
+abbrev pub Clear : List ℕ → Type 0
+Clear marks = (p : ℕ) → p < length marks → getD marks p 0 ≡ 0
 
 -- Where the body ends from a place on, by the byte that starts there: past an end byte; as what follows a job or a force; and as what follows
 -- an item with bodies, behind the last of them. `after` is the end from the next place on where something starts, and `ends` has the ends from

@@ -38,22 +38,22 @@ turn c =
           (c .before .before .loop .ends) k (c .before .before .loop .after)) is (inv .2);
     }
 
-loop-again : tie.Need-loop-again Inv-loop μ-loop
-loop-again c = (omega arith, c .before .before .before .loop .inv .1, filled-past (turn (c .before)) (c .if1 .taken))
-
 end-from-requires : tie.Need-end-from-requires Inv-loop μ-loop
 end-from-requires c κs = (
   omega arith,
-  looks-within (turn (c .before .before .before)) (c .before .before .if1 .left)
+  looks-within (turn (c .before .before .before)) (c .before .before .if1 .taken)
       (c .before .before .before .before .before .before .before .before .pre .0),
 )
 
-loop-again-2 : tie.Need-loop-again-2 Inv-loop μ-loop
-loop-again-2 c = (
+loop-again : tie.Need-loop-again Inv-loop μ-loop
+loop-again c = (
   omega arith,
   simp length-set (c .before .before .before .before .before .before .loop .inv .1),
-  filled-more _ (turn (c .before .before .before .before)) (c .before .before .before .if1 .left) (c .end-from .ensures),
+  filled-more _ (turn (c .before .before .before .before)) (c .before .before .before .if1 .taken) (c .end-from .ensures),
 )
+
+loop-again-2 : tie.Need-loop-again-2 Inv-loop μ-loop
+loop-again-2 c = (omega arith, c .before .before .before .loop .inv .1, filled-past (turn (c .before)) (c .if1 .left))
 
 pub fill-ends-spec : {M : Type 1} → statement M
 fill-ends-spec =
@@ -66,11 +66,11 @@ fill-ends-spec =
     (λ c. omega arith)
     (λ c. omega arith)
     (λ c. omega arith)
-    loop-again
-    (λ c. omega arith)
     end-from-requires
     (λ c. omega arith)
     (λ c. omega arith)
+    (λ c. omega arith)
+    loop-again
     (λ c. omega arith)
     loop-again-2
     (λ c. c .before .loop .inv .1)
