@@ -1,18 +1,12 @@
 -- "Where an answer is an enum, a definition gives this paper's number and values for each of its cases": the plain machine's answers have
 -- them.
-use mathlib.Core.Option.{Option, none, some}
 use Rattle.machine.specs.Answers.{StepSaid, LoadingSaid, loaded, loading-refused}
-use Rattle.machine.specs.Running.{done, stuck, spent, refused, Choice, choose, no-choice, choice-refused}
-use Rattle.machine.specs.Running as machine-run
+use Rattle.machine.specs.Running.{Choice, choose, no-choice, choice-refused}
 use Rattle.machine.specs.Stepping as machine
 use Rattle.engine.specs.declared.Loading.{Loading}
 use Rattle.engine.specs.declared.Loading.the-variants as of-loading
 use Rattle.engine.specs.declared.Answer.{Answer}
 use Rattle.engine.specs.declared.Answer.the-variants as of-answer
-use Rattle.engine.specs.declared.Ending.{Ending}
-use Rattle.engine.specs.declared.Ending.the-variants as of-ending
-use Rattle.engine.specs.declared.LastStep.{LastStep}
-use Rattle.engine.specs.declared.LastStep.the-variants as of-last
 use Rattle.engine.specs.declared.Lowest.{Lowest}
 use Rattle.engine.specs.declared.Lowest.the-variants as of-lowest
 use Rattle.engine.specs.declared.Own.{Own}
@@ -35,18 +29,6 @@ said (of-answer.Job n o) = StepSaid.job n o
 said of-answer.Stop = StepSaid.stop
 said of-answer.Yield = StepSaid.yield
 said (of-answer.Refused r) = StepSaid.refused (r .number) (r .place)
-
--- how a run ends
-abbrev pub endingOf : Ending → machine-run.Ending
-endingOf of-ending.Done = done
-endingOf of-ending.Stuck = stuck
-endingOf of-ending.Spent = spent
-endingOf (of-ending.Refused r) = refused (r .number) (r .place)
-
--- its last step
-abbrev pub lastOf : LastStep → Option StepSaid
-lastOf of-last.NoStep = none
-lastOf (of-last.Step a) = some (said a)
 
 -- the lowest vertex whose step would be accepted
 abbrev pub choiceOf : Lowest → Choice

@@ -1,15 +1,13 @@
 // The entry points: the tally is lent too, as a struct by `&mut`. Each is thin, over the by-value core of the same name.
 use crate::Answer;
 use crate::Loading;
-use crate::RunAnswer;
 use crate::load::load_by_value;
-use crate::runs::run_by_value;
 use crate::steps::step_by_value;
 use graph::Tally;
 use program::Edition;
 ghost use Rattle.graph.specs.Tables.{lent};
-ghost use Rattle.machine.specs.Traces.{Loaded, Stepped, Ran};
-ghost use Rattle.engine.specs.Answers.{loadingSaid, said, endingOf, lastOf};
+ghost use Rattle.machine.specs.Traces.{Loaded, Stepped};
+ghost use Rattle.engine.specs.Answers.{loadingSaid, said};
 
 pub fn load(
     program: &[u8],
@@ -38,22 +36,6 @@ pub fn step(
 {
     let before = *tally;
     let done = step_by_value(program, vertices, edges, before, edition, vertex);
-    *tally = done.tally;
-    done.answer
-}
-
-pub fn run(
-    program: &[u8],
-    vertices: &mut [u32],
-    edges: &mut [u32],
-    tally: &mut Tally,
-    edition: Edition,
-    budget: u32,
-) -> RunAnswer
-    ensures { λ r. ⌜ Ran edition (now (program .entry)) (lent (now (vertices .entry)) (now (edges .entry)) (now (tally .entry))) budget (endingOf (r .ending)) (lastOf (r .last)) (r .taken) (lent (now (vertices .exit)) (now (edges .exit)) (now (tally .exit))) ⌝ }
-{
-    let before = *tally;
-    let done = run_by_value(program, vertices, edges, before, edition, budget);
     *tally = done.tally;
     done.answer
 }

@@ -1,18 +1,14 @@
-// The engine: loading, steps and runs of a program on lent tables, each of an edition. Each call is proved equal to the plain machine's
-// definition of it (crate `machine`), so demand 3 speaks of the engine.
+// The engine: loading and steps of a program on lent tables, each of an edition. Each call is proved equal to the plain machine's definition
+// of it (crate `machine`), so demand 3 speaks of the engine. Runs and dispatches stand on it (crate `walks`).
 pub mod demand;
 pub mod entry;
 pub mod load;
 pub mod look;
 pub mod next;
-pub mod onindex;
-pub mod runs;
 pub mod steps;
-pub mod walks;
 
 use graph::Command;
 use graph::Tally;
-use index::Course;
 use refusal::Refusal;
 
 // What loading answers.
@@ -70,69 +66,6 @@ pub enum Lowest {
     Vertex(u32),
     NoVertex,
     Refused(Refusal),
-}
-
-// The result of a step on an index: its answer, the course afterwards, and between which numbers the vertices lie that may step now and could not
-// before.
-pub struct Moved {
-    pub answer: Answer,
-    pub course: Course,
-    pub lowest: u32,
-    pub highest: u32,
-}
-
-// Where the vertices are that may step and are not busy: each is `low`, or `skip` or above.
-pub struct Candidates {
-    pub low: u32,
-    pub skip: u32,
-}
-
-// A step of the lowest vertex that can step and is not busy, if there is one.
-pub enum Attempt {
-    NoStep,
-    Taken {
-        vertex: u32,
-        answer: Answer,
-        course: Course,
-        candidates: Candidates,
-    },
-}
-
-// How far a walk went: its course afterwards, its last step, how many it took, how many jobs it handed out, and whether it ended where no vertex that is
-// not busy can step.
-pub struct Walked {
-    pub course: Course,
-    pub last: LastStep,
-    pub taken: u32,
-    pub handed: u32,
-    pub over: bool,
-}
-
-// How a run ends.
-pub enum Ending {
-    Done,
-    Stuck,
-    Spent,
-    Refused(Refusal),
-}
-
-// The last accepted step of a run, if it took one.
-pub enum LastStep {
-    NoStep,
-    Step(Answer),
-}
-
-// What a run answers: how it ended, its last step, and how many it took.
-pub struct RunAnswer {
-    pub ending: Ending,
-    pub last: LastStep,
-    pub taken: u32,
-}
-
-// The result of a run: its answer, and the tally afterwards.
-pub struct RunDone {
-    pub answer: RunAnswer,
-    pub tally: Tally,
 }
 
 // The result of loading a program and stepping a list of vertices: what loading answered, how many of the steps were accepted, and the

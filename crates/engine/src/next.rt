@@ -17,8 +17,8 @@ use graph::sound::is_sound;
 use graph::sound::tally_fits;
 use program::Edition;
 use program::ItemRead;
-use program::ends::item_by_ends;
 use program::items::item_at;
+use program::items::item_by_marks;
 use refusal::NO_SUCH_VERTEX;
 use refusal::NOTHING_STARTS;
 use refusal::UNSOUND_TABLES;
@@ -33,7 +33,7 @@ ghost use Rattle.graph.specs.declared.Command.the-variants.{NewTd, NewEdge, Rel
 ghost use Rattle.program.specs.Limits.{programBytes};
 ghost use Rattle.program.specs.declared.Edition.the-variants.{First, Second};
 ghost use Rattle.program.specs.Answers.{Stands, stands};
-ghost use Rattle.program.specs.Located.{itemAt, MarksEnds};
+ghost use Rattle.program.specs.Located.{itemAt, MarksStarts};
 ghost use Rattle.machine.specs.Stepping as machine;
 ghost use Rattle.machine.specs.Stepping.{steppable, startDue, due};
 ghost use Rattle.engine.specs.Answers.{ownWords, dueOf};
@@ -54,7 +54,7 @@ const NONE_OPEN: u32 = 0;
 pub const STEP_LIMIT: u32 = 8192;
 
 // What is due at a step of `vertex`, where no start is.
-pub(crate) fn next_due(
+pub fn next_due(
     program: &[u8],
     vertices: &[u32],
     edges: &[u32],
@@ -92,7 +92,7 @@ pub(crate) fn next_due(
 }
 
 // A start is due: only the tally and the vertex's own row are looked at.
-pub(crate) fn start_due(vertices: &[u32], edges: &[u32], tally: Tally, vertex: u32) -> bool
+pub fn start_due(vertices: &[u32], edges: &[u32], tally: Tally, vertex: u32) -> bool
     ensures { λ r. ⌜ r ≡ startDue (lent (now (vertices .entry)) (now (edges .entry)) tally) vertex ⌝ }
 {
     if !tally_fits(vertices, edges, tally.made, tally.held) {
@@ -108,7 +108,7 @@ pub(crate) fn start_due(vertices: &[u32], edges: &[u32], tally: Tally, vertex: u
 }
 
 // Other steps look at everything first: the tables are sound, and steps are left to take.
-pub(crate) fn is_steppable(vertices: &[u32], edges: &[u32], tally: Tally) -> bool
+pub fn is_steppable(vertices: &[u32], edges: &[u32], tally: Tally) -> bool
     ensures { λ r. ⌜ r ≡ steppable (lent (now (vertices .entry)) (now (edges .entry)) tally) ⌝ }
 {
     if !is_sound(vertices, edges, tally) {
@@ -117,22 +117,22 @@ pub(crate) fn is_steppable(vertices: &[u32], edges: &[u32], tally: Tally) -> boo
     tally.steps < STEP_LIMIT
 }
 
-// What is due at a step of a vertex that executes, in a program with these ends of bodies.
-pub(crate) fn ended_due(
+// What is due at a step of a vertex that executes, in a program whose places are marked where something starts.
+pub fn marked_due(
     program: &[u8],
-    ends: &[u16],
+    marks: &[u16],
     vertices: &[u32],
     made: u32,
     edition: Edition,
     vertex: u32,
 ) -> Due
-    requires { ⌜ MarksEnds edition (now program) (now ends) × (length (now ends) ≡ programBytes) × (vertex < made) × (vertexWords * made ≤ length (now vertices)) ⌝ }
+    requires { ⌜ MarksStarts edition (now program) (now marks) × (length (now marks) ≡ programBytes) × (vertex < made) × (vertexWords * made ≤ length (now vertices)) ⌝ }
     ensures { λ r. ⌜ DueThere edition (now (program .entry)) (now (vertices .entry)) made vertex (dueOf r) ⌝ }
 {
     let own = own_words(vertices, vertex as usize);
     by_item(
         program,
-        item_by_ends(program, ends, edition, own.place),
+        item_by_marks(program, marks, edition, own.place),
         vertices,
         edition,
         vertex,
@@ -142,7 +142,7 @@ pub(crate) fn ended_due(
     )
 }
 
-pub(crate) fn own_words(vertices: &[u32], vertex: usize) -> Own
+pub fn own_words(vertices: &[u32], vertex: usize) -> Own
     requires { ⌜ vertexWords * vertex + vertexWords ≤ length (now vertices) ⌝ }
     ensures { λ r. ⌜ OwnIn (now (vertices .entry)) vertex (ownWords r) ⌝ }
 {
@@ -235,7 +235,7 @@ fn by_item(
 }
 
 // At an end byte: stop, which moves nothing.
-pub(crate) fn end_next(vertex: u32, own: Own) -> Due
+pub fn end_next(vertex: u32, own: Own) -> Due
     ensures { λ r. ⌜ EndNext vertex (ownWords own) (dueOf r) ⌝ }
 {
     if own.phase != 0 {
@@ -248,7 +248,7 @@ pub(crate) fn end_next(vertex: u32, own: Own) -> Due
 }
 
 // A job: one step that names it; then past the item.
-pub(crate) fn job_next(vertex: u32, own: Own, number: u32, past: u32) -> Due
+pub fn job_next(vertex: u32, own: Own, number: u32, past: u32) -> Due
     ensures { λ r. ⌜ JobNext vertex (ownWords own) number past (dueOf r) ⌝ }
 {
     if own.phase != 0 {
@@ -262,7 +262,7 @@ pub(crate) fn job_next(vertex: u32, own: Own, number: u32, past: u32) -> Due
 }
 
 // An async: newTd m1 (its body, own scope); newEdge m1 to own scope; release m1; then past the item.
-pub(crate) fn async_next(vertex: u32, scope: u32, own: Own, made: u32, body: u32, past: u32) -> Due
+pub fn async_next(vertex: u32, scope: u32, own: Own, made: u32, body: u32, past: u32) -> Due
     ensures { λ r. ⌜ AsyncNext vertex scope (ownWords own) made body past (dueOf r) ⌝ }
 {
     let phase = own.phase;
@@ -280,7 +280,7 @@ pub(crate) fn async_next(vertex: u32, scope: u32, own: Own, made: u32, body: u32
 
 // A finish: newTd m1 (past the item, own scope); newTd m2 (its body, scope m1); newEdge m2 to m1; transfer to m1; release m1; release
 // m2; then the last byte.
-pub(crate) fn finish_next(
+pub fn finish_next(
     vertex: u32,
     scope: u32,
     own: Own,
@@ -315,7 +315,7 @@ pub(crate) fn finish_next(
 
 // A fork of the first edition: newTd m1 (left), m2 (right), m3 (past the item), all with own scope; newEdge m1 to m3; newEdge m2 to m3;
 // transfer to m3; release m3, m1, m2; then the last byte.
-pub(crate) fn fork_next(
+pub fn fork_next(
     vertex: u32,
     scope: u32,
     own: Own,
@@ -378,7 +378,7 @@ fn fork_releases(vertex: u32, own: Own, last: u32) -> Due
 
 // A fork of the second edition: newTd m1 (left), m2 (right), both with own scope; newEdge m1 to the vertex itself; newEdge m2 to it;
 // release m1, m2; yield; then past the item.
-pub(crate) fn yielding_fork_next(
+pub fn yielding_fork_next(
     vertex: u32,
     scope: u32,
     own: Own,
@@ -418,7 +418,7 @@ pub(crate) fn yielding_fork_next(
 
 // A future: newTd m1 (the last byte, own scope); newTd m2 (its body, scope m1); newEdge m2 to m1; release m1; release m2; then past the
 // item, and m1 is the latest open future.
-pub(crate) fn future_next(
+pub fn future_next(
     vertex: u32,
     scope: u32,
     own: Own,
@@ -450,7 +450,7 @@ pub(crate) fn future_next(
 
 // A force: newTd m1 (past the item, own scope); newEdge from the first vertex of its future to m1; transfer to m1; release m1; then the
 // last byte.
-pub(crate) fn force_next(
+pub fn force_next(
     vertices: &[u32],
     vertex: u32,
     scope: u32,

@@ -47,7 +47,7 @@ pub fn step_by_value(
 }
 
 // The step of a vertex at which a start is due: the command start. It changes none of the vertex's own words.
-pub(crate) fn start_step(vertices: &mut [u32], edges: &[u32], tally: Tally, vertex: u32) -> Done
+pub fn start_step(vertices: &mut [u32], edges: &[u32], tally: Tally, vertex: u32) -> Done
     requires { ⌜ startDue (lent (now vertices) (now edges) tally) vertex ≡ true ⌝ }
     ensures { λ r. ⌜ Starts (lent (now (vertices .entry)) (now (edges .entry)) tally) vertex (said (r .answer)) (lent (now (vertices .exit)) (now (edges .entry)) (r .tally)) ⌝ }
 {
@@ -67,13 +67,7 @@ pub(crate) fn start_step(vertices: &mut [u32], edges: &[u32], tally: Tally, vert
 }
 
 // Does what is due at a step of `vertex`.
-pub(crate) fn do_due(
-    vertices: &mut [u32],
-    edges: &mut [u32],
-    tally: Tally,
-    vertex: u32,
-    next: Due,
-) -> Done
+pub fn do_due(vertices: &mut [u32], edges: &mut [u32], tally: Tally, vertex: u32, next: Due) -> Done
     requires { ⌜ IsDue (lent (now vertices) (now edges) tally) vertex (dueOf next) ⌝ }
     ensures { λ r. ⌜ DoesDue (lent (now (vertices .entry)) (now (edges .entry)) tally) vertex (dueOf next) (said (r .answer)) (lent (now (vertices .exit)) (now (edges .exit)) (r .tally)) ⌝ }
 {
@@ -113,7 +107,7 @@ pub(crate) fn do_due(
 }
 
 // One step more.
-pub(crate) fn counted(tally: Tally) -> Tally
+pub fn counted(tally: Tally) -> Tally
     requires { ⌜ tally .steps < stepLimit ⌝ }
     ensures { λ r. ⌜ (r .made ≡ tally .made) × (r .held ≡ tally .held) × (r .steps ≡ tally .steps + 1) ⌝ }
 {
@@ -125,7 +119,7 @@ pub(crate) fn counted(tally: Tally) -> Tally
 }
 
 // Stores a vertex's own words.
-pub(crate) fn store(vertices: &mut [u32], vertex: usize, own: Own)
+pub fn store(vertices: &mut [u32], vertex: usize, own: Own)
     requires { ⌜ vertex < vertexRows (now vertices) ⌝ }
     ensures { λ _. ⌜ now (vertices .exit) ≡ stored (now (vertices .entry)) vertex (ownWords own) ⌝ }
 {
@@ -138,7 +132,7 @@ pub(crate) fn store(vertices: &mut [u32], vertex: usize, own: Own)
     vertices[at + FUTURE] = own.latest;
 }
 
-pub(crate) fn command_refused(answer: graph::Answer) -> bool
+pub fn command_refused(answer: graph::Answer) -> bool
     ensures { λ r. ⌜ r ≡ not (of-graph.accepted (of-graph.said answer)) ⌝ }
 {
     match answer {
@@ -154,7 +148,7 @@ pub(crate) fn command_refused(answer: graph::Answer) -> bool
 }
 
 // What a single command answered, as a step says it.
-pub(crate) fn as_step(answer: graph::Answer) -> Answer
+pub fn as_step(answer: graph::Answer) -> Answer
     ensures { λ r. ⌜ said r ≡ saidAs (of-graph.said answer) ⌝ }
 {
     match answer {

@@ -1,7 +1,7 @@
--- A step and a run under way: what is due, from a vertex's own words, and which vertex is looked at.
+-- A step under way: what is due, from a vertex's own words, and which vertex is looked at.
 use Prim.Native.Nat.{ℕ, zero, suc, _-_}
 use mathlib.Core.Path.{_≡_}
-use mathlib.Core.Bool.{Bool, true, false, cond}
+use mathlib.Core.Bool.{Bool, true, false}
 use mathlib.Core.List.{List}
 use mathlib.Core.Option.{Option, none, some}
 use lib.Dec.{eqb}
@@ -17,7 +17,6 @@ use Rattle.program.specs.Located.{itemAt}
 use Rattle.machine.specs.Answers.{StepSaid}
 use Rattle.machine.specs.Stepping.{scope, place, latest, openFuture, further, task, Own, ownOf, Due, refusal-due, job-due, command-due}
 use Rattle.machine.specs.Stepping.{nextAt, due}
-use Rattle.machine.specs.Running.{lowest, allFinished, Ending, done, stuck, spent}
 use Rattle.machine.specs.Traces.{Stepped}
 
 -- in an edition, d is due at the step of the executing vertex v with the scope σ and these own words, where so many vertices are made, the
@@ -87,18 +86,6 @@ takes s (command-due c w) = of-graph.accepted (command c s .answer)
 -- vertex k is released, and its word says that no edge leads into it
 unfoldable pub mayStart : List ℕ → ℕ → Bool
 mayStart t k = both (eqb (status t k) RELEASED) (eqb (inCount t k) 0)
-
--- how a run ends where no step would be accepted: all vertices are finished, or not
-abbrev pub atRest : Bool → Ending
-atRest finished = cond finished done stuck
-
--- how it ends when its budget is used
-unfoldable pub endsWith : Option ℕ → Bool → Ending
-endsWith (some v) finished = spent
-endsWith none finished = atRest finished
-
-abbrev pub whenUsed : Edition → List ℕ → Lent → Ending
-whenUsed ed bytes s = endsWith (lowest ed bytes s) (allFinished s)
 
 -- by the kind of item; what does not matter there is left open
 abbrev pub EndNext : ℕ → Own → Due → Type 0
