@@ -12,7 +12,8 @@
  *     them during a call;
  *   - make one call at a time for the same tables (one lock around the engine is enough); only calls that have all of them const may
  *     go at once;
- *   - after a step says KESHTIWOL_JOB, run that job and do not step its vertex again before the job has ended;
+ *   - after a step says KESHTIWOL_JOB, run that job and do not step its vertex again before the job has ended; hosts with threads may have
+ *     keshtiwol_dispatch take the steps, and keep what it asks for in place of this;
  *   - go on stepping a vertex whose step said KESHTIWOL_YIELD: a step starts it again, like any released one, when no edge leads in.
  * Pointers must not be null, also where a length is 0, and what a call may change must not overlap what else it is lent.
  *
@@ -49,7 +50,7 @@ extern "C" {
 /* THE VERSION of this header. The first number grows where hosts must be compiled anew (a call's parameters, the shape of what is lent, the
  * meaning of an answer), the second where something is added, the third otherwise. */
 #define KESHTIWOL_VERSION_MAJOR 4
-#define KESHTIWOL_VERSION_MINOR 1
+#define KESHTIWOL_VERSION_MINOR 2
 #define KESHTIWOL_VERSION_PATCH 0
 /* As one number. */
 #define KESHTIWOL_VERSION (10000 * KESHTIWOL_VERSION_MAJOR + 100 * KESHTIWOL_VERSION_MINOR + KESHTIWOL_VERSION_PATCH)
@@ -80,6 +81,12 @@ enum {
     KESHTIWOL_SOURCE = 0,
     KESHTIWOL_TARGET = 1,
 
+    /* A row of the list into which a dispatch writes the jobs that it hands out. */
+    KESHTIWOL_JOB_WORDS = 3,
+    KESHTIWOL_JOB_VERTEX = 0,
+    KESHTIWOL_JOB_NUMBER = 1,
+    KESHTIWOL_JOB_OFFSET = 2,
+
     /* A vertex's status. */
     KESHTIWOL_VERTEX_NEW = 1,
     KESHTIWOL_VERTEX_RELEASED = 2,
@@ -92,8 +99,9 @@ enum {
  * article on the dag-calculus, it makes the two alone, with an edge from each onto itself, yields, and starts again when both have
  * finished.
  *
- * A load, a step, a run and the lowest vertex are asked for in an edition, by its number; another number is refused with 98. What is
- * promised of a program as a whole is for calls of one edition. A call of the other is answered all the same, by what the tables hold. */
+ * A load, a step, a run, a dispatch and the lowest vertex are asked for in an edition, by its number; another number is refused with 98.
+ * What is promised of a program as a whole is for calls of one edition. A call of the other is answered all the same, by what the tables
+ * hold. */
 enum {
     KESHTIWOL_FIRST_EDITION = 1,
     KESHTIWOL_SECOND_EDITION = 2
@@ -131,6 +139,13 @@ struct keshtiwol_run_reply {
     uint32_t taken;
 };
 
+/* How a dispatch ended, how many steps it took, and how many jobs it handed out. */
+struct keshtiwol_dispatch_reply {
+    struct keshtiwol_reply ending;
+    uint32_t taken;
+    uint32_t handed;
+};
+
 /* What is said. */
 enum {
     KESHTIWOL_REFUSED = 0,  /* first: the refusal's number; second: its place, an offset in the program, or 0 */
@@ -148,7 +163,9 @@ enum {
     KESHTIWOL_STUCK = 12,   /* no step would be accepted */
     KESHTIWOL_SPENT = 13,   /* the budget is used */
     KESHTIWOL_CHAIN = 14,   /* first: how many vertices the chain has, which begin the list */
-    KESHTIWOL_YIELD = 15    /* the vertex is released, and starts again by a step when no edge leads in */
+    KESHTIWOL_YIELD = 15,   /* the vertex is released, and starts again by a step when no edge leads in */
+    KESHTIWOL_WAITING = 16, /* only busy vertices could step */
+    KESHTIWOL_FULL = 17     /* the list has no row left */
 };
 
 /* The numbers of refusals, by who causes them. */
@@ -189,6 +206,8 @@ enum {
     /* whoever asks for a chain */
     KESHTIWOL_NO_CHAIN = 41,
     KESHTIWOL_LIST_TOO_SHORT = 42,
+    /* a host that has jobs handed out */
+    KESHTIWOL_BUSY_TABLE_TOO_SHORT = 44, /* fewer marks than the vertex table has usable rows */
     /* a host that names an edition or a command by number */
     KESHTIWOL_NO_SUCH_EDITION = 98, /* a number that no edition has */
     KESHTIWOL_NO_SUCH_COMMAND = 99  /* keshtiwol_command: a number that no command has */
@@ -226,6 +245,7 @@ static inline const char *keshtiwol_refusal_text(uint32_t number)
     case KESHTIWOL_TRANSFER_HAS_EDGE_OUT: return "the vertex that would get the edges has one already";
     case KESHTIWOL_NO_CHAIN: return "no chain of held edges leads from the target back to the source";
     case KESHTIWOL_LIST_TOO_SHORT: return "the chain has more vertices than the list has words";
+    case KESHTIWOL_BUSY_TABLE_TOO_SHORT: return "the table of marks has fewer words than the vertex table has rows";
     case KESHTIWOL_NO_SUCH_EDITION: return "no edition has this number";
     case KESHTIWOL_NO_SUCH_COMMAND: return "no command has this number";
     default: return "unknown";
@@ -254,6 +274,27 @@ struct keshtiwol_run_reply keshtiwol_run(const uint8_t *program, size_t program_
                                          uint32_t *vertices, size_t vertex_words,
                                          uint32_t *edges, size_t edge_words,
                                          struct keshtiwol_tally *tally, uint32_t edition, uint32_t budget);
+
+/* For hosts that run jobs on threads: steps the lowest vertex that can step and is not busy, again and again, and hands out the jobs that
+ * these steps name. `busy` is a table of marks, a word for each vertex: 0 is not busy, any other number is. `jobs` is a list of any
+ * length, in rows of KESHTIWOL_JOB_WORDS, of which only full ones are used. Where a step names a job, its vertex is marked with 1, and
+ * vertex, number and offset go into the list's next row; `handed` says how many rows. Other words of both are not touched.
+ *
+ * The host's part of the bargain, besides that at the top:
+ *   - lend the same marks each time, KESHTIWOL_ROWS or as many as there are usable vertex rows, all of them 0 after a loading;
+ *   - run each job of the list once, on whatever thread, beside the others;
+ *   - clear its vertex's mark when the job has ended and not before, under the lock that is around the calls; set no mark;
+ *   - then call again, until the ending is KESHTIWOL_DONE.
+ *
+ * Its ending is the first of these that is so, looked at before each step: KESHTIWOL_DONE, KESHTIWOL_STUCK, KESHTIWOL_WAITING,
+ * KESHTIWOL_FULL, KESHTIWOL_SPENT; or the refusal 98, 12 or 44. At KESHTIWOL_WAITING nothing more can start before a running job has
+ * ended; at KESHTIWOL_FULL more can be stepped now. */
+struct keshtiwol_dispatch_reply keshtiwol_dispatch(const uint8_t *program, size_t program_bytes,
+                                                   uint32_t *vertices, size_t vertex_words,
+                                                   uint32_t *edges, size_t edge_words,
+                                                   struct keshtiwol_tally *tally, uint32_t edition, uint32_t budget,
+                                                   uint32_t *busy, size_t busy_words,
+                                                   uint32_t *jobs, size_t job_words);
 
 /* The lowest vertex that can step. Says KESHTIWOL_VERTEX or KESHTIWOL_NONE, or refuses: 98, 12. Program, tables and tally are only read. */
 struct keshtiwol_reply keshtiwol_lowest(const uint8_t *program, size_t program_bytes,

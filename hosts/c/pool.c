@@ -5,31 +5,25 @@
  * reader would see a block filled by half, and the thread sanitizer a race. While a worker sleeps no vertex can step; that is looked at
  * too.
  *
- * Programs that are built in run in both editions, those drawn in a drawn one. In half of the runs a vertex of the second edition yields
- * only when both branches have finished, so that it can start again at once.
+ * Programs that are built in run in both editions, those drawn in a drawn one. Half of the runs, drawn, have the engine hand out their jobs
+ * (dispatching.c). In the others workers step the vertices themselves, in drawn orders, and in half of these a vertex of the second edition
+ * yields only when both branches have finished, so that it can start again at once.
  *
- *     pool [--break jobs | --break yields] [--edition N] [--rounds N] [--seed N]
+ *     pool [--break jobs | --break yields] [--by steps | --by dispatch] [--edition N] [--rounds N] [--seed N]
  *
  * With --break the pool makes a mistake on purpose, which must be noticed: it says of some jobs that they have ended before they have; or
- * it lets a vertex that has yielded start while a branch's job is running, by clearing its in-count. */
-#include <pthread.h>
+ * it lets a vertex that has yielded start while a branch's job is running, by clearing its in-count, in runs by steps. */
 #include <sched.h>
 #include <stdarg.h>
-#include <stdbool.h>
 #include <stdio.h>
 #include <stdlib.h>
 #include <string.h>
 #include <time.h>
 
-#include "dice.h"
-#include "keshtiwol.h"
-#include "programs.h"
-#include "tree.h"
+#include "pool.h"
 
 enum {
     BLOCK_WORDS = 16,
-    GUARD_WORDS = 8, /* behind each lent table, which has just the rows that the program needs */
-    GUARD = 0x5EA1ED,
     MOST_WORKERS = 8,
     MOST_ORDERS = 1000, /* told apart */
     DRAWN = 14,
@@ -37,51 +31,15 @@ enum {
     YIELD_PHASE = 6 /* of a fork in the second edition: the yield is the last of its seven commands */
 };
 
-/* The pool's mistake. */
-enum breaking { NOTHING, JOBS, YIELDS };
-
 /* What a job leaves: written by that job alone, read by those that it is ahead of. */
 struct block {
     uint32_t words[BLOCK_WORDS];
     uint32_t runs;
 };
 
-/* One run of a program. */
-struct run {
-    const struct program *program;
-    const struct tree *tree;
-    uint32_t edition;
-    bool yields_late;     /* when both branches have finished */
-    uint32_t stamp;       /* makes this run's words differ from those of others */
-    enum breaking breaking;
-    struct block *blocks; /* one for each job; no lock */
-
-    pthread_mutex_t lock; /* for all that follows */
-    pthread_cond_t changed;
-    uint32_t *vertices, *edges;
-    struct keshtiwol_tally tally;
-    bool *busy;           /* of a vertex: its job is running */
-    uint32_t *blocked;    /* of a vertex: 1 + the count of stops at which an edge led into it, 0 if none did */
-    bool *ended;          /* of a job */
-    uint32_t stops;
-    uint32_t running;     /* jobs */
-    uint32_t most;        /* of them at once */
-    uint32_t asleep;      /* workers, until the next wake */
-    uint32_t wakes;
-    uint32_t yields;
-    uint32_t ready;       /* of them by a vertex that could start again at once */
-    uint64_t order;       /* a digest of the order in which jobs were named */
-    char fault[160];      /* the first thing found wrong */
-};
-
-struct worker {
-    struct run *run;
-    uint64_t dice;
-};
-
 /* WHAT WAS FOUND WRONG */
 
-__attribute__((format(printf, 2, 3))) static void fault(struct run *run, const char *form, ...)
+void fault(struct run *run, const char *form, ...)
 {
     if (run->fault[0] == '\0') {
         va_list values;
@@ -160,14 +118,10 @@ static uint32_t in_count(const struct run *run, uint32_t vertex)
     return *word(run, vertex, KESHTIWOL_IN_COUNT);
 }
 
-static uint32_t vertex_words(const struct run *run)
+bool can_step(const struct run *run, uint32_t vertex)
 {
-    return KESHTIWOL_VERTEX_WORDS * tree_vertices(run->tree, run->edition);
-}
-
-static uint32_t edge_words(const struct run *run)
-{
-    return KESHTIWOL_EDGE_WORDS * tree_edges(run->tree);
+    uint32_t now = status(run, vertex);
+    return now == KESHTIWOL_VERTEX_EXECUTING || (now == KESHTIWOL_VERTEX_RELEASED && in_count(run, vertex) == 0);
 }
 
 /* Whether a yield is this vertex's next command. */
@@ -185,14 +139,14 @@ static bool is_left_alone(const struct run *run, uint32_t vertex)
 
 /* SLEEP: a worker sleeps while no vertex can step and jobs are running. */
 
-static void wake_all(struct run *run)
+void wake_all(struct run *run)
 {
     run->asleep = 0;
     run->wakes++;
     pthread_cond_broadcast(&run->changed);
 }
 
-static void sleep_until_woken(struct run *run)
+void sleep_until_woken(struct run *run)
 {
     uint32_t wakes = run->wakes;
     run->asleep++;
@@ -204,21 +158,13 @@ static void sleep_until_woken(struct run *run)
 static void look_at_sleepers(struct run *run)
 {
     for (uint32_t vertex = 0; run->asleep > 0 && vertex < run->tally.made; vertex++) {
-        uint32_t now = status(run, vertex);
-        bool can_step = now == KESHTIWOL_VERTEX_EXECUTING || (now == KESHTIWOL_VERTEX_RELEASED && in_count(run, vertex) == 0);
-        if (can_step && !is_left_alone(run, vertex)) {
+        if (can_step(run, vertex) && !is_left_alone(run, vertex)) {
             fault(run, "vertex %u can step, and workers that sleep are not woken: %u", vertex, run->asleep);
         }
     }
 }
 
 /* STEPS AND JOBS */
-
-static struct keshtiwol_reply step(struct run *run, uint32_t vertex)
-{
-    return keshtiwol_step(run->program->bytes, run->program->length, run->vertices, vertex_words(run), run->edges, edge_words(run),
-                          &run->tally, run->edition, vertex);
-}
 
 /* Steps the first vertex that can, from a drawn place on, up or down. False if none can. */
 static bool step_one(struct run *run, uint64_t *dice, uint32_t *stepped, struct keshtiwol_reply *reply)
@@ -235,7 +181,7 @@ static bool step_one(struct run *run, uint64_t *dice, uint32_t *stepped, struct 
         uint32_t steps = run->tally.steps;
         uint32_t edges_in = in_count(run, vertex);
         bool yields = yields_next(run, vertex);
-        *reply = step(run, vertex);
+        *reply = keshtiwol_step(LENT(run), vertex);
         *stepped = vertex;
         if (before == KESHTIWOL_VERTEX_RELEASED && (edges_in == 0) != (reply->said == KESHTIWOL_START)) {
             fault(run, "a step of vertex %u, released with %u edges into it, said %u", vertex, edges_in, reply->said);
@@ -260,42 +206,41 @@ static bool step_one(struct run *run, uint64_t *dice, uint32_t *stepped, struct 
     return false;
 }
 
-/* The job that a step named, or -1 where there is none. One named too early is still run, so that its reading shows it as well. */
-static int named_job(struct run *run, struct keshtiwol_reply reply)
+/* A job named too early is still run, so that its reading shows it as well. */
+int named_job(struct run *run, uint32_t number, uint32_t offset)
 {
     const struct tree *tree = run->tree;
-    int job = reply.second < run->program->length ? tree->job_at[reply.second] : -1;
-    if (job < 0 || tree_job(tree, job)->number != reply.first) {
-        fault(run, "no job %u stands at %u", reply.first, reply.second);
+    int job = offset < run->program->length ? tree->job_at[offset] : -1;
+    if (job < 0 || tree_job(tree, job)->number != number) {
+        fault(run, "no job %u stands at %u", number, offset);
         return -1;
+    }
+    if (run->named[job]) {
+        fault(run, "the job at %u was named a second time", offset);
     }
     for (size_t i = tree->from[job]; i < tree->from[job + 1]; i++) {
         if (!run->ended[tree->ahead[i]]) {
-            fault(run, "the job at %u was named before the job at %u had ended", reply.second, tree_job(tree, tree->ahead[i])->offset);
+            fault(run, "the job at %u was named before the job at %u had ended", offset, tree_job(tree, tree->ahead[i])->offset);
         }
     }
+    run->named[job] = true;
+    run->order = (run->order ^ (uint64_t)(job + 1)) * 0x100000001B3u;
     return job;
 }
 
 static void end_job(struct run *run, int job, uint32_t vertex)
 {
     run->ended[job] = true;
-    run->busy[vertex] = false;
+    run->held[vertex] = false;
+    run->busy[vertex] = 0;
     run->running--;
     wake_all(run);
 }
 
-/* Runs the job that a step of this vertex named. Gives the lock up meanwhile. */
-static void do_job(struct worker *worker, uint32_t vertex, struct keshtiwol_reply reply)
+void do_job(struct worker *worker, uint32_t vertex, int job)
 {
     struct run *run = worker->run;
-    int job = named_job(run, reply);
-    if (job < 0) {
-        return;
-    }
     bool early = run->breaking == JOBS && draw(&worker->dice, 3) == 0;
-    run->order = (run->order ^ (uint64_t)(job + 1)) * 0x100000001B3u;
-    run->busy[vertex] = true;
     run->running++;
     run->most = run->running > run->most ? run->running : run->most;
     if (early) {
@@ -310,9 +255,10 @@ static void do_job(struct worker *worker, uint32_t vertex, struct keshtiwol_repl
         end_job(run, job, vertex);
     }
     if (wrong == job) {
-        fault(run, "the job at %u ran a second time", reply.second);
+        fault(run, "the job at %u ran a second time", tree_job(run->tree, job)->offset);
     } else if (wrong >= 0) {
-        fault(run, "the job at %u found the block of the job at %u not filled", reply.second, tree_job(run->tree, wrong)->offset);
+        fault(run, "the job at %u found the block of the job at %u not filled", tree_job(run->tree, job)->offset,
+              tree_job(run->tree, wrong)->offset);
     }
 }
 
@@ -345,12 +291,12 @@ static void note_step(struct run *run, uint32_t vertex, uint32_t said)
     }
 }
 
-static bool is_over(const struct run *run)
+bool is_over(const struct run *run)
 {
     return run->fault[0] != '\0' || run->tally.steps == tree_steps(run->tree, run->edition);
 }
 
-static void *work(void *argument)
+static void *work_by_steps(void *argument)
 {
     struct worker *worker = argument;
     struct run *run = worker->run;
@@ -360,7 +306,11 @@ static void *work(void *argument)
         struct keshtiwol_reply reply;
         if (step_one(run, &worker->dice, &vertex, &reply)) {
             if (reply.said == KESHTIWOL_JOB) {
-                do_job(worker, vertex, reply);
+                int job = named_job(run, reply.first, reply.second);
+                if (job >= 0) {
+                    run->busy[vertex] = 1;
+                    do_job(worker, vertex, job);
+                }
                 look_at_sleepers(run);
                 continue;
             }
@@ -416,7 +366,6 @@ static bool is_guarded(const uint32_t *table, uint32_t words)
 /* The state at the full count, and what the engine says of it. */
 static void look_at_end(struct run *run)
 {
-    const struct program *program = run->program;
     const struct tree *tree = run->tree;
     for (int job = 0; job < (int)tree->job_count; job++) {
         if (!run->ended[job] || !is_filled(run, job)) {
@@ -431,17 +380,16 @@ static void look_at_end(struct run *run)
             fault(run, "at the end vertex %u has status %u and %u edges into it", vertex, status(run, vertex), in_count(run, vertex));
         }
     }
-    if (run->yields != (run->edition == KESHTIWOL_SECOND_EDITION ? tree->forks : 0)) {
+    if (!run->dispatches && run->yields != (run->edition == KESHTIWOL_SECOND_EDITION ? tree->forks : 0)) {
         fault(run, "%u yields were made", run->yields);
     }
-    struct keshtiwol_reply lowest = keshtiwol_lowest(program->bytes, program->length, run->vertices, vertex_words(run),
-                                                     run->edges, edge_words(run), &run->tally, run->edition);
-    struct keshtiwol_run_reply rest = keshtiwol_run(program->bytes, program->length, run->vertices, vertex_words(run),
-                                                    run->edges, edge_words(run), &run->tally, run->edition, 1);
+    struct keshtiwol_reply lowest = keshtiwol_lowest(LENT(run));
+    struct keshtiwol_run_reply rest = keshtiwol_run(LENT(run), 1);
     if (lowest.said != KESHTIWOL_NONE || rest.ending.said != KESHTIWOL_DONE || rest.last.said != KESHTIWOL_NONE || rest.taken != 0) {
         fault(run, "at the end the engine says %u, and %u after %u more steps", lowest.said, rest.ending.said, rest.taken);
     }
-    if (!is_guarded(run->vertices, vertex_words(run)) || !is_guarded(run->edges, edge_words(run))) {
+    if (!is_guarded(run->vertices, vertex_words(run)) || !is_guarded(run->edges, edge_words(run)) ||
+        !is_guarded(run->busy, tree_vertices(tree, run->edition))) {
         fault(run, "words behind a lent table were written");
     }
 }
@@ -453,7 +401,16 @@ struct summary {
     uint32_t order_count;
     uint32_t most; /* jobs at once */
     uint32_t yields, ready;
+    struct endings endings; /* of dispatches */
 };
+
+static void add_endings(struct endings *sum, struct endings endings)
+{
+    sum->done += endings.done;
+    sum->waiting += endings.waiting;
+    sum->full += endings.full;
+    sum->spent += endings.spent;
+}
 
 static void add_run(struct summary *summary, const struct run *run)
 {
@@ -468,31 +425,48 @@ static void add_run(struct summary *summary, const struct run *run)
     summary->most = run->most > summary->most ? run->most : summary->most;
     summary->yields += run->yields;
     summary->ready += run->ready;
+    add_endings(&summary->endings, run->endings);
 }
+
+/* How a run goes. */
+enum way { DRAWN_WAY, STEPS, DISPATCH };
+
+struct options {
+    enum breaking breaking;
+    enum way way;
+    uint32_t edition; /* 0: both */
+    uint32_t rounds;
+    uint64_t seed;
+};
 
 /* Runs a program with so many workers. False, and says why, if anything was wrong. */
 static bool run_program(const struct program *program, const struct tree *tree, uint32_t edition, uint32_t workers, uint64_t *dice,
-                        enum breaking breaking, struct summary *summary)
+                        const struct options *options, struct summary *summary)
 {
     uint32_t vertices = tree_vertices(tree, edition);
+    bool dispatches = options->way == DRAWN_WAY ? draw(dice, 2) == 0 : options->way == DISPATCH;
     struct run run = {
         .program = program,
         .tree = tree,
         .edition = edition,
-        .yields_late = draw(dice, 2) == 0,
+        .dispatches = dispatches,
+        .yields_late = !dispatches && draw(dice, 2) == 0,
         .stamp = draw(dice, UINT32_MAX),
-        .breaking = breaking,
+        .breaking = options->breaking,
         .blocks = lend(tree->job_count, sizeof *run.blocks),
         .lock = PTHREAD_MUTEX_INITIALIZER,
         .changed = PTHREAD_COND_INITIALIZER,
         .vertices = lend_table(KESHTIWOL_VERTEX_WORDS * vertices),
         .edges = lend_table(KESHTIWOL_EDGE_WORDS * tree_edges(tree)),
-        .busy = lend(vertices, sizeof *run.busy),
+        .busy = lend_table(vertices),
         .blocked = lend(vertices, sizeof *run.blocked),
+        .named = lend(tree->job_count, sizeof *run.named),
         .ended = lend(tree->job_count, sizeof *run.ended),
+        .list = lend_table(LIST_WORDS),
+        .held = lend(vertices, sizeof *run.held),
     };
-    struct keshtiwol_reply reply = keshtiwol_load(program->bytes, program->length, run.vertices, vertex_words(&run),
-                                                  run.edges, edge_words(&run), &run.tally, edition);
+    memset(run.busy, 0, vertices * sizeof *run.busy);
+    struct keshtiwol_reply reply = keshtiwol_load(LENT(&run));
     bool is_too_large = vertices > KESHTIWOL_ROWS;
     if (is_too_large && (reply.said != KESHTIWOL_REFUSED || reply.first != KESHTIWOL_TOO_MANY_VERTICES)) {
         fault(&run, "loading %u vertices said %u, %u", vertices, reply.said, reply.first);
@@ -503,7 +477,7 @@ static bool run_program(const struct program *program, const struct tree *tree, 
         pthread_t threads[MOST_WORKERS];
         for (uint32_t i = 0; i < workers; i++) {
             hands[i] = (struct worker){&run, (uint64_t)draw(dice, UINT32_MAX) << 32 | i};
-            if (pthread_create(&threads[i], NULL, work, &hands[i]) != 0) {
+            if (pthread_create(&threads[i], NULL, dispatches ? work_by_dispatch : work_by_steps, &hands[i]) != 0) {
                 abort();
             }
         }
@@ -513,7 +487,8 @@ static bool run_program(const struct program *program, const struct tree *tree, 
         look_at_end(&run);
     }
     if (run.fault[0] != '\0') {
-        printf("pool: %s (edition %u), %u workers: %s\n", program->name, edition, workers, run.fault);
+        printf("pool: %s (edition %u), %u workers, by %s: %s\n", program->name, edition, workers, dispatches ? "dispatch" : "steps",
+               run.fault);
     }
     add_run(summary, &run);
     pthread_mutex_destroy(&run.lock);
@@ -523,22 +498,19 @@ static bool run_program(const struct program *program, const struct tree *tree, 
     free(run.edges);
     free(run.busy);
     free(run.blocked);
+    free(run.named);
     free(run.ended);
+    free(run.list);
+    free(run.held);
     return run.fault[0] == '\0';
 }
 
 /* ALL PROGRAMS */
 
-struct options {
-    enum breaking breaking;
-    uint32_t edition; /* 0: both */
-    uint32_t rounds;
-    uint64_t seed;
-};
-
 /* What all programs came to. */
 struct totals {
     uint64_t jobs, yields, ready;
+    struct endings endings;
 };
 
 /* Every round with 1, 2, 4 and 8 workers. Prints the program's line, and adds to the totals. */
@@ -554,7 +526,7 @@ static bool try_program(const struct program *program, uint32_t edition, const s
     bool good = true;
     for (uint32_t round = 0; good && round < options->rounds; round++) {
         for (uint32_t workers = 1; good && workers <= MOST_WORKERS; workers *= 2) {
-            good = run_program(program, tree, edition, workers, dice, options->breaking, &summary);
+            good = run_program(program, tree, edition, workers, dice, options, &summary);
         }
     }
     uint32_t vertices = tree_vertices(tree, edition);
@@ -564,6 +536,7 @@ static bool try_program(const struct program *program, uint32_t edition, const s
         totals->jobs += (uint64_t)summary.runs * tree->job_count;
         totals->yields += summary.yields;
         totals->ready += summary.ready;
+        add_endings(&totals->endings, summary.endings);
         printf("%s (edition %u): vertices %u jobs %u steps %u pairs ahead %zu, runs %u orders of jobs %u at once %u\n", program->name,
                edition, vertices, tree->job_count, tree_steps(tree, edition), tree->from[tree->job_count],
                summary.runs, summary.order_count, summary.most);
@@ -581,6 +554,11 @@ static bool read_options(int count, char **words, struct options *options)
             if (options->breaking == NOTHING) {
                 return false;
             }
+        } else if (strcmp(words[i], "--by") == 0 && i + 1 < count) {
+            options->way = strcmp(words[++i], "steps") == 0 ? STEPS : strcmp(words[i], "dispatch") == 0 ? DISPATCH : DRAWN_WAY;
+            if (options->way == DRAWN_WAY) {
+                return false;
+            }
         } else if (strcmp(words[i], "--edition") == 0 && i + 1 < count) {
             options->edition = (uint32_t)strtoul(words[++i], NULL, 10);
             if (options->edition != KESHTIWOL_FIRST_EDITION && options->edition != KESHTIWOL_SECOND_EDITION) {
@@ -594,19 +572,31 @@ static bool read_options(int count, char **words, struct options *options)
             return false;
         }
     }
-    return options->rounds > 0;
+    if (options->breaking == YIELDS && options->way == DRAWN_WAY) {
+        options->way = STEPS;
+    }
+    return options->rounds > 0 && !(options->breaking == YIELDS && options->way == DISPATCH);
+}
+
+/* Whether the programs met all that they are there for. */
+static bool all_was_met(const struct options *options, const struct totals *totals)
+{
+    struct endings endings = totals->endings;
+    bool all_yields = options->edition == KESHTIWOL_FIRST_EDITION || (totals->ready > 0 && totals->ready < totals->yields);
+    bool all_endings = endings.done > 0 && endings.waiting > 0 && endings.full > 0 && endings.spent > 0;
+    return (options->way == DISPATCH || all_yields) && (options->way == STEPS || all_endings);
 }
 
 int main(int count, char **words)
 {
-    struct options options = {NOTHING, 0, ROUNDS, 1};
+    struct options options = {NOTHING, DRAWN_WAY, 0, ROUNDS, 1};
     if (!read_options(count, words, &options)) {
-        fprintf(stderr, "usage: pool [--break jobs | --break yields] [--edition N] [--rounds N] [--seed N]\n");
+        fprintf(stderr, "usage: pool [--break jobs | --break yields] [--by steps | --by dispatch] [--edition N] [--rounds N] [--seed N]\n");
         return 2;
     }
     static struct program program;
     uint64_t dice = options.seed;
-    struct totals totals = {0, 0, 0};
+    struct totals totals = {.jobs = 0};
     for (int i = 0; i < BUILT_IN + DRAWN; i++) {
         uint32_t drawn = KESHTIWOL_FIRST_EDITION + draw(&dice, 2);
         if (i < BUILT_IN) {
@@ -623,8 +613,10 @@ int main(int count, char **words)
     }
     printf("pool: %d programs, %llu jobs, all in order; %llu yields, %llu of them when both branches had finished\n", BUILT_IN + DRAWN,
            (unsigned long long)totals.jobs, (unsigned long long)totals.yields, (unsigned long long)totals.ready);
-    if (options.edition != KESHTIWOL_FIRST_EDITION && (totals.ready == 0 || totals.ready == totals.yields)) {
-        printf("pool: not all ways to yield were met\n");
+    printf("pool: dispatches ended %u times with done, %u waiting, %u full, %u spent\n", totals.endings.done, totals.endings.waiting,
+           totals.endings.full, totals.endings.spent);
+    if (!all_was_met(&options, &totals)) {
+        printf("pool: not all ways to yield or to end were met\n");
         return 1;
     }
     return 0;

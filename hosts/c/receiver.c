@@ -1,7 +1,6 @@
 /* A receiver on four threads: it retunes, filters and decodes four channels side by side, and logs what it heard. For yours, change `program`
  * and `run_job`; the workers can stay. gcc -pthread -Iinclude hosts/c/receiver.c target/staticlib/libkeshtiwol.a, or installed -lkeshtiwol */
 #include <pthread.h>
-#include <stdbool.h>
 #include <stdio.h>
 #include <stdlib.h>
 #include "keshtiwol.h"
@@ -18,7 +17,7 @@ static const uint8_t program[] = {
     0x00                                /* the program's end */
 };
 
-/* THE JOBS run beside one another, and share these without a lock: the engine names no job before all jobs ahead of it have ended. */
+/* THE JOBS run beside one another, and share these without a lock: the engine hands out no job before all jobs ahead of it have ended. */
 enum { CHANNELS = 4, CALL_SIGN = 5 /* characters */ };
 static uint32_t tuned;                         /* to so many hertz, by retune */
 static const char *samples;                    /* taken by retune: the channels in turn, each character sent one higher */
@@ -54,32 +53,33 @@ static void run_job(uint32_t number)
 /* THE WORKERS keep the host's part of the bargain with the engine: the same lent and the same edition named at each call, */
 #define LENT program, sizeof program, vertices, KESHTIWOL_VERTEX_TABLE, edges, KESHTIWOL_EDGE_TABLE, &tally, KESHTIWOL_FIRST_EDITION
 static pthread_mutex_t lock = PTHREAD_MUTEX_INITIALIZER; /* one call at a time, */
-static bool busy[KESHTIWOL_ROWS];                        /* and no step of a vertex while its job is running. */
-static uint32_t running;                                 /* jobs, as many as busy vertices */
-static pthread_cond_t job_ended = PTHREAD_COND_INITIALIZER;
+static uint32_t busy[KESHTIWOL_ROWS];                    /* and a vertex's mark, which the engine sets, cleared when its job has ended. */
+enum { WORKERS = 4, LIST = KESHTIWOL_JOB_WORDS * WORKERS /* words; any length will do */ };
+static uint32_t list[LIST], handed, begun; /* the jobs that the engine handed out, how many they are, and how many of them were begun */
+static pthread_cond_t changed = PTHREAD_COND_INITIALIZER;                      /* a job was handed out, or has ended */
 static uint32_t vertices[KESHTIWOL_VERTEX_TABLE], edges[KESHTIWOL_EDGE_TABLE]; /* enough for every program */
 static struct keshtiwol_tally tally;
 
 static void *work(void *unused)
 {
     pthread_mutex_lock(&lock);
-    for (bool stepped = true; stepped || running > 0;) {
-        if (!stepped) pthread_cond_wait(&job_ended, &lock); /* no vertex can step before that */
-        stepped = false;
-        for (uint32_t vertex = 0; vertex < tally.made; vertex++) {
-            if (busy[vertex] || vertices[KESHTIWOL_VERTEX_WORDS * vertex + KESHTIWOL_STATUS] == KESHTIWOL_VERTEX_FINISHED) continue;
-            struct keshtiwol_reply reply = keshtiwol_step(LENT, vertex);
-            if (reply.said != KESHTIWOL_REFUSED) stepped = true; /* a refusal changed nothing: not now */
-            if (reply.said != KESHTIWOL_JOB) continue;
-            busy[vertex] = true;
-            running++;
+    for (;;) {
+        if (begun < handed) {
+            const uint32_t *job = &list[KESHTIWOL_JOB_WORDS * begun++];
+            uint32_t vertex = job[KESHTIWOL_JOB_VERTEX], number = job[KESHTIWOL_JOB_NUMBER];
             pthread_mutex_unlock(&lock);
-            run_job(reply.first);
+            run_job(number);
             pthread_mutex_lock(&lock);
-            busy[vertex] = false;
-            running--;
-            pthread_cond_broadcast(&job_ended);
+            busy[vertex] = 0;
+            pthread_cond_broadcast(&changed);
+            continue;
         }
+        struct keshtiwol_dispatch_reply reply = keshtiwol_dispatch(LENT, KESHTIWOL_STEP_LIMIT, busy, KESHTIWOL_ROWS, list, LIST);
+        handed = reply.handed;
+        begun = 0;
+        if (handed > 0) pthread_cond_broadcast(&changed);
+        else if (reply.ending.said == KESHTIWOL_WAITING) pthread_cond_wait(&changed, &lock); /* nothing can start before a job has ended */
+        else break; /* done: a loaded program has no other ending here */
     }
     pthread_mutex_unlock(&lock);
     return unused;
@@ -92,8 +92,8 @@ int main(void)
         fprintf(stderr, "refused with %u, place %u: %s\n", reply.first, reply.second, keshtiwol_refusal_text(reply.first));
         return 1;
     }
-    pthread_t workers[4];
-    for (int i = 0; i < 4; i++) if (pthread_create(&workers[i], NULL, work, NULL) != 0) abort();
-    for (int i = 0; i < 4; i++) pthread_join(workers[i], NULL);
+    pthread_t workers[WORKERS];
+    for (int i = 0; i < WORKERS; i++) if (pthread_create(&workers[i], NULL, work, NULL) != 0) abort();
+    for (int i = 0; i < WORKERS; i++) pthread_join(workers[i], NULL);
     return keshtiwol_run(LENT, 0).ending.said == KESHTIWOL_DONE ? 0 : 1; /* a run of no steps tells whether all vertices are finished */
 }

@@ -17,6 +17,17 @@ A program is bytes: numbered jobs with async, finish, fork, future and force. A 
     >>> machine.steps
     22
 
+A host with threads has the engine hand out jobs, as many as may run beside one another, and says of each when it has ended:
+
+    >>> machine = Machine(bytes.fromhex("04 01 01 00 01 02 00 01 03 00"))
+    >>> handed_out = machine.dispatch()
+    >>> handed_out.ending.name, [job.number for job in handed_out.jobs]
+    ('WAITING', [1, 2])
+    >>> for job in handed_out.jobs:
+    ...     machine.ended(job.vertex)  # run it, and then call this
+    >>> machine.dispatch().jobs
+    [HandedJob(vertex=4, number=3, offset=7)]
+
 What the engine turns away is raised as a `Refusal`, and changed nothing:
 
     >>> Machine(b"\\x07")
@@ -34,7 +45,8 @@ for what follows, but yields, and starts again when both branches have finished:
 
 THREADS. Python goes on with other threads during a call, so the bargain of include/keshtiwol.h is the host's here too: make one call at a
 time for the same machine, reading included (one lock around the engine is enough), and after a step says `Job` do not step its vertex again
-before the job has ended. Different machines may be used from different threads at once. receiver.py shows a host with four threads.
+before the job has ended. `dispatch` takes care of the latter: run each job that it hands out once, and call `ended` when the job has ended and
+not before. Different machines may be used from different threads at once. receiver.py shows a host with four threads.
 
 THE LIBRARY is libkeshtiwol.so.4: from the folder in the environment variable KESHTIWOL_LIB where that is set, else from the repository's
 target/hosts/lib where it is there, else from where the system's loader finds it. Importing fails with an ImportError where there is none,
@@ -65,6 +77,11 @@ IN_COUNT = 8
 EDGE_WORDS = 2
 SOURCE = 0
 TARGET = 1
+
+JOB_WORDS = 3
+JOB_VERTEX = 0
+JOB_NUMBER = 1
+JOB_OFFSET = 2
 
 # Enough for every program.
 PROGRAM_BYTES = 4096
@@ -107,6 +124,8 @@ TRANSFER_HAS_EDGE_OUT = 38
 # Whoever asks for a chain.
 NO_CHAIN = 41
 LIST_TOO_SHORT = 42
+# A host that has jobs handed out.
+BUSY_TABLE_TOO_SHORT = 44
 # A host that names an edition or a command by number.
 NO_SUCH_EDITION = 98
 NO_SUCH_COMMAND = 99
@@ -140,6 +159,7 @@ TEXTS = {
     TRANSFER_HAS_EDGE_OUT: "the vertex that would get the edges has one already",
     NO_CHAIN: "no chain of held edges leads from the target back to the source",
     LIST_TOO_SHORT: "the chain has more vertices than the list has words",
+    BUSY_TABLE_TOO_SHORT: "the table of marks has fewer words than the vertex table has rows",
     NO_SUCH_EDITION: "no edition has this number",
     NO_SUCH_COMMAND: "no command has this number",
 }
@@ -230,11 +250,13 @@ class Yield(Answer):
 
 
 class Ending(enum.IntEnum):
-    """How a run ended."""
+    """How a run or a dispatch ended. The last two are of dispatches only."""
 
     DONE = 11  # all vertices made are finished
     STUCK = 12  # no step would be accepted
     SPENT = 13  # the budget is used
+    WAITING = 16  # only busy vertices could step: nothing more can start before a running job has ended
+    FULL = 17  # as many jobs were handed out as were asked for, and more can be stepped now
 
 
 @dataclass(frozen=True)
@@ -244,6 +266,24 @@ class Run:
     ending: Ending
     last: Optional[Answer]
     taken: int
+
+
+@dataclass(frozen=True)
+class HandedJob:
+    """A job that was handed out. The host runs it once; its vertex is busy until `ended` is called. The offset tells jobs apart."""
+
+    vertex: int
+    number: int
+    offset: int
+
+
+@dataclass(frozen=True)
+class Dispatch:
+    """A dispatch's ending, how many steps it took, and the jobs that it handed out."""
+
+    ending: Ending
+    taken: int
+    jobs: list[HandedJob]
 
 
 class Edition(enum.IntEnum):
@@ -299,6 +339,12 @@ class RunReply(ctypes.Structure):
     _fields_ = [("ending", Reply), ("last", Reply), ("taken", ctypes.c_uint32)]
 
 
+class DispatchReply(ctypes.Structure):
+    """How a dispatch ended, how many steps it took, and how many jobs it handed out."""
+
+    _fields_ = [("ending", Reply), ("taken", ctypes.c_uint32), ("handed", ctypes.c_uint32)]
+
+
 class Said(enum.IntEnum):
     """What a reply can say, besides an `Ending`."""
 
@@ -340,6 +386,7 @@ _CALLS = {
     "keshtiwol_load": (Reply, _PROGRAM + _TABLES + [_WORD]),
     "keshtiwol_step": (Reply, _PROGRAM + _TABLES + [_WORD, _WORD]),
     "keshtiwol_run": (RunReply, _PROGRAM + _TABLES + [_WORD, _WORD]),
+    "keshtiwol_dispatch": (DispatchReply, _PROGRAM + _TABLES + [_WORD, _WORD, _WORDS, ctypes.c_size_t, _WORDS, ctypes.c_size_t]),
     "keshtiwol_lowest": (Reply, _PROGRAM + _TABLES + [_WORD]),
     "keshtiwol_open": (Reply, _TABLES),
     "keshtiwol_command": (Reply, _TABLES + [_WORD, _WORD, _WORD, _WORD]),
@@ -486,6 +533,7 @@ class Machine(Graph):
         # By way of a memoryview, since bytes(5) would be five bytes.
         self._program = bytes(memoryview(program))
         self._edition = _word(edition)
+        self._busy = (ctypes.c_uint32 * ROWS)()
         _accepted(library.keshtiwol_load(*self._lent()))
 
     def _lent(self) -> tuple:
@@ -521,6 +569,27 @@ class Machine(Graph):
         reply = library.keshtiwol_run(*self._lent(), _word(budget))
         ending = Ending(_accepted(reply.ending).said)
         return Run(ending, None if reply.last.said == Said.NONE else _answer(reply.last), reply.taken)
+
+    def dispatch(self, budget: int = STEP_LIMIT, most: int = ROWS) -> Dispatch:
+        """Steps the lowest vertex that can step and is not busy, again and again, and hands out the jobs that these steps name, at most as many
+        as asked for. Their vertices are busy then. Run each job once, on whatever thread, call `ended` when it has ended, and call this again.
+        It ends when all vertices are finished, none can step, only busy ones could, that many jobs are handed out or the budget is used."""
+        # Each vertex has one job at a time, so no longer list can be filled.
+        words = JOB_WORDS * min(_word(most), ROWS)
+        rows = (ctypes.c_uint32 * words)()
+        reply = library.keshtiwol_dispatch(*self._lent(), _word(budget), self._busy, ROWS, rows, words)
+        ending = Ending(_accepted(reply.ending).said)
+        return Dispatch(ending, reply.taken, [HandedJob(*rows[at : at + JOB_WORDS]) for at in range(0, JOB_WORDS * reply.handed, JOB_WORDS)])
+
+    def busy(self, vertex: int) -> bool:
+        """Whether a job of this vertex was handed out and has not ended."""
+        return 0 <= vertex < ROWS and self._busy[vertex] != 0
+
+    def ended(self, vertex: int) -> None:
+        """The job of this vertex that was handed out has ended, so that a dispatch may step the vertex again."""
+        if not self.busy(vertex):
+            raise ValueError(f"vertex {vertex} has no job that was handed out")
+        self._busy[vertex] = 0
 
     def lowest(self) -> Optional[int]:
         """The lowest vertex that can step, or None. Changes nothing."""

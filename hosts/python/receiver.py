@@ -6,7 +6,7 @@ The engine says which job may start, the threads here run them. `run_program` is
 import threading
 from concurrent.futures import ThreadPoolExecutor
 
-from keshtiwol import Job, Machine
+from keshtiwol import Ending, Machine
 
 THREADS = 4
 CHANNELS = 4
@@ -28,40 +28,35 @@ PROGRAM = bytes.fromhex(
 def run_program(program, run_job):
     """Runs all jobs of a program, each as soon as the engine lets it start and a thread is free. `run_job` gets a job's number."""
     machine = Machine(program)
-    busy = set()  # the vertices whose job is running
-    failed = []  # what jobs raised: then no further step is taken
-    job_ended = threading.Condition()  # its lock is the one around the engine's calls and `busy`
+    jobs = []  # handed out, and not yet begun
+    failed = []  # what jobs raised: then no further job is begun
+    changed = threading.Condition()  # a job was handed out or has ended; its lock is the one around the engine's calls and these lists
 
-    def run(vertex, number):
+    def run(job):
         """Leaves the lock for as long as the job runs."""
-        busy.add(vertex)
-        job_ended.release()
+        changed.release()
         try:
-            run_job(number)
+            run_job(job.number)
         except BaseException as error:
             failed.append(error)
-        job_ended.acquire()
-        busy.remove(vertex)
-        job_ended.notify_all()
-
-    def step_all():
-        """Steps each vertex that is not busy, those made meanwhile too. Tells whether a step was accepted."""
-        accepted, vertex = False, 0
-        while vertex < machine.made and not failed:
-            answer = None if vertex in busy else machine.try_step(vertex)
-            accepted = accepted or answer is not None
-            if isinstance(answer, Job):
-                run(vertex, answer.number)
-            vertex += 1
-        return accepted
+        changed.acquire()
+        machine.ended(job.vertex)
+        changed.notify_all()
 
     def work():
-        with job_ended:
-            while True:
-                if not step_all():
-                    if not busy:
-                        return  # nothing can step and no job is running: the program is done
-                    job_ended.wait()
+        with changed:
+            while not failed:
+                if jobs:
+                    run(jobs.pop())
+                    continue
+                handed_out = machine.dispatch()
+                jobs.extend(handed_out.jobs)
+                if jobs:
+                    changed.notify_all()
+                elif handed_out.ending is Ending.WAITING:
+                    changed.wait()  # nothing more can start before a job has ended
+                else:
+                    return  # done: a loaded program has no other ending here
 
     with ThreadPoolExecutor(THREADS) as pool:
         for worker in [pool.submit(work) for _ in range(THREADS)]:

@@ -25,9 +25,9 @@ from dataclasses import FrozenInstanceError
 import keshtiwol
 import receiver
 from keshtiwol import (
-    EDGE_WORDS, FUTURE, IN_COUNT, PHASE, ROWS, SOURCE, STATUS, STEP_LIMIT, VERTEX_WORDS,
-    Bare, Do, Edge, Edition, Ending, Job, Machine, New, Refusal, Release, Reply, Row, Run, RunReply, Said, Start, Status, Stop, Tally,
-    Transfer, Yield, library,
+    EDGE_WORDS, FUTURE, IN_COUNT, JOB_WORDS, PHASE, ROWS, SOURCE, STATUS, STEP_LIMIT, VERTEX_WORDS,
+    Bare, Dispatch, DispatchReply, Do, Edge, Edition, Ending, HandedJob, Job, Machine, New, Refusal, Release, Reply, Row, Run, RunReply,
+    Said, Start, Status, Stop, Tally, Transfer, Yield, library,
 )
 
 HERE = os.path.dirname(os.path.realpath(__file__))
@@ -43,8 +43,8 @@ def text_of(*path):
 
 
 def all_words(graph):
-    """Every word of a machine's tables and tally."""
-    return list(graph._vertices), list(graph._edges), (graph.made, graph.held, graph.steps)
+    """Every word of a machine's tables, tally and marks."""
+    return list(graph._vertices), list(graph._edges), (graph.made, graph.held, graph.steps), list(getattr(graph, "_busy", ()))
 
 
 def steps(machine):
@@ -218,7 +218,7 @@ class SecondEdition(Case):
             self.assert_refused(keshtiwol.NO_SUCH_EDITION, Machine, b"", number)  # before what is wrong with the program
             machine = Machine(FORK)
             machine._edition = number
-            for call, *values in [(machine.step, 0), (machine.run, 1), (machine.lowest,)]:
+            for call, *values in [(machine.step, 0), (machine.run, 1), (machine.dispatch,), (machine.lowest,)]:
                 self.assert_refused(keshtiwol.NO_SUCH_EDITION, call, *values)
 
 
@@ -365,6 +365,60 @@ class Programs(Case):
         self.assertEqual(ended, [(Run(Ending.DONE, Stop(), 1004), 202)] * 80)
 
 
+class Dispatches(Case):
+    def test_a_fork(self):
+        for edition, last, steps in [(Edition.FIRST, HandedJob(4, 3, 7), 22), (Edition.SECOND, HandedJob(0, 3, 7), 19)]:
+            machine = Machine(FORK, edition)
+            branches = machine.dispatch()
+            self.assertEqual((branches.ending, branches.jobs), (Ending.WAITING, [HandedJob(2, 1, 1), HandedJob(3, 2, 4)]))
+            self.assertEqual([machine.busy(vertex) for vertex in (1, 2, 3, 4, ROWS, -1)], [False, True, True, False, False, False])
+            self.assertEqual(machine.dispatch(), Dispatch(Ending.WAITING, 0, []))
+            machine.ended(3)
+            self.assertEqual(machine.dispatch(), Dispatch(Ending.WAITING, 1, []))
+            machine.ended(2)
+            self.assertEqual(machine.dispatch().jobs, [last])
+            machine.ended(last.vertex)
+            self.assertEqual(machine.dispatch().ending, Ending.DONE)
+            self.assertEqual((machine.steps, any(machine._busy)), (steps, False))
+
+    def test_endings(self):
+        machine = Machine(FORK)
+        self.assertEqual(machine.dispatch(0), Dispatch(Ending.SPENT, 0, []))
+        self.assertEqual(machine.dispatch(5), Dispatch(Ending.SPENT, 5, []))
+        self.assertEqual(machine.dispatch(0, 0), Dispatch(Ending.FULL, 0, []))
+        self.assertEqual(machine.dispatch(most=1), Dispatch(Ending.FULL, 8, [HandedJob(2, 1, 1)]))
+        self.assertEqual(machine.dispatch(2, LARGEST), Dispatch(Ending.WAITING, 2, [HandedJob(3, 2, 4)]))
+        machine = Machine(FORK)
+        machine._vertices[STATUS] = Status.NEW
+        self.assertEqual(machine.dispatch(), Dispatch(Ending.STUCK, 0, []))
+        machine._vertices[STATUS] = 5
+        self.assert_refused(keshtiwol.UNSOUND_TABLES, machine.dispatch)
+
+    def test_ends_of_no_job(self):
+        machine = Machine(LISTED)
+        job, = machine.dispatch().jobs
+        for vertex in (0, ROWS, -1, LARGEST):
+            with self.assertRaises(ValueError):
+                machine.ended(vertex)
+        machine.ended(job.vertex)
+        with self.assertRaises(ValueError):
+            machine.ended(job.vertex)
+
+    def test_a_job_at_a_time(self):
+        program = bytes.fromhex("02 01 90 81 DB 06 00" * 100 + "05 01 05 00 06 00 01 06 00")
+        for budget in (1, 9, STEP_LIMIT):
+            machine, handed = Machine(program), []
+            ending = None
+            while ending is not Ending.DONE:
+                dispatch = machine.dispatch(budget, 1)
+                ending = dispatch.ending
+                for job in dispatch.jobs:
+                    handed.append(job.number)
+                    machine.ended(job.vertex)
+            self.assertEqual(sorted(handed), [5, 6] + [14_074_000] * 100)
+            self.assertLess(handed.index(5), handed.index(6))
+
+
 class Commands(Case):
     def opened(self, vertices):
         """The bare machine with vertex 0 executing and others that are new."""
@@ -509,6 +563,28 @@ class OwnTables(unittest.TestCase):
         for number in (0, max(Do) + 1, LARGEST):
             self.assert_refused(keshtiwol.NO_SUCH_COMMAND, library.keshtiwol_command, (), vertices, edges, tally, number, 0, 0, 0)
 
+    def test_too_few_marks_and_lists_of_any_length(self):
+        vertices, edges, tally = self.tables(5 * VERTEX_WORDS, 5 * EDGE_WORDS)
+        lent = FORK, len(FORK), vertices, len(vertices), edges, len(edges), tally
+        self.assertEqual(library.keshtiwol_load(*lent, Edition.FIRST).said, Said.READY)
+        for words in range(2 * JOB_WORDS + 2):
+            rows = (ctypes.c_uint32 * words)(*[77] * words)
+            for marks in range(5):
+                busy = (ctypes.c_uint32 * marks)()
+                before = bytes(vertices), bytes(edges), bytes(tally)
+                reply = library.keshtiwol_dispatch(*lent, Edition.FIRST, 100, busy, marks, rows, words)
+                self.assertEqual((reply.ending.said, reply.ending.first), (Said.REFUSED, keshtiwol.BUSY_TABLE_TOO_SHORT))
+                self.assertEqual((reply.ending.second, reply.taken, reply.handed), (0, 0, 0))
+                self.assertEqual((bytes(vertices), bytes(edges), bytes(tally), list(busy), list(rows)), (*before, [0] * marks, [77] * words))
+            self.assertEqual(library.keshtiwol_load(*lent, Edition.FIRST).said, Said.READY)
+            busy = (ctypes.c_uint32 * 7)(0, 0, 0, 0, 0, 77, 77)
+            reply = library.keshtiwol_dispatch(*lent, Edition.FIRST, 100, busy, 7, rows, words)
+            jobs = [2, 1, 1, 3, 2, 4][: JOB_WORDS * (words // JOB_WORDS)]
+            self.assertEqual((list(rows), reply.handed), (jobs + [77] * (words - len(jobs)), len(jobs) // JOB_WORDS))
+            self.assertEqual(list(busy), [0, 0, int(reply.handed > 0), int(reply.handed > 1), 0, 77, 77])
+            self.assertEqual(reply.ending.said, Ending.WAITING if reply.handed == 2 else Ending.FULL)
+            self.assertEqual(reply.taken, [0, 13, 15][reply.handed])
+
     def test_the_editions_mixed(self):
         # Nothing is promised of both together, but each call still ends well: a fork has nine commands or seven.
         machine = Machine(FORK)
@@ -543,10 +619,10 @@ class Values(Case):
         machine, bare = Machine(LISTED), Bare()
         before = all_words(machine), all_words(bare)
         for call in [
-            machine.step, machine.try_step, machine.run, lambda n: machine.chain(n, 0), lambda n: machine.chain(0, n),
-            lambda n: Machine(LISTED, n), bare.start, bare.stop, bare.yield_, bare.new, lambda n: bare.new(0, n, 0),
-            lambda n: bare.new(0, 0, n), lambda n: bare.edge(0, n, 0), lambda n: bare.edge(0, 0, n), lambda n: bare.release(0, n),
-            lambda n: bare.transfer(0, n),
+            machine.step, machine.try_step, machine.run, machine.dispatch, lambda n: machine.dispatch(0, n),
+            lambda n: machine.chain(n, 0), lambda n: machine.chain(0, n), lambda n: Machine(LISTED, n),
+            bare.start, bare.stop, bare.yield_, bare.new, lambda n: bare.new(0, n, 0), lambda n: bare.new(0, 0, n),
+            lambda n: bare.edge(0, n, 0), lambda n: bare.edge(0, 0, n), lambda n: bare.release(0, n), lambda n: bare.transfer(0, n),
         ]:
             for number in (-1, LARGEST + 1, 1 << 64):
                 with self.assertRaises(ValueError):
@@ -590,6 +666,7 @@ class OneList(unittest.TestCase):
         "struct keshtiwol_tally *": ctypes.POINTER(Tally),
         "struct keshtiwol_reply": Reply,
         "struct keshtiwol_run_reply": RunReply,
+        "struct keshtiwol_dispatch_reply": DispatchReply,
     }
 
     def test_constants(self):
@@ -611,18 +688,18 @@ class OneList(unittest.TestCase):
         numbers = dict(re.findall(r"KESHTIWOL_(\w+) = (\d+)", section[: section.index("};")]))
         wrapper = text_of("hosts", "rust", "keshtiwol", "src", "refusal.rs")
         words = dict(re.findall(r'^\s*([A-Z][A-Z_]*) => "(.*)",$', wrapper, re.MULTILINE))
-        self.assertEqual(len(keshtiwol.TEXTS), 30)
+        self.assertEqual(len(keshtiwol.TEXTS), 31)
         self.assertEqual(words.keys(), numbers.keys())
         self.assertEqual({int(number): words[name] for name, number in numbers.items()}, keshtiwol.TEXTS)
         self.assertEqual({name: getattr(keshtiwol, name) for name in numbers}, {name: int(number) for name, number in numbers.items()})
 
     def test_structs(self):
         structs = re.findall(r"(struct \w+) \{([^}]*)\};", self.HEADER)
-        self.assertEqual(len(structs), 3)
+        self.assertEqual(len(structs), 4)
         for name, body in structs:
             fields = [(field, self.TYPES[kind]) for kind, field in re.findall(r"(\w[\w ]*) (\w+);", body)]
             self.assertEqual(self.TYPES[name]._fields_, fields)
-        self.assertEqual([ctypes.sizeof(struct) for struct in (Tally, Reply, RunReply)], [12, 12, 28])
+        self.assertEqual([ctypes.sizeof(struct) for struct in (Tally, Reply, RunReply, DispatchReply)], [12, 12, 28, 20])
 
     def test_calls(self):
         calls = {}

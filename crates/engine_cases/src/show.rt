@@ -3,13 +3,13 @@ use cases::number;
 use cases::refused;
 use cases::text;
 use engine::Answer;
-use engine::Ending;
-use engine::LastStep;
 use engine::Loading;
-use engine::RunAnswer;
 use graph::Tally;
 use program::Edition;
 use refusal::Refusal;
+use walks::Ending;
+use walks::LastStep;
+use walks::RunAnswer;
 
 pub(crate) fn edition(e: Edition) {
     match e {

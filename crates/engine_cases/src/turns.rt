@@ -8,10 +8,10 @@ use engine::Answer;
 use engine::Lowest;
 use engine::load::load_by_value;
 use engine::look::lowest_vertex;
-use engine::runs::run_by_value;
 use engine::steps::step_by_value;
 use graph::Tally;
 use program::Edition;
+use walks::runs::run_by_value;
 
 pub(crate) fn run(program: &[u8], vertices: &mut [u32], edges: &mut [u32], edition: Edition) {
     show::edition(edition);

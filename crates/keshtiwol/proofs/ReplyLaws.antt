@@ -4,7 +4,8 @@
 --     asked-here, asked-later              the numbers of the commands, one after the other
 --     unknown-command, known-command       what the numbers of a command come to
 --     unknown-edition, known-edition       and the number of an edition
---     replied-as, commanded-as, ran-as     a core's reply, from what the call did and from the numbers of its answer
+--     replied-as, commanded-as, ran-as, dispatched-as
+--                                          a core's reply, from what the call did and from the numbers of its answer
 use Prim.Native.Nat.{ℕ}
 use mathlib.Core.Path.{_≡_, refl, sym, _∙_, ap}
 use mathlib.Core.Bool.{Bool, true, false, cond}
@@ -20,17 +21,21 @@ use Rattle.graph.specs.Commands.{command}
 use Rattle.program.specs.declared.Edition.{Edition}
 use Rattle.machine.specs.Answers.{saidAs}
 use Rattle.machine.specs.Running.{run, RunOutcome}
-use Rattle.machine.specs.Traces.{Ran}
-use Rattle.engine.specs.declared.RunDone.{RunDone}
-use Rattle.engine.specs.Answers.{endingOf, lastOf}
+use Rattle.machine.specs.Dispatching as of-dispatch
+use Rattle.machine.specs.Dispatching.{marksOf, listOf, handedOf, dispatch}
+use Rattle.machine.specs.Traces.{Ran, Dispatched}
+use Rattle.walks.specs.declared.RunDone.{RunDone}
+use Rattle.walks.specs.declared.DispatchDone.{DispatchDone}
+use Rattle.walks.specs.Answers.{endingOf, lastOf, dispatchEndingOf}
 use Rattle.keshtiwol.specs.declared.ReplyDone.{ReplyDone}
 use Rattle.keshtiwol.specs.declared.RunReplyDone.{RunReplyDone}
+use Rattle.keshtiwol.specs.declared.DispatchReplyDone.{DispatchReplyDone}
 use Rattle.keshtiwol.specs.declared.Asked.{Asked}
 use Rattle.keshtiwol.specs.declared.Asked.the-variants as of-asked
 use Rattle.keshtiwol.specs.declared.EditionAsked.{EditionAsked}
 use Rattle.keshtiwol.specs.declared.EditionAsked.the-variants as of-edition
 use Rattle.keshtiwol.specs.Numbers.{Numbers, numbers, replyNumbers, saidNumbers, endingNumbers, lastNumbers, askedOf, ifKnown, editionAskedOf, inEdition, Commanded}
-use Rattle.keshtiwol.specs.Numbers.{RunTold, RunReplied}
+use Rattle.keshtiwol.specs.Numbers.{RunTold, RunReplied, dispatchNumbers, DispatchTold, DispatchReplied}
 
 -- ANSWERS
 pub told : {A : Type 0} (f : A → Numbers) {a b : A} {n : Numbers} → a ≡ b → n ≡ f b → n ≡ f a
@@ -95,4 +100,19 @@ ran-as d r v e ed bytes s budget ran is (p, q, n, t) = (
   q ∙ ap lastNumbers (ran .last-is ∙ ap (λ (o : RunOutcome). o .last) is),
   n ∙ ran .takes ∙ ap (λ (o : RunOutcome). o .taken) is,
   ap (λ (t : Tally). lent v e t) t ∙ ran .leaves ∙ ap (λ (o : RunOutcome). o .after) is,
+)
+
+pub dispatched-as :
+    (d : DispatchDone) (r : DispatchReplyDone) (v e marks' list' : List ℕ) {o : of-dispatch.Outcome} (ed : Edition) (bytes : List ℕ) (s : Lent)
+    (marks list : List ℕ) (budget : ℕ)
+    → Dispatched ed bytes s marks list budget (dispatchEndingOf (d .answer .ending)) (d .answer .taken) (lent v e (d .tally)) marks' list'
+    (d .answer .handed)
+    → dispatch ed bytes s marks list budget ≡ o → DispatchTold d r → DispatchReplied o (r .answer) (lent v e (r .tally)) marks' list'
+dispatched-as d r v e marks' list' ed bytes s marks list budget did is (p, n, h, t) = (
+  p ∙ ap dispatchNumbers (did .ends ∙ ap (λ (o : of-dispatch.Outcome). o .ending) is),
+  n ∙ did .takes ∙ ap (λ (o : of-dispatch.Outcome). o .taken) is,
+  h ∙ did .hands ∙ ap (λ (o : of-dispatch.Outcome). handedOf (o .handed-out)) is,
+  ap (λ (t : Tally). lent v e t) t ∙ did .leaves ∙ ap (λ (o : of-dispatch.Outcome). o .after) is,
+  did .marks-are ∙ ap (λ (o : of-dispatch.Outcome). marksOf (o .handed-out)) is,
+  did .list-is ∙ ap (λ (o : of-dispatch.Outcome). listOf (o .handed-out)) is,
 )

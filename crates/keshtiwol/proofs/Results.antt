@@ -9,6 +9,9 @@ use Rattle.keshtiwol.proofs.ReplyDone as AD
 use Rattle.keshtiwol.proofs.RunReply as R
 use Rattle.keshtiwol.proofs.RunReply.Laws as R′
 use Rattle.keshtiwol.proofs.RunReplyDone as RD
+use Rattle.keshtiwol.proofs.DispatchReply as D
+use Rattle.keshtiwol.proofs.DispatchReply.Laws as D′
+use Rattle.keshtiwol.proofs.DispatchReplyDone as DD
 
 -- a `ReplyDone`, of which an export answers the `Reply`
 abbrev pub results : Results
@@ -21,6 +24,12 @@ abbrev pub run-results : Results
 run-results =
     resultsOf R.the-field R′.the-field-laws R′.the-field-plain R′.mir refl (RD.struct .name) (λ r. r .answer) (λ r. r .tally)
     (RD.the-type .to-one)
+
+-- for a dispatch a `DispatchReplyDone`, with a `DispatchReply`
+abbrev pub dispatch-results : Results
+dispatch-results =
+    resultsOf D.the-field D′.the-field-laws D′.the-field-plain D′.mir refl (DD.struct .name) (λ r. r .answer) (λ r. r .tally)
+    (DD.the-type .to-one)
 
 -- where nothing is handed back, the `Reply` itself
 abbrev pub replies : Returned

@@ -19,12 +19,17 @@ use Rattle.machine.specs.Answers.{StepSaid, saidAs, refuse, LoadingSaid, loaded
 use Rattle.machine.specs.Loading.{load}
 use Rattle.machine.specs.Stepping.{step}
 use Rattle.machine.specs.Running.{Ending, done, stuck, spent, refused, RunOutcome, ended, run, Choice, choose, no-choice, choice-refused, choice}
-use Rattle.engine.specs.declared.RunDone.{RunDone}
-use Rattle.engine.specs.Answers.{endingOf, lastOf}
+use Rattle.machine.specs.Dispatching as of-dispatch
+use Rattle.machine.specs.Dispatching.{desk, marksOf, listOf, handedOf, dispatch}
+use Rattle.walks.specs.declared.RunDone.{RunDone}
+use Rattle.walks.specs.declared.DispatchDone.{DispatchDone}
+use Rattle.walks.specs.Answers.{endingOf, lastOf, dispatchEndingOf}
 use Rattle.chains.specs.Showing.{ChainSaid, vertices, chain-refused, ChainOutcome}
 use Rattle.keshtiwol.specs.declared.Reply.{Reply}
 use Rattle.keshtiwol.specs.declared.RunReply.{RunReply}
 use Rattle.keshtiwol.specs.declared.RunReplyDone.{RunReplyDone}
+use Rattle.keshtiwol.specs.declared.DispatchReply.{DispatchReply}
+use Rattle.keshtiwol.specs.declared.DispatchReplyDone.{DispatchReplyDone}
 use Rattle.keshtiwol.specs.declared.Asked.{Asked}
 use Rattle.keshtiwol.specs.declared.Asked.the-variants as of-asked
 use Rattle.keshtiwol.specs.declared.EditionAsked.{EditionAsked}
@@ -71,6 +76,15 @@ endingNumbers (refused n p) = numbers 0 n p
 endingNumbers done = numbers 11 0 0
 endingNumbers stuck = numbers 12 0 0
 endingNumbers spent = numbers 13 0 0
+
+-- how a dispatch ended
+unfoldable pub dispatchNumbers : of-dispatch.Ending → Numbers
+dispatchNumbers (of-dispatch.refused n p) = numbers 0 n p
+dispatchNumbers of-dispatch.done = numbers 11 0 0
+dispatchNumbers of-dispatch.stuck = numbers 12 0 0
+dispatchNumbers of-dispatch.spent = numbers 13 0 0
+dispatchNumbers of-dispatch.waiting = numbers 16 0 0
+dispatchNumbers of-dispatch.full = numbers 17 0 0
 
 -- the lowest vertex that can step
 unfoldable pub choiceNumbers : Choice → Numbers
@@ -129,6 +143,10 @@ stepIn o bytes s v = inEdition o (refuse s no-such-edition 0) (λ ed. step ed by
 abbrev pub runIn : Option Edition → List ℕ → Lent → ℕ → RunOutcome
 runIn o bytes s budget = inEdition o (ended (refused no-such-edition 0) none 0 s) (λ ed. run ed bytes s budget)
 
+abbrev pub dispatchIn : Option Edition → List ℕ → Lent → (budget : ℕ) → (marks list : List ℕ) → of-dispatch.Outcome
+dispatchIn o bytes s budget marks list =
+    inEdition o (of-dispatch.ended (of-dispatch.refused no-such-edition 0) 0 s (desk marks list 0)) (λ ed. dispatch ed bytes s marks list budget)
+
 abbrev pub choiceIn : Option Edition → List ℕ → Lent → Choice
 choiceIn o bytes s = inEdition o (choice-refused no-such-edition 0) (λ ed. choice ed bytes s)
 
@@ -159,6 +177,20 @@ RunTold d r =
     × (r .answer .taken ≡ d .answer .taken)
     × (r .tally ≡ d .tally)
 
+-- the marks and the list afterwards are what the definition leaves too
+abbrev pub DispatchReplied : of-dispatch.Outcome → DispatchReply → Lent → (marks list : List ℕ) → Type 0
+DispatchReplied o r after marks list =
+    (replyNumbers (r .ending) ≡ dispatchNumbers (o .ending)) × (r .taken ≡ o .taken) × (r .handed ≡ handedOf (o .handed-out)) × (after ≡ o .after)
+    × (marks ≡ marksOf (o .handed-out)) × (list ≡ listOf (o .handed-out))
+
+-- the same of what the engine's dispatch returned
+abbrev pub DispatchTold : DispatchDone → DispatchReplyDone → Type 0
+DispatchTold d r =
+    (replyNumbers (r .answer .ending) ≡ dispatchNumbers (dispatchEndingOf (d .answer .ending)))
+    × (r .answer .taken ≡ d .answer .taken)
+    × (r .answer .handed ≡ d .answer .handed)
+    × (r .tally ≡ d .tally)
+
 -- program, tables and tally are only read
 abbrev pub LowestReplied : Choice → Reply → Type 0
 LowestReplied c r = replyNumbers r ≡ choiceNumbers c
@@ -168,6 +200,6 @@ abbrev pub ChainReplied : ChainOutcome → Reply → List ℕ → Type 0
 ChainReplied o r list = (replyNumbers r ≡ chainNumbers (o .answer)) × (list ≡ o .list)
 
 -- VERSION
--- 4.1.0: 10,000 times the first number, 100 times the second, and the third
+-- 4.2.0: 10,000 times the first number, 100 times the second, and the third
 unfoldable pub version : ℕ
-version = 40100
+version = 40200

@@ -1,5 +1,7 @@
 // The calls with the tally by value and an answer of plain numbers.
 use crate::Asked;
+use crate::DispatchReply;
+use crate::DispatchReplyDone;
 use crate::EditionAsked;
 use crate::Reply;
 use crate::ReplyDone;
@@ -10,6 +12,7 @@ use crate::replies::no_such_edition;
 use crate::replies::of_answer;
 use crate::replies::of_chain;
 use crate::replies::of_command;
+use crate::replies::of_dispatch;
 use crate::replies::of_ending;
 use crate::replies::of_last;
 use crate::replies::of_loading;
@@ -17,12 +20,9 @@ use crate::replies::of_lowest;
 use crate::replies::of_opening;
 use chains::showing::chain_by_value;
 use engine::Done;
-use engine::LastStep;
 use engine::LoadDone;
-use engine::RunDone;
 use engine::load::load_by_value;
 use engine::look::lowest_vertex;
-use engine::runs::run_by_value;
 use engine::steps::step_by_value;
 use graph::Command;
 use graph::OpenDone;
@@ -31,6 +31,11 @@ use graph::commands::command_by_value;
 use graph::commands::open_by_value;
 use program::Edition;
 use refusal::NO_SUCH_COMMAND;
+use walks::DispatchDone;
+use walks::LastStep;
+use walks::RunDone;
+use walks::dispatches::dispatch_by_value;
+use walks::runs::run_by_value;
 ghost use mathlib.Core.Path.{_≡_};
 ghost use Rattle.graph.specs.Tables.{lent};
 ghost use Rattle.graph.specs.Answers as of-graph;
@@ -38,8 +43,8 @@ ghost use Rattle.graph.specs.Commands.{opening};
 ghost use Rattle.chains.specs.Showing.{showChain};
 ghost use Rattle.machine.specs.Answers.{saidAs};
 ghost use Rattle.engine.specs.Answers.{loadingSaid, said};
-ghost use Rattle.keshtiwol.specs.Numbers.{OpenReplied, Commanded, LoadReplied, Replied, RunReplied, LowestReplied, ChainReplied, byNumbers, replyNumbers, openingNumbers, loadingNumbers, saidNumbers};
-ghost use Rattle.keshtiwol.specs.Numbers.{RunTold, commandOf, askedOf, editionOf, editionAskedOf, loadIn, stepIn, runIn, choiceIn};
+ghost use Rattle.keshtiwol.specs.Numbers.{OpenReplied, Commanded, LoadReplied, Replied, RunReplied, DispatchReplied, LowestReplied, ChainReplied, byNumbers, replyNumbers, openingNumbers, loadingNumbers, saidNumbers};
+ghost use Rattle.keshtiwol.specs.Numbers.{RunTold, DispatchTold, commandOf, askedOf, editionOf, editionAskedOf, loadIn, stepIn, runIn, dispatchIn, choiceIn};
 
 // The numbers of the commands.
 pub const NEW_TD: u32 = 1;
@@ -279,6 +284,60 @@ fn ran(done: RunDone) -> RunReplyDone
             ending: of_ending(ending),
             last: of_last(last),
             taken: answer.taken,
+        },
+        tally: after,
+    }
+}
+
+pub(crate) fn dispatch_to_numbers(
+    program: &[u8],
+    vertices: &mut [u32],
+    edges: &mut [u32],
+    tally: Tally,
+    edition: u32,
+    budget: u32,
+    busy: &mut [u32],
+    jobs: &mut [u32],
+) -> DispatchReplyDone
+    ensures { λ r. ⌜ DispatchReplied (dispatchIn (editionOf edition) (now (program .entry)) (lent (now (vertices .entry)) (now (edges .entry)) tally) budget (now (busy .entry)) (now (jobs .entry))) (r .answer) (lent (now (vertices .exit)) (now (edges .exit)) (r .tally)) (now (busy .exit)) (now (jobs .exit)) ⌝ }
+{
+    let asked = asked_edition(edition);
+    match asked {
+        EditionAsked::Unknown => DispatchReplyDone {
+            answer: DispatchReply {
+                ending: no_such_edition(),
+                taken: 0,
+                handed: 0,
+            },
+            tally,
+        },
+        EditionAsked::Known(known) => {
+            let done = dispatch_by_value(
+                program,
+                vertices,
+                edges,
+                tally,
+                known,
+                budget,
+                busy,
+                jobs,
+            );
+            dispatched(done)
+        }
+    }
+}
+
+fn dispatched(done: DispatchDone) -> DispatchReplyDone
+    ensures { λ r. ⌜ DispatchTold done r ⌝ }
+{
+    let answer = done.answer;
+    let after = done.tally;
+    let ending = answer.ending;
+    DispatchReplyDone {
+        answer: DispatchReply {
+            ending: of_dispatch(ending),
+            taken: answer.taken,
+            handed: answer.handed,
         },
         tally: after,
     }

@@ -5,6 +5,7 @@ mod replies;
 
 use crate::cores::chain_to_numbers;
 use crate::cores::command_by_numbers;
+use crate::cores::dispatch_to_numbers;
 use crate::cores::load_to_numbers;
 use crate::cores::lowest_to_numbers;
 use crate::cores::open_to_numbers;
@@ -17,10 +18,10 @@ ghost use mathlib.Core.Path.{_≡_};
 ghost use Rattle.graph.specs.Tables.{lent};
 ghost use Rattle.graph.specs.Commands.{opening};
 ghost use Rattle.chains.specs.Showing.{showChain};
-ghost use Rattle.keshtiwol.specs.Numbers.{OpenReplied, Commanded, LoadReplied, Replied, RunReplied, LowestReplied, ChainReplied, byNumbers, editionOf, loadIn, stepIn, runIn, choiceIn, version};
+ghost use Rattle.keshtiwol.specs.Numbers.{OpenReplied, Commanded, LoadReplied, Replied, RunReplied, DispatchReplied, LowestReplied, ChainReplied, byNumbers, editionOf, loadIn, stepIn, runIn, dispatchIn, choiceIn, version};
 
 // 10,000 times the major number, 100 times the minor one, and the patch's.
-pub const VERSION: u32 = 40_100;
+pub const VERSION: u32 = 40_200;
 
 // What was said, and its values: vertices, a job's number and offset, or a refusal's number and place. `replies` has the numbers.
 #[repr(C)]
@@ -38,6 +39,14 @@ pub struct RunReply {
     pub taken: u32,
 }
 
+// How a dispatch ended, the steps taken, and how many jobs were handed out.
+#[repr(C)]
+pub struct DispatchReply {
+    pub ending: Reply,
+    pub taken: u32,
+    pub handed: u32,
+}
+
 // What the cores return: the answer, and the tally afterwards.
 pub struct ReplyDone {
     pub answer: Reply,
@@ -46,6 +55,11 @@ pub struct ReplyDone {
 
 pub struct RunReplyDone {
     pub answer: RunReply,
+    pub tally: Tally,
+}
+
+pub struct DispatchReplyDone {
+    pub answer: DispatchReply,
     pub tally: Tally,
 }
 
@@ -152,6 +166,36 @@ pub extern "C" fn keshtiwol_run(
 {
     let before = *tally;
     let done = run_to_numbers(program, vertices, edges, before, edition, budget);
+    *tally = done.tally;
+    done.answer
+}
+
+// Steps the lowest vertex that can step and is not busy, with a budget of steps. Jobs are handed out: their vertices are marked busy, and they are
+// written into the list.
+#[no_mangle]
+pub extern "C" fn keshtiwol_dispatch(
+    program: &[u8],
+    vertices: &mut [u32],
+    edges: &mut [u32],
+    tally: &mut Tally,
+    edition: u32,
+    budget: u32,
+    busy: &mut [u32],
+    jobs: &mut [u32],
+) -> DispatchReply
+    ensures { λ r. ⌜ DispatchReplied (dispatchIn (editionOf edition) (now (program .entry)) (lent (now (vertices .entry)) (now (edges .entry)) (now (tally .entry))) budget (now (busy .entry)) (now (jobs .entry))) r (lent (now (vertices .exit)) (now (edges .exit)) (now (tally .exit))) (now (busy .exit)) (now (jobs .exit)) ⌝ }
+{
+    let before = *tally;
+    let done = dispatch_to_numbers(
+        program,
+        vertices,
+        edges,
+        before,
+        edition,
+        budget,
+        busy,
+        jobs,
+    );
     *tally = done.tally;
     done.answer
 }

@@ -1,19 +1,21 @@
 // The numbers that stand for an answer. `specs/Numbers.antt` has the same for the definitions; the contracts hold the two together.
 use crate::Reply;
 use engine::Answer;
-use engine::Ending;
-use engine::LastStep;
 use engine::Loading;
 use engine::Lowest;
 use graph::Opening;
 use refusal::NO_SUCH_EDITION;
+use walks::DispatchEnding;
+use walks::Ending;
+use walks::LastStep;
 ghost use mathlib.Core.Path.{_≡_};
 ghost use Rattle.graph.specs.Answers as of-graph;
 ghost use Rattle.refusal.specs.Refusals.{no-such-edition};
 ghost use Rattle.machine.specs.Answers.{saidAs};
 ghost use Rattle.chains.specs.Showing.{chainSaid};
-ghost use Rattle.engine.specs.Answers.{loadingSaid, said, endingOf, lastOf, choiceOf};
-ghost use Rattle.keshtiwol.specs.Numbers.{replyNumbers, openingNumbers, loadingNumbers, saidNumbers, endingNumbers, lastNumbers, choiceNumbers, chainNumbers, numbers};
+ghost use Rattle.engine.specs.Answers.{loadingSaid, said, choiceOf};
+ghost use Rattle.walks.specs.Answers.{endingOf, lastOf, dispatchEndingOf};
+ghost use Rattle.keshtiwol.specs.Numbers.{replyNumbers, openingNumbers, loadingNumbers, saidNumbers, endingNumbers, lastNumbers, dispatchNumbers, choiceNumbers, chainNumbers, numbers};
 
 pub const REFUSED: u32 = 0;
 
@@ -46,6 +48,10 @@ pub const SPENT: u32 = 13;
 pub const CHAIN: u32 = 14;
 
 pub const YIELD: u32 = 15;
+
+pub const WAITING: u32 = 16;
+
+pub const FULL: u32 = 17;
 
 fn reply(said: u32, first: u32, second: u32) -> Reply
     ensures { λ r. ⌜ replyNumbers r ≡ numbers said first second ⌝ }
@@ -125,6 +131,20 @@ pub(crate) fn of_ending(ending: Ending) -> Reply
         Ending::Stuck => reply(STUCK, 0, 0),
         Ending::Spent => reply(SPENT, 0, 0),
         Ending::Refused(refusal) => reply(REFUSED, refusal.number, refusal.place),
+    }
+}
+
+// How a dispatch ended.
+pub(crate) fn of_dispatch(ending: DispatchEnding) -> Reply
+    ensures { λ r. ⌜ replyNumbers r ≡ dispatchNumbers (dispatchEndingOf ending) ⌝ }
+{
+    match ending {
+        DispatchEnding::Done => reply(DONE, 0, 0),
+        DispatchEnding::Stuck => reply(STUCK, 0, 0),
+        DispatchEnding::Waiting => reply(WAITING, 0, 0),
+        DispatchEnding::Full => reply(FULL, 0, 0),
+        DispatchEnding::Spent => reply(SPENT, 0, 0),
+        DispatchEnding::Refused(refusal) => reply(REFUSED, refusal.number, refusal.place),
     }
 }
 

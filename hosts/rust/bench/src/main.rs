@@ -90,6 +90,18 @@ fn load_and_run(side: &mut impl Side, Program { bytes, edition }: Program, steps
     assert_eq!(side.run(bytes, edition) as usize, steps);
 }
 
+/// Nanoseconds per job of a host with so many asyncs, a job in each, that has them handed out into a list of so many.
+fn dispatch(asyncs: usize, list: usize) -> [f64; 2] {
+    fn side<S: Side>(asyncs: usize, list: usize) -> impl FnMut() {
+        let (mut side, program) = (S::new(), compare::programs::asyncs_with_a_job(asyncs as u32));
+        move || {
+            side.load(&program, Edition::First);
+            assert_eq!(side.dispatch(&program, Edition::First, list) as usize, asyncs);
+        }
+    }
+    medians(asyncs as f64, side::<Engine>(asyncs, list), side::<Paper>(asyncs, list))
+}
+
 /// A chain of 1,023 edges from vertex 0 on, its edges made front to back or back to front.
 fn chained<S: Side>(backwards: bool) -> S {
     let mut side: S = bare(1024);
@@ -231,6 +243,15 @@ fn main() {
         let vertices = 2 + vertices_of_one * times;
         let [engine, paper] = timed[1].run.map(|per_step| per_step * timed[1].steps as f64 / vertices as f64);
         println!("| {:<25} | {:>8} | {engine:>8.0} | {paper:>8.0} |", format!("{} {name}", thousands(*times)), thousands(vertices));
+    }
+
+    println!("\nNanoseconds per job of a host with dispatch, load counted in: asyncs with a job in each, and a list of so many jobs.\n");
+    println!("| {:<5} | {:>12} | {:>8} | {:>14} | {:>8} | {:>8} |", "list", "500: engine", "paper", "1,000: engine", "paper", "growth");
+    println!("|:{0:-<6}|{0:->13}:|{0:->9}:|{0:->15}:|{0:->9}:|{0:->9}:|", "");
+    for list in [1, 16, 64] {
+        let ([few, few_paper], [many, many_paper]) = (dispatch(500, list), dispatch(1000, list));
+        print!("| {list:<5} | {few:>12.0} | {few_paper:>8.0} | {many:>14.0} | {many_paper:>8.0} |");
+        println!(" {:>8} |", format!("x {:.2}", many / few));
     }
 
     println!("\nNanoseconds per single command or chain on 1,024 vertices.\n");

@@ -3,8 +3,8 @@
 use std::hint::black_box;
 
 use keshtiwol::{
-    Edition, EDGE_TABLE, EDGE_WORDS, IN_COUNT, ROWS, SOURCE, STATUS, STEP_LIMIT, TARGET, VERTEX_EXECUTING, VERTEX_RELEASED, VERTEX_TABLE,
-    VERTEX_WORDS,
+    Edition, EDGE_TABLE, EDGE_WORDS, IN_COUNT, JOB_WORDS, ROWS, SOURCE, STATUS, STEP_LIMIT, TARGET, VERTEX_EXECUTING, VERTEX_RELEASED,
+    VERTEX_TABLE, VERTEX_WORDS,
 };
 
 /// A bare machine's command, as far as the benchmark needs them.
@@ -24,6 +24,8 @@ pub trait Side {
     fn step(&mut self, program: &[u8], edition: Edition, vertex: u32) -> Result<(), u32>;
     /// Runs to the end and tells the steps taken.
     fn run(&mut self, program: &[u8], edition: Edition) -> u32;
+    /// Has a loaded program's jobs handed out, with a list of so many, to the end, and tells how many there were. Each has ended at the next call.
+    fn dispatch(&mut self, program: &[u8], edition: Edition, list: usize) -> u32;
     /// The lowest vertex that can step.
     fn lowest(&self, program: &[u8], edition: Edition) -> Option<u32>;
     fn open(&mut self);
@@ -44,6 +46,7 @@ macro_rules! side {
         pub struct $name {
             vertices: Vec<u32>,
             edges: Vec<u32>,
+            busy: Vec<u32>,
             list: Vec<u32>,
             tally: $made_by::Tally,
         }
@@ -59,7 +62,13 @@ macro_rules! side {
 
         impl Side for $name {
             fn new() -> Self {
-                $name { vertices: vec![0; VERTEX_TABLE], edges: vec![0; EDGE_TABLE], list: vec![0; ROWS], tally: Default::default() }
+                $name {
+                    vertices: vec![0; VERTEX_TABLE],
+                    edges: vec![0; EDGE_TABLE],
+                    busy: vec![0; ROWS],
+                    list: vec![0; ROWS],
+                    tally: Default::default(),
+                }
             }
 
             fn load(&mut self, program: &[u8], edition: Edition) {
@@ -81,6 +90,26 @@ macro_rules! side {
                 let run = $made_by::run(program, &mut self.vertices, &mut self.edges, &mut self.tally, edition, black_box(STEP_LIMIT));
                 assert_eq!(run.ending, $made_by::Ending::Done);
                 run.taken
+            }
+
+            fn dispatch(&mut self, program: &[u8], edition: Edition, list: usize) -> u32 {
+                let edition = Self::edition(edition);
+                let mut jobs = 0;
+                loop {
+                    let list = &mut self.list[..JOB_WORDS * list];
+                    let budget = black_box(STEP_LIMIT);
+                    let (vertices, edges, tally) = (&mut self.vertices, &mut self.edges, &mut self.tally);
+                    let done = $made_by::dispatch(program, vertices, edges, tally, edition, budget, &mut self.busy, list);
+                    for row in list.chunks_exact(JOB_WORDS).take(done.handed as usize) {
+                        self.busy[row[0] as usize] = 0;
+                    }
+                    jobs += done.handed;
+                    match done.ending {
+                        $made_by::DispatchEnding::Done => return jobs,
+                        $made_by::DispatchEnding::Full | $made_by::DispatchEnding::Waiting => {}
+                        other => panic!("{other:?}"),
+                    }
+                }
             }
 
             fn lowest(&self, program: &[u8], edition: Edition) -> Option<u32> {

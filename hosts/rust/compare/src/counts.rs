@@ -3,23 +3,23 @@
 use std::collections::BTreeMap;
 use std::fmt;
 
-use keshtiwol::{refusal, Answer, Chain, Command, Edition, Ending, Lowest};
+use keshtiwol::{refusal, Answer, Chain, Command, Dispatch, DispatchEnding, Edition, Ending, Lowest};
 
 use crate::pair::{Call, Said};
 use crate::programs;
 
-const CALLS: [&str; 13] =
-    ["open", "load", "step", "run", "lowest", "newTd", "newEdge", "release", "transfer", "start", "stop", "yield", "chain"];
+const CALLS: [&str; 14] =
+    ["open", "load", "step", "run", "dispatch", "lowest", "newTd", "newEdge", "release", "transfer", "start", "stop", "yield", "chain"];
 /// The calls that name an edition, among these.
-const OF_EDITIONS: std::ops::Range<usize> = 1..5;
-pub const WORDS: [&str; 16] = [
+const OF_EDITIONS: std::ops::Range<usize> = 1..6;
+pub const WORDS: [&str; 18] = [
     "refused", "ready", "start", "new", "edge", "release", "transfer", "job", "stop", "none", "vertex", "done", "stuck", "spent", "chain",
-    "yield",
+    "yield", "waiting", "full",
 ];
 
 /// The numbers that a refusal can have through the safe functions.
-pub const REFUSALS: [u32; 29] =
-    [1, 2, 3, 4, 5, 6, 7, 8, 10, 11, 12, 13, 20, 21, 22, 23, 30, 31, 32, 33, 35, 36, 37, 38, 39, 41, 42, 43, 98];
+pub const REFUSALS: [u32; 30] =
+    [1, 2, 3, 4, 5, 6, 7, 8, 10, 11, 12, 13, 20, 21, 22, 23, 30, 31, 32, 33, 35, 36, 37, 38, 39, 41, 42, 43, 44, 98];
 
 #[derive(Clone, Default)]
 pub struct Counts {
@@ -27,6 +27,7 @@ pub struct Counts {
     seen: BTreeMap<(usize, usize, u32), u64>,
     /// Steps that runs took.
     taken: u64,
+    dispatches: Dispatches,
     /// The largest program that loaded: bytes, vertices that it makes, levels, each for itself.
     largest: [usize; 3],
     /// Jobs that steps named, by the bytes of their numbers, 1 to 5.
@@ -57,6 +58,31 @@ pub struct Counts {
     editions: [[u64; OF_EDITIONS.end - OF_EDITIONS.start]; 3],
     crossings: Crossings,
     orders: Orders,
+}
+
+/// What dispatches did.
+#[derive(Clone, Copy, Debug, Default)]
+pub struct Dispatches {
+    /// Their steps.
+    pub taken: u64,
+    /// The jobs that they handed out.
+    pub handed: u64,
+    /// The most that one did.
+    pub most: u32,
+    /// They ended otherwise than refused on marks and tables that only calls and ended jobs had changed since a loading.
+    pub kept: u64,
+    /// Of these, by what could step: a busy vertex below one that is not, so that it was passed over.
+    pub passed: u64,
+}
+
+impl Dispatches {
+    fn add(&mut self, more: Dispatches) {
+        self.taken += more.taken;
+        self.handed += more.handed;
+        self.most = more.most.max(self.most);
+        self.kept += more.kept;
+        self.passed += more.passed;
+    }
 }
 
 /// Orders of jobs that were asked for.
@@ -266,15 +292,16 @@ fn index(call: Call) -> usize {
         Call::Load => 1,
         Call::Step(_) => 2,
         Call::Run(_) => 3,
-        Call::Lowest => 4,
-        Call::Command(Command::NewTd { .. }) => 5,
-        Call::Command(Command::NewEdge { .. }) => 6,
-        Call::Command(Command::Release { .. }) => 7,
-        Call::Command(Command::Transfer { .. }) => 8,
-        Call::Command(Command::Start { .. }) => 9,
-        Call::Command(Command::Stop { .. }) => 10,
-        Call::Command(Command::Yield { .. }) => 11,
-        Call::Chain { .. } => 12,
+        Call::Dispatch { .. } => 4,
+        Call::Lowest => 5,
+        Call::Command(Command::NewTd { .. }) => 6,
+        Call::Command(Command::NewEdge { .. }) => 7,
+        Call::Command(Command::Release { .. }) => 8,
+        Call::Command(Command::Transfer { .. }) => 9,
+        Call::Command(Command::Start { .. }) => 10,
+        Call::Command(Command::Stop { .. }) => 11,
+        Call::Command(Command::Yield { .. }) => 12,
+        Call::Chain { .. } => 13,
     }
 }
 
@@ -315,12 +342,28 @@ impl Counts {
                     Ending::Refused { number, .. } => (0, number),
                 }
             }
+            Said::Dispatch(Dispatch { ending, taken, handed }) => {
+                self.dispatches.add(Dispatches { taken: taken.into(), handed: handed.into(), most: handed, kept: 0, passed: 0 });
+                match ending {
+                    DispatchEnding::Done => (11, 0),
+                    DispatchEnding::Stuck => (12, 0),
+                    DispatchEnding::Spent => (13, 0),
+                    DispatchEnding::Waiting => (16, 0),
+                    DispatchEnding::Full => (17, 0),
+                    DispatchEnding::Refused { number, .. } => (0, number),
+                }
+            }
             Said::Chain(chain) => match chain {
                 Chain::Written(_) => (14, 0),
                 Chain::Refused { number, .. } => (0, number),
             },
         };
         *self.seen.entry((index(call), word, refusal)).or_default() += 1;
+    }
+
+    /// Notes a dispatch on marks and tables that only calls and ended jobs had changed, and whether it passed over a busy vertex.
+    pub fn dispatched(&mut self, passed: bool) {
+        self.dispatches.add(Dispatches { kept: 1, passed: passed.into(), ..Dispatches::default() });
     }
 
     /// Notes a program that loaded.
@@ -421,6 +464,7 @@ impl Counts {
             *self.seen.entry(key).or_default() += count;
         }
         self.taken += other.taken;
+        self.dispatches.add(other.dispatches);
         self.enlarge(other.largest);
         for (jobs, more) in self.jobs.iter_mut().zip(other.jobs) {
             *jobs += more;
@@ -517,8 +561,13 @@ impl Counts {
         self.callers
     }
 
-    /// How often loads, steps, runs and `lowest` named the first edition, the second, and none.
-    pub fn editions(&self) -> [[u64; 4]; 3] {
+    /// What dispatches did.
+    pub fn dispatches(&self) -> Dispatches {
+        self.dispatches
+    }
+
+    /// How often loads, steps, runs, dispatches and `lowest` named the first edition, the second, and none.
+    pub fn editions(&self) -> [[u64; 5]; 3] {
         self.editions
     }
 
@@ -557,6 +606,9 @@ impl fmt::Display for Counts {
         }
         let [bytes, vertices, levels] = self.largest;
         writeln!(f, "runs took {} steps; programs had up to {bytes} bytes, {vertices} vertices, {levels} levels", self.taken)?;
+        let Dispatches { taken, handed, most, kept, passed } = self.dispatches;
+        write!(f, "dispatches took {taken} steps and handed out {handed} jobs, up to {most} in one; {kept} of them were on tables ")?;
+        writeln!(f, "that only calls changed since a loading, and passed over a busy vertex {passed} times")?;
         writeln!(f, "steps named jobs with numbers of 1 to 5 bytes {:?} times, the largest {}", self.jobs, self.largest_job)?;
         let [without, with] = self.ties;
         writeln!(f, "chains had up to {} vertices and filled their list {} times", self.longest_chain, self.lists_filled)?;

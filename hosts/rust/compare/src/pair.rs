@@ -5,8 +5,9 @@ use std::fmt::Write;
 use std::ops::Range;
 
 use keshtiwol::{
-    refusal, Answer, Chain, Command, Edition, Ending, Lowest, Run, Tally, EDGE_WORDS, FUTURE, IN_COUNT, MADE, PHASE, ROWS, SOURCE, STATUS,
-    STEP_LIMIT, TARGET, VERTEX_EXECUTING, VERTEX_FINISHED, VERTEX_NEW, VERTEX_RELEASED, VERTEX_WORDS,
+    refusal, Answer, Chain, Command, Dispatch, DispatchEnding, Edition, Ending, Lowest, Run, Tally, EDGE_WORDS, FUTURE, IN_COUNT,
+    JOB_WORDS, MADE, PHASE, ROWS, SOURCE, STATUS, STEP_LIMIT, TARGET, VERTEX_EXECUTING, VERTEX_FINISHED, VERTEX_NEW, VERTEX_RELEASED,
+    VERTEX_WORDS,
 };
 
 use crate::counts::{Callers, Counts, Forces, InCounts, Repeats, Starts};
@@ -18,6 +19,11 @@ pub enum Call {
     Load,
     Step(u32),
     Run(u32),
+    /// With the pair's marks, into a list of so many words.
+    Dispatch {
+        budget: u32,
+        words: u32,
+    },
     Lowest,
     Command(Command),
     /// Into a list of so many words.
@@ -30,7 +36,7 @@ pub enum Call {
 
 impl Call {
     pub fn names_an_edition(self) -> bool {
-        matches!(self, Call::Load | Call::Step(_) | Call::Run(_) | Call::Lowest)
+        matches!(self, Call::Load | Call::Step(_) | Call::Run(_) | Call::Dispatch { .. } | Call::Lowest)
     }
 }
 
@@ -56,6 +62,7 @@ fn caller_of(command: Command) -> u32 {
 pub enum Said {
     Answer(Answer),
     Run(Run),
+    Dispatch(Dispatch),
     Lowest(Lowest),
     Chain(Chain),
 }
@@ -118,7 +125,7 @@ impl State {
         match call {
             Call::Open | Call::Load => false,
             _ if !self.tally_fits() => true,
-            Call::Step(_) | Call::Run(_) | Call::Lowest if late => true,
+            Call::Step(_) | Call::Run(_) | Call::Dispatch { .. } | Call::Lowest if late => true,
             // These two look at one row.
             Call::Command(Command::Start { vertex }) => row(vertex).is_some_and(|row| !is_status(row[STATUS])),
             Call::Step(vertex) if row(vertex).is_some_and(|row| row[STATUS] == VERTEX_RELEASED) => false,
@@ -139,7 +146,7 @@ struct Starting {
     bad_edge: bool,
 }
 
-/// Words around the engine's tables and list that no call may touch.
+/// Words around the engine's tables, marks and list that no call may touch.
 const MARGIN: usize = 8;
 /// These words, and those of a list before the call.
 const MARK: u32 = 0xA5A5_5A5A;
@@ -151,11 +158,14 @@ pub struct Pair {
     pub edition: u32,
     /// `paper`'s side; the engine's was the same after each call so far.
     state: State,
+    /// Its marks of busy vertices.
+    paper_busy: Vec<u32>,
     /// Its list at this call; of no words where the call has none.
     paper_list: Vec<u32>,
     /// The engine's side, with margins.
     vertices: Vec<u32>,
     edges: Vec<u32>,
+    busy: Vec<u32>,
     list: Vec<u32>,
     tally: Tally,
     /// The edition in which these tables were loaded, where only calls changed them since.
@@ -173,9 +183,11 @@ impl Pair {
             program,
             edition: edition.into(),
             state: State { vertices: Vec::new(), edges: Vec::new(), tally: Tally::default() },
+            paper_busy: Vec::new(),
             paper_list: Vec::new(),
             vertices: Vec::new(),
             edges: Vec::new(),
+            busy: with_margins(&[]),
             list: Vec::new(),
             tally: Tally::default(),
             loaded: None,
@@ -199,6 +211,26 @@ impl Pair {
         self.state = state;
         self.loaded = None;
         self.yielded.clear();
+    }
+
+    /// Gives both sides these marks.
+    pub fn set_busy(&mut self, marks: Vec<u32>) {
+        self.busy = with_margins(&marks);
+        self.paper_busy = marks;
+    }
+
+    pub fn set_busy_word(&mut self, vertex: usize, word: u32) {
+        self.paper_busy[vertex] = word;
+        self.busy[MARGIN + vertex] = word;
+    }
+
+    pub fn busy(&self) -> &[u32] {
+        &self.paper_busy
+    }
+
+    /// The jobs that a dispatch has just handed out: vertex, number and offset of each.
+    pub fn handed_out(&self, handed: u32) -> impl Iterator<Item = [u32; JOB_WORDS]> + '_ {
+        self.paper_list.chunks_exact(JOB_WORDS).take(handed as usize).map(|row| [row[0], row[1], row[2]])
     }
 
     pub fn set_vertex_word(&mut self, at: usize, word: u32) {
@@ -225,8 +257,9 @@ impl Pair {
         let unsound = named && self.state.is_unsound_for(call);
         let tally_fits = self.state.tally_fits();
         self.lend_lists(call);
-        let paper = on_paper(call, edition, &self.program, &mut self.state, &mut self.paper_list);
-        let (v, e, l) = (inside(&self.vertices), inside(&self.edges), inside(&self.list));
+        let paper = on_paper(call, edition, &self.program, &mut self.state, &mut self.paper_busy, &mut self.paper_list);
+        let (v, e) = (inside(&self.vertices), inside(&self.edges));
+        let (b, l) = (inside(&self.busy), inside(&self.list));
         let engine = by_engine(
             call,
             self.edition,
@@ -234,6 +267,7 @@ impl Pair {
             &mut self.vertices[v.clone()],
             &mut self.edges[e.clone()],
             &mut self.tally,
+            &mut self.busy[b.clone()],
             &mut self.list[l.clone()],
         );
         self.counts.add(call, engine);
@@ -242,6 +276,7 @@ impl Pair {
             && self.tally == self.state.tally
             && self.vertices[v] == self.state.vertices
             && self.edges[e] == self.state.edges
+            && self.busy[b] == self.paper_busy
             && self.list[l] == self.paper_list
             && self.margins().all(|word| word == MARK);
         if !same {
@@ -253,6 +288,11 @@ impl Pair {
         }
         if unsound != (refusal_of(engine) == Some(refusal::UNSOUND_TABLES)) {
             return Err(self.disagreement("12 is not given where it is due, or is given elsewhere"));
+        }
+        let rows = (self.state.vertices.len() / VERTEX_WORDS).min(ROWS);
+        let unmarked = matches!(call, Call::Dispatch { .. }) && named && !unsound && self.paper_busy.len() < rows;
+        if unmarked != (refusal_of(engine) == Some(refusal::BUSY_TABLE_TOO_SHORT)) {
+            return Err(self.disagreement("44 is not given where it is due, or is given elsewhere"));
         }
         if unsound && tally_fits && before.steps < STEP_LIMIT {
             self.counts.unsound(call);
@@ -551,9 +591,9 @@ impl Pair {
         self.counts.repeated(by_step, Repeats { all: 1, full: full.into(), cycle: cycle.into(), itself: itself.into() });
     }
 
-    /// A list for each side, filled with marks.
+    /// A list for each side, filled with one word.
     fn lend_lists(&mut self, call: Call) {
-        let words = if let Call::Chain { words, .. } = call { words as usize } else { 0 };
+        let words = if let Call::Chain { words, .. } | Call::Dispatch { words, .. } = call { words as usize } else { 0 };
         self.paper_list.clear();
         self.paper_list.resize(words, MARK);
         self.list.clear();
@@ -561,7 +601,7 @@ impl Pair {
     }
 
     fn margins(&self) -> impl Iterator<Item = u32> + '_ {
-        [&self.vertices, &self.edges, &self.list].into_iter().flat_map(|table| margins(table))
+        [&self.vertices, &self.edges, &self.busy, &self.list].into_iter().flat_map(|table| margins(table))
     }
 
     pub fn calls(&self) -> usize {
@@ -580,6 +620,11 @@ impl Pair {
         self.counts.ordered(answered, jobs);
     }
 
+    /// Notes a dispatch on marks and tables that only calls and ended jobs had changed, and whether it passed over a busy vertex.
+    pub fn dispatched(&mut self, passed: bool) {
+        self.counts.dispatched(passed);
+    }
+
     pub fn into_counts(self) -> Counts {
         self.counts
     }
@@ -595,9 +640,10 @@ impl Pair {
         let _ = writeln!(text, "paper:   {paper:?}, {:?}", self.state.tally);
         differing(&mut text, "vertex", &self.vertices, &self.state.vertices, VERTEX_WORDS);
         differing(&mut text, "edge", &self.edges, &self.state.edges, EDGE_WORDS);
+        differing(&mut text, "mark", &self.busy, &self.paper_busy, 1);
         differing(&mut text, "list", &self.list, &self.paper_list, 1);
         for word in self.margins().filter(|&word| word != MARK) {
-            let _ = writeln!(text, "outside the engine's table or list: {word}");
+            let _ = writeln!(text, "outside the engine's tables, marks or list: {word}");
         }
         self.write_history(&mut text);
         Difference(text)
@@ -636,12 +682,14 @@ fn refusal_of(said: Said) -> Option<u32> {
     match said {
         Said::Answer(Answer::Refused { number, .. })
         | Said::Run(Run { ending: Ending::Refused { number, .. }, .. })
+        | Said::Dispatch(Dispatch { ending: DispatchEnding::Refused { number, .. }, .. })
         | Said::Lowest(Lowest::Refused { number, .. })
         | Said::Chain(Chain::Refused { number, .. }) => Some(number),
         _ => None,
     }
 }
 
+#[allow(clippy::too_many_arguments)]
 fn by_engine(
     call: Call,
     edition: u32,
@@ -649,6 +697,7 @@ fn by_engine(
     vertices: &mut [u32],
     edges: &mut [u32],
     tally: &mut Tally,
+    busy: &mut [u32],
     list: &mut [u32],
 ) -> Said {
     match call {
@@ -656,13 +705,14 @@ fn by_engine(
         Call::Load => Said::Answer(keshtiwol::load(program, vertices, edges, tally, edition)),
         Call::Step(vertex) => Said::Answer(keshtiwol::step(program, vertices, edges, tally, edition, vertex)),
         Call::Run(budget) => Said::Run(keshtiwol::run(program, vertices, edges, tally, edition, budget)),
+        Call::Dispatch { budget, .. } => Said::Dispatch(keshtiwol::dispatch(program, vertices, edges, tally, edition, budget, busy, list)),
         Call::Lowest => Said::Lowest(keshtiwol::lowest(program, vertices, edges, tally, edition)),
         Call::Command(command) => Said::Answer(keshtiwol::command(vertices, edges, tally, command)),
         Call::Chain { source, target, .. } => Said::Chain(keshtiwol::chain(vertices, edges, tally, source, target, list)),
     }
 }
 
-fn on_paper(call: Call, edition: Option<Edition>, program: &[u8], state: &mut State, list: &mut [u32]) -> Said {
+fn on_paper(call: Call, edition: Option<Edition>, program: &[u8], state: &mut State, busy: &mut [u32], list: &mut [u32]) -> Said {
     let State { vertices, edges, tally } = state;
     let mut own = paper::Tally { made: tally.made, held: tally.held, steps: tally.steps };
     let edition = match edition {
@@ -679,6 +729,11 @@ fn on_paper(call: Call, edition: Option<Edition>, program: &[u8], state: &mut St
         Call::Run(budget) => {
             let paper::Run { ending, last, taken } = paper::run(program, vertices, edges, &mut own, edition, budget);
             Said::Run(Run { ending: ending_of(ending), last: last.map(answer), taken })
+        }
+        Call::Dispatch { budget, .. } => {
+            let paper::Dispatch { ending, taken, handed } =
+                paper::dispatch(program, vertices, edges, &mut own, edition, budget, busy, list);
+            Said::Dispatch(Dispatch { ending: dispatch_ending_of(ending), taken, handed })
         }
         Call::Lowest => Said::Lowest(match paper::lowest(program, vertices, edges, &own, edition) {
             paper::Lowest::Vertex(vertex) => Lowest::Vertex(vertex),
@@ -700,6 +755,7 @@ fn no_such_edition(call: Call) -> Said {
     let (number, place) = (refusal::NO_SUCH_EDITION, 0);
     match call {
         Call::Run(_) => Said::Run(Run { ending: Ending::Refused { number, place }, last: None, taken: 0 }),
+        Call::Dispatch { .. } => Said::Dispatch(Dispatch { ending: DispatchEnding::Refused { number, place }, taken: 0, handed: 0 }),
         Call::Lowest => Said::Lowest(Lowest::Refused { number, place }),
         _ => Said::Answer(Answer::Refused { number, place }),
     }
@@ -726,6 +782,17 @@ fn ending_of(ending: paper::Ending) -> Ending {
         paper::Ending::Stuck => Ending::Stuck,
         paper::Ending::Spent => Ending::Spent,
         paper::Ending::Refused { number, place } => Ending::Refused { number, place },
+    }
+}
+
+fn dispatch_ending_of(ending: paper::DispatchEnding) -> DispatchEnding {
+    match ending {
+        paper::DispatchEnding::Done => DispatchEnding::Done,
+        paper::DispatchEnding::Stuck => DispatchEnding::Stuck,
+        paper::DispatchEnding::Waiting => DispatchEnding::Waiting,
+        paper::DispatchEnding::Full => DispatchEnding::Full,
+        paper::DispatchEnding::Spent => DispatchEnding::Spent,
+        paper::DispatchEnding::Refused { number, place } => DispatchEnding::Refused { number, place },
     }
 }
 

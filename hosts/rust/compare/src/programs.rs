@@ -176,6 +176,11 @@ pub fn with_forks(draw: &mut Draw, size: Size, edition: Edition) -> Vec<u8> {
     with(draw, size, edition, &WITH_FORKS)
 }
 
+/// So many asyncs, beside each other, with a job in each.
+pub fn asyncs_with_a_job(times: u32) -> Vec<u8> {
+    [[ASYNC, JOB, 5, 0].repeat(times as usize), vec![0]].concat()
+}
+
 /// So many forks with nothing in them, one after the other.
 pub fn empty_forks(forks: usize) -> Vec<u8> {
     [[FORK, 0, 0].repeat(forks), vec![0]].concat()

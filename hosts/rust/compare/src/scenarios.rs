@@ -1,8 +1,10 @@
 //! The scenarios. All that one does follows from its seed.
 
+use std::collections::BTreeSet;
+
 use keshtiwol::{
-    Answer, Chain, Command, Edition, Ending, Tally, EDGE_TABLE, EDGE_WORDS, FUTURE, IN_COUNT, MADE, PHASE, PLACE, ROWS, SCOPE, SOURCE,
-    STATUS, STEP_LIMIT, TARGET, VERTEX_EXECUTING, VERTEX_NEW, VERTEX_RELEASED, VERTEX_TABLE, VERTEX_WORDS,
+    Answer, Chain, Command, DispatchEnding, Edition, Ending, Tally, EDGE_TABLE, EDGE_WORDS, FUTURE, IN_COUNT, JOB_WORDS, MADE, PHASE,
+    PLACE, ROWS, SCOPE, SOURCE, STATUS, STEP_LIMIT, TARGET, VERTEX_EXECUTING, VERTEX_NEW, VERTEX_RELEASED, VERTEX_TABLE, VERTEX_WORDS,
 };
 
 use crate::counts::Counts;
@@ -16,7 +18,7 @@ type Kind = fn(&mut Scene) -> Outcome;
 /// Plays the scenario of a seed: what was called and said, or the first difference.
 pub fn play(seed: u64) -> Result<Counts, Difference> {
     let mut draw = Draw::new(seed);
-    let kinds: [(&str, u32, Kind); 14] = [
+    let kinds: [(&str, u32, Kind); 15] = [
         ("a bare machine", 3, Scene::bare),
         ("random tables", 3, Scene::random_tables),
         ("a schedule", 4, Scene::schedule),
@@ -31,6 +33,7 @@ pub fn play(seed: u64) -> Result<Counts, Difference> {
         ("forks", 5, Scene::forks),
         ("callers that wait", 4, Scene::callers_that_wait),
         ("orders of jobs", 4, Scene::orders),
+        ("jobs handed out", 5, Scene::dispatches),
     ];
     let (name, _, kind) = kinds[draw.weighted(&kinds.map(|kind| kind.1))];
     let size = [Size::Small, Size::Middle, Size::Large][draw.weighted(&[80, 14, 6])];
@@ -54,6 +57,18 @@ enum Order {
     Any,
     /// The same again while it can step.
     Same,
+}
+
+/// A host that runs the jobs handed out to it.
+#[derive(Default)]
+struct Host {
+    /// Vertex and offset of each job that is running.
+    running: Vec<(u32, usize)>,
+    /// By offset.
+    ended: BTreeSet<usize>,
+    handed: BTreeSet<usize>,
+    /// Where it was told to wait: what was handed out, and what was running.
+    waits: Vec<(BTreeSet<usize>, Vec<usize>)>,
 }
 
 struct Scene {
@@ -248,6 +263,116 @@ impl Scene {
         Ok(())
     }
 
+    /// A loaded program by a host that has jobs handed out, and clears marks when jobs have ended. No job is handed out twice, or before a job
+    /// ahead of it has ended; and when the host must wait, every job that is not handed out yet waits for one that is running.
+    fn dispatches(&mut self) -> Outcome {
+        if self.size == Size::Large && !self.draw.one_in(4) {
+            self.size = Size::Middle;
+        }
+        let drawn = self.draw.pick(&[programs::valid, programs::with_futures, programs::with_forks]);
+        self.pair.program = drawn(&mut self.draw, self.size, self.edition);
+        if self.size == Size::Middle && self.draw.one_in(4) {
+            self.pair.program = programs::asyncs_with_a_job(self.draw.between(1, 400));
+        }
+        self.load_again()?;
+        let rows = (self.pair.state().vertices.len() / VERTEX_WORDS).min(ROWS);
+        self.pair.set_busy(vec![0; rows + self.draw.index(3)]);
+        // Each reading of a force is gone through there, so forces must be few.
+        let forces = self.pair.program.iter().filter(|&&byte| byte == programs::FORCE).count();
+        let known = self.size == Size::Small && forces <= 8;
+        let ahead = if known { paper::ahead::ahead(&self.pair.program) } else { BTreeSet::new() };
+        let most = self.draw.pick(&[1, 2, 5, 64, 300]);
+        let mut host = Host::default();
+        loop {
+            let (budget, words) = self.budget_and_list(most);
+            if self.draw.one_in(40) {
+                self.pair.edition = self.no_edition();
+                self.pair.call(Call::Dispatch { budget, words })?;
+                self.pair.edition = self.edition.into();
+            }
+            let marked = self.pair.busy().to_vec();
+            let Said::Dispatch(said) = self.pair.call(Call::Dispatch { budget, words })? else { unreachable!("a dispatch") };
+            let free = |vertex: &u32| marked[*vertex as usize] == 0;
+            for [vertex, _, offset] in self.pair.handed_out(said.handed) {
+                let early = ahead.iter().any(|&(first, then)| then == offset as usize && !host.ended.contains(&first));
+                if !free(&vertex) || early || !host.handed.insert(offset as usize) {
+                    return Err(self.pair.disagreement(&format!("the job at {offset} is handed out early, twice or by a busy vertex")));
+                }
+                host.running.push((vertex, offset as usize));
+            }
+            let able = self.able();
+            let idle = able.iter().any(|&vertex| self.pair.busy()[vertex as usize] == 0);
+            let as_it_ended = match said.ending {
+                DispatchEnding::Done => able.is_empty() && host.running.is_empty(),
+                DispatchEnding::Waiting => !idle && !host.running.is_empty(),
+                DispatchEnding::Full => idle && said.handed as usize == words as usize / JOB_WORDS,
+                DispatchEnding::Spent => idle && said.taken == budget,
+                DispatchEnding::Stuck | DispatchEnding::Refused { .. } => false,
+            };
+            if !as_it_ended {
+                return Err(self.pair.disagreement("a dispatch does not end as it says"));
+            }
+            self.pair.dispatched(host.running.iter().any(|&(vertex, _)| able.iter().any(|&other| vertex < other)));
+            match said.ending {
+                DispatchEnding::Done => break,
+                DispatchEnding::Waiting => host.waits.push((host.handed.clone(), host.running.iter().map(|&(_, job)| job).collect())),
+                _ => {}
+            }
+            let least = u32::from(said.ending == DispatchEnding::Waiting);
+            let running = host.running.len() as u32;
+            for _ in 0..self.draw.between(least.min(running), running) {
+                let (vertex, job) = host.running.swap_remove(self.draw.index(host.running.len()));
+                host.ended.insert(job);
+                self.pair.set_busy_word(vertex as usize, 0);
+            }
+            if self.draw.one_in(self.beside) {
+                self.pair.call(Call::Lowest)?;
+            }
+        }
+        let needlessly = |(handed, running): &(BTreeSet<usize>, Vec<usize>)| {
+            host.handed.difference(handed).any(|&job| !running.iter().any(|&first| ahead.contains(&(first, job))))
+        };
+        if known && host.waits.iter().any(needlessly) {
+            return Err(self.pair.disagreement("a job that could start was not handed out where the host was told to wait"));
+        }
+        Ok(())
+    }
+
+    /// For a dispatch: a budget, and the words of a list for so many jobs at most, now and then with some words too many for its rows.
+    fn budget_and_list(&mut self, most: u32) -> (u32, u32) {
+        let budget = match self.draw.below(4) {
+            0 => self.draw.below(30),
+            _ => self.draw.pick(&[STEP_LIMIT, u32::MAX]),
+        };
+        (budget, JOB_WORDS as u32 * self.draw.between(1, most) + self.draw.below(JOB_WORDS as u32))
+    }
+
+    /// Marks of any length and content: mostly enough of them, and mostly with few vertices busy.
+    fn any_marks(&mut self) {
+        let rows = (self.pair.state().vertices.len() / VERTEX_WORDS).min(ROWS);
+        let length = match self.draw.below(6) {
+            0 => self.draw.index(rows + 1),
+            1 => rows + self.draw.index(40),
+            _ => rows,
+        };
+        let one_in = self.draw.pick(&[u32::MAX, 8, 2, 1]);
+        let marks = (0..length).map(|_| if self.draw.one_in(one_in) { self.draw.pick(&[1, 1, 2, u32::MAX]) } else { 0 }).collect();
+        self.pair.set_busy(marks);
+    }
+
+    /// A dispatch with any marks, or with those of the last one, and any list, also one without a row.
+    fn any_dispatch(&mut self) -> Call {
+        if self.pair.busy().is_empty() || self.draw.one_in(2) {
+            self.any_marks();
+        }
+        let words = match self.draw.below(4) {
+            0 => self.draw.below(3),
+            1 => 3 * ROWS as u32,
+            _ => self.draw.below(24),
+        };
+        Call::Dispatch { budget: self.draw.pick(&[0, 1, 2, 5, 20, 200, 8192, u32::MAX]), words }
+    }
+
     /// Programs that loading refuses, mostly; then lent to tables that a sound program led to.
     fn damaged(&mut self) -> Outcome {
         let sound = self.pair.program.clone();
@@ -278,6 +403,10 @@ impl Scene {
                 let budget = self.draw.below(20);
                 self.call(Call::Run(budget))?;
             }
+            if self.draw.one_in(3) {
+                let dispatch = self.any_dispatch();
+                self.call(dispatch)?;
+            }
         }
         Ok(())
     }
@@ -294,7 +423,12 @@ impl Scene {
                 self.alter();
             }
             for _ in 0..self.draw.between(1, 8) {
-                let call = if self.draw.one_in(2) { Call::Step(self.able_or_name()) } else { self.any_call() };
+                let call = match self.draw.below(4) {
+                    0 | 1 => Call::Step(self.able_or_name()),
+                    2 => self.any_call(),
+                    _ if self.draw.one_in(2) => self.any_dispatch(),
+                    _ => self.any_call(),
+                };
                 self.call(call)?;
             }
             if !self.draw.one_in(3) {
@@ -978,16 +1112,21 @@ impl Scene {
     /// The other edition's number, mostly, or one that no edition has.
     fn another_edition(&mut self) -> u32 {
         match self.draw.below(3) {
-            0 => loop {
-                let number = self.draw.wild();
-                if edition_of(number).is_none() {
-                    return number;
-                }
-            },
+            0 => self.no_edition(),
             _ => match self.edition {
                 Edition::First => Edition::Second.into(),
                 Edition::Second => Edition::First.into(),
             },
+        }
+    }
+
+    /// A number that no edition has.
+    fn no_edition(&mut self) -> u32 {
+        loop {
+            let number = self.draw.wild();
+            if edition_of(number).is_none() {
+                return number;
+            }
         }
     }
 
@@ -1220,13 +1359,14 @@ impl Scene {
     }
 
     fn any_call(&mut self) -> Call {
-        match self.draw.weighted(&[16, 16, 3, 3, 1, 1]) {
+        match self.draw.weighted(&[16, 16, 3, 3, 1, 1, 4]) {
             0 => Call::Step(self.able_or_name()),
             1 => Call::Command(self.command()),
             2 => Call::Run(self.draw.pick(&[0, 1, 2, 3, 5, 20, 8192])),
             3 => Call::Lowest,
             4 => Call::Load,
-            _ => Call::Open,
+            5 => Call::Open,
+            _ => self.any_dispatch(),
         }
     }
 

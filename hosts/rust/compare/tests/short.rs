@@ -1,6 +1,6 @@
 //! A short comparison that yet sees every word, every refusal and programs at the limits.
 
-use compare::counts::{Callers, Crossings, Forces, Gaps, InCounts, Orders, Repeats, Starts, REFUSALS, WORDS};
+use compare::counts::{Callers, Crossings, Dispatches, Forces, Gaps, InCounts, Orders, Repeats, Starts, REFUSALS, WORDS};
 use keshtiwol::{Edition, Machine};
 
 #[test]
@@ -52,10 +52,14 @@ fn no_difference() {
         assert!(cycles > 1000 || *by == "steps", "callers with edges in, by {by}: {callers:?}");
     }
     let editions = counts.editions();
-    assert!(editions.iter().flatten().all(|&times| times > 100), "loads, steps, runs and lowest, by edition: {editions:?}");
+    assert!(editions.iter().flatten().all(|&times| times > 100), "loads, steps, runs, dispatches and lowest, by edition: {editions:?}");
     let crossings = counts.crossings();
     let Crossings { taken, nothing_starts, second_only } = crossings;
     assert!(taken > 1000 && nothing_starts > 100 && second_only > 50, "where the edition mattered: {crossings:?}");
+    let dispatches = counts.dispatches();
+    let Dispatches { taken, handed, most, kept, passed } = dispatches;
+    assert!(taken > 80_000 && handed > 10_000 && most >= 64 && kept > 1000 && passed > 500, "what dispatches did: {dispatches:?}");
+    assert!(counts.refusals(44) > 100);
     let orders = counts.orders();
     let Orders { whole, cut, most } = orders;
     assert!(whole > 250 && cut > 500 && most > 300, "orders of jobs that were asked for: {orders:?}");

@@ -1,9 +1,9 @@
 //! A receiver on four threads: it retunes, filters and decodes four channels side by side, and logs what it heard. For yours, change
 //! `PROGRAM` and `run_job`; the workers can stay. Run it with `cargo run --example receiver`.
 
-use keshtiwol::{Answer, Ending, Machine, STATUS, VERTEX_FINISHED, VERTEX_WORDS};
+use keshtiwol::{DispatchEnding, Ending, Job, Machine, ROWS, STEP_LIMIT};
 use std::sync::{Condvar, Mutex, RwLock};
-use std::{array, collections::HashSet, error, panic, process, thread};
+use std::{array, error, panic, process, thread};
 
 #[rustfmt::skip]
 const PROGRAM: &[u8] = &[
@@ -18,7 +18,7 @@ const PROGRAM: &[u8] = &[
     0x00,                               // the program's end
 ];
 
-/// What the jobs share. Safe Rust wants locks, and `try_` always gets them: the engine names no job before all jobs ahead of it have ended.
+/// What the jobs share. Safe Rust wants locks, and `try_` always gets them: the engine hands out no job before all those ahead have ended.
 #[derive(Default)]
 struct Receiver {
     tuned: RwLock<u32>,             // to so many hertz, by retune
@@ -55,43 +55,42 @@ impl Receiver {
     }
 }
 
-/// The host's part of the bargain with the engine: one call at a time, under a lock, and no step of a vertex while its job is running.
+/// The host's part of the bargain with the engine: one call at a time, under a lock, and a job told ended when it is.
 struct Host {
-    machine: Machine,   // lends the engine the same bytes, tables and tally at each call
-    busy: HashSet<u32>, // the vertices whose job is running
+    machine: Machine, // lends the engine the same bytes, tables, tally and marks at each call
+    jobs: Vec<Job>,   // handed out, and not yet begun
 }
 
-fn work(receiver: &Receiver, lock: &Mutex<Host>, job_ended: &Condvar) {
-    let (mut host, mut stepped) = (lock.lock().unwrap(), true);
-    while stepped || !host.busy.is_empty() {
-        if !stepped {
-            host = job_ended.wait(host).unwrap(); // no vertex can step before that
-        }
-        stepped = false;
-        for vertex in 0..host.machine.tally().made {
-            if host.busy.contains(&vertex) || host.machine.vertices()[VERTEX_WORDS * vertex as usize + STATUS] == VERTEX_FINISHED {
-                continue;
-            }
-            let answer = host.machine.step(vertex);
-            stepped |= !matches!(answer, Answer::Refused { .. }); // a refusal changed nothing: not now
-            let Answer::Job { number, .. } = answer else { continue };
-            host.busy.insert(vertex);
+fn work(receiver: &Receiver, lock: &Mutex<Host>, changed: &Condvar) {
+    let mut host = lock.lock().unwrap();
+    loop {
+        if let Some(job) = host.jobs.pop() {
             // The job runs outside the lock. A panic in it ends the process: the other workers would wait for the job for ever.
             drop(host);
-            panic::catch_unwind(|| receiver.run_job(number)).unwrap_or_else(|_| process::exit(1));
+            panic::catch_unwind(|| receiver.run_job(job.number)).unwrap_or_else(|_| process::exit(1));
             host = lock.lock().unwrap();
-            host.busy.remove(&vertex);
-            job_ended.notify_all();
+            host.machine.ended(job.vertex);
+            changed.notify_all();
+            continue;
+        }
+        let handed_out = host.machine.dispatch(STEP_LIMIT, ROWS);
+        if !handed_out.jobs.is_empty() {
+            host.jobs = handed_out.jobs;
+            changed.notify_all();
+        } else if handed_out.ending == DispatchEnding::Waiting {
+            host = changed.wait(host).unwrap(); // nothing more can start before a job has ended
+        } else {
+            return; // done: a loaded program has no other ending here
         }
     }
 }
 
 fn main() -> Result<(), Box<dyn error::Error>> {
     let machine = Machine::load(PROGRAM)?;
-    let (receiver, lock, job_ended) = (Receiver::default(), Mutex::new(Host { machine, busy: HashSet::new() }), Condvar::new());
+    let (receiver, lock, changed) = (Receiver::default(), Mutex::new(Host { machine, jobs: Vec::new() }), Condvar::new());
     thread::scope(|scope| {
         for _ in 0..4 {
-            scope.spawn(|| work(&receiver, &lock, &job_ended));
+            scope.spawn(|| work(&receiver, &lock, &changed));
         }
     });
     let all_finished = lock.into_inner().unwrap().machine.run(0).ending == Ending::Done; // a run of no steps tells this

@@ -19,11 +19,29 @@
 //! # Ok::<(), keshtiwol::Refusal>(())
 //! ```
 //!
+//! A host with threads has the engine hand out jobs, as many as may run beside one another, and says of each when it has ended:
+//!
+//! ```
+//! use keshtiwol::{DispatchEnding, Machine, STEP_LIMIT};
+//!
+//! let mut machine = Machine::load(&[4, 1, 1, 0, 1, 2, 0, 1, 3, 0])?;
+//! let branches = machine.dispatch(STEP_LIMIT, 8);
+//! assert_eq!(branches.ending, DispatchEnding::Waiting); // nothing more can start before one of these has ended
+//! assert_eq!(branches.jobs.iter().map(|job| job.number).collect::<Vec<_>>(), [1, 2]);
+//! for job in branches.jobs {
+//!     machine.ended(job.vertex); // run it, and then call this
+//! }
+//! assert_eq!(machine.dispatch(STEP_LIMIT, 8).jobs[0].number, 3);
+//! # Ok::<(), keshtiwol::Refusal>(())
+//! ```
+//!
+//! The example `receiver` does so on four threads, with the machine behind a lock.
+//!
 //! [`Machine::load`] loads in the first edition, [`Machine::load_in`] in either: the order of jobs is the same, but in the second
 //! [`Edition`] a fork makes no third vertex.
 //!
-//! Hosts that lend their own tables use the functions: [`load`], [`step`], [`run`] and [`lowest`] for programs, [`open`] and [`command`]
-//! for the bare machine, [`chain`] for both. Whatever slices they are handed, a call ends in an accepted step or in a numbered refusal that
+//! Hosts that lend their own tables use the functions: [`load`], [`step`], [`run`], [`dispatch`] and [`lowest`] for programs, [`open`] and
+//! [`command`] for the bare machine, [`chain`] for both. Whatever slices they are handed, a call ends in an accepted step or in a numbered refusal that
 //! changed nothing. The engine keeps nothing between calls, and different tables may be used from different threads at once.
 //!
 //! The engine itself is the archive `libkeshtiwol.a`, linked from the folder in `KESHTIWOL_LIB` (an absolute path) or else from the
@@ -65,6 +83,15 @@ pub const EDGE_WORDS: usize = 2;
 pub const SOURCE: usize = 0;
 /// Where its target stands.
 pub const TARGET: usize = 1;
+
+/// Words in a row of the list into which a dispatch writes the jobs that it hands out.
+pub const JOB_WORDS: usize = 3;
+/// Where in such a row the job's vertex stands.
+pub const JOB_VERTEX: usize = 0;
+/// Where its number stands.
+pub const JOB_NUMBER: usize = 1;
+/// Where its offset stands.
+pub const JOB_OFFSET: usize = 2;
 
 /// The statuses of a vertex.
 pub const VERTEX_NEW: u32 = 1;
@@ -157,6 +184,50 @@ pub struct Run {
     pub ending: Ending,
     pub last: Option<Answer>,
     pub taken: u32,
+}
+
+/// How a dispatch ended: the first of these that was so, looked at before each step.
+#[derive(Clone, Copy, Debug, PartialEq, Eq)]
+pub enum DispatchEnding {
+    /// All vertices made are finished.
+    Done,
+    /// No step would be accepted.
+    Stuck,
+    /// Only busy vertices could step: nothing more can start before a running job has ended.
+    Waiting,
+    /// The list has no row left, and more can be stepped now.
+    Full,
+    /// The budget is used.
+    Spent,
+    Refused {
+        number: u32,
+        place: u32,
+    },
+}
+
+/// A dispatch's ending, how many steps it took, and how many jobs it handed out.
+#[derive(Clone, Copy, Debug, PartialEq, Eq)]
+pub struct Dispatch {
+    pub ending: DispatchEnding,
+    pub taken: u32,
+    pub handed: u32,
+}
+
+/// A job that was handed out. The host runs it once; its vertex is busy until the host says that the job has ended. The offset tells jobs
+/// apart.
+#[derive(Clone, Copy, Debug, PartialEq, Eq, Hash)]
+pub struct Job {
+    pub vertex: u32,
+    pub number: u32,
+    pub offset: u32,
+}
+
+/// A machine's dispatch: its ending, how many steps it took, and the jobs that it handed out.
+#[derive(Clone, Debug, PartialEq, Eq)]
+pub struct HandedOut {
+    pub ending: DispatchEnding,
+    pub taken: u32,
+    pub jobs: Vec<Job>,
 }
 
 /// The lowest vertex that can step.
@@ -266,6 +337,46 @@ pub fn run(program: &[u8], vertices: &mut [u32], edges: &mut [u32], tally: &mut 
         },
         taken: reply.taken,
     }
+}
+
+/// For hosts that run jobs on threads: steps the lowest vertex that can step and is not busy, again and again, and hands out the jobs that
+/// these steps name. `busy` has a word for each vertex, 0 where it is not busy, and at least as many words as there are usable vertex rows;
+/// else this is refused with 44. `jobs` has any length, in rows of [`JOB_WORDS`]. Where a step names a job, its vertex is marked with 1, and
+/// vertex, number and offset go into the list's next row; other words of both are not touched.
+///
+/// The host lends the same marks each time, all 0 after a loading; runs each job of the list once; sets its vertex's mark to 0 when the job
+/// has ended, and not before; and calls again.
+#[allow(clippy::too_many_arguments)]
+pub fn dispatch(
+    program: &[u8],
+    vertices: &mut [u32],
+    edges: &mut [u32],
+    tally: &mut Tally,
+    edition: impl Into<u32>,
+    budget: u32,
+    busy: &mut [u32],
+    jobs: &mut [u32],
+) -> Dispatch {
+    let (mut no_vertex, mut no_edge, mut no_mark, mut no_job) = ([0], [0], [0], [0]);
+    let (vertices, edges) = (lend(vertices, &mut no_vertex), lend(edges, &mut no_edge));
+    let (busy, jobs) = (lend(busy, &mut no_mark), lend(jobs, &mut no_job));
+    let (program, bytes, edition) = (start(program, &[0]), program.len(), edition.into());
+    // SAFETY: as in `load`.
+    let reply = unsafe {
+        raw::keshtiwol_dispatch(
+            program, bytes, vertices.0, vertices.1, edges.0, edges.1, tally, edition, budget, busy.0, busy.1, jobs.0, jobs.1,
+        )
+    };
+    let ending = match reply.ending.said {
+        raw::DONE => DispatchEnding::Done,
+        raw::STUCK => DispatchEnding::Stuck,
+        raw::WAITING => DispatchEnding::Waiting,
+        raw::FULL => DispatchEnding::Full,
+        raw::SPENT => DispatchEnding::Spent,
+        raw::REFUSED => DispatchEnding::Refused { number: reply.ending.first, place: reply.ending.second },
+        _ => unknown("a dispatch's ending", reply.ending),
+    };
+    Dispatch { ending, taken: reply.taken, handed: reply.handed }
 }
 
 /// The lowest vertex that can step.
@@ -429,6 +540,6 @@ mod tests {
     #[test]
     #[should_panic(expected = "libkeshtiwol.a answered a step with")]
     fn an_answer_that_the_header_does_not_name() {
-        answer(raw::Reply { said: 16, first: 0, second: 0 });
+        answer(raw::Reply { said: 18, first: 0, second: 0 });
     }
 }

@@ -1,6 +1,6 @@
 use crate::{
-    Answer, Chain, Edition, Lowest, Refusal, Run, Tally, EDGE_TABLE, EDGE_WORDS, IN_COUNT, ROWS, STATUS, VERTEX_RELEASED, VERTEX_TABLE,
-    VERTEX_WORDS,
+    Answer, Chain, Edition, HandedOut, Job, Lowest, Refusal, Run, Tally, EDGE_TABLE, EDGE_WORDS, IN_COUNT, JOB_NUMBER, JOB_OFFSET,
+    JOB_VERTEX, JOB_WORDS, ROWS, STATUS, VERTEX_RELEASED, VERTEX_TABLE, VERTEX_WORDS,
 };
 
 /// A loaded program with tables of its own, large enough for every program, and the edition in which it was loaded and goes on.
@@ -11,6 +11,7 @@ pub struct Machine {
     vertices: Vec<u32>,
     edges: Vec<u32>,
     tally: Tally,
+    busy: Vec<u32>,
 }
 
 impl Machine {
@@ -21,8 +22,8 @@ impl Machine {
 
     /// Loads a program in either edition.
     pub fn load_in(program: &[u8], edition: Edition) -> Result<Machine, Refusal> {
-        let (vertices, edges) = (vec![0; VERTEX_TABLE], vec![0; EDGE_TABLE]);
-        let mut machine = Machine { edition, program: program.to_vec(), vertices, edges, tally: Tally::default() };
+        let (vertices, edges, busy) = (vec![0; VERTEX_TABLE], vec![0; EDGE_TABLE], vec![0; ROWS]);
+        let mut machine = Machine { edition, program: program.to_vec(), vertices, edges, tally: Tally::default(), busy };
         match crate::load(program, &mut machine.vertices, &mut machine.edges, &mut machine.tally, edition) {
             Answer::Refused { number, place } => Err(Refusal { number, place }),
             _ => Ok(machine),
@@ -38,6 +39,34 @@ impl Machine {
     /// Steps lowest vertices first, at most `budget` times.
     pub fn run(&mut self, budget: u32) -> Run {
         crate::run(&self.program, &mut self.vertices, &mut self.edges, &mut self.tally, self.edition, budget)
+    }
+
+    /// Steps the lowest vertex that can step and is not busy, again and again, at most `budget` times, and hands out the jobs that these
+    /// steps name, at most `most`. Each of them is run once, on whatever thread; when it has ended, and not before, [`Machine::ended`] is
+    /// told so.
+    pub fn dispatch(&mut self, budget: u32, most: usize) -> HandedOut {
+        // Each vertex has one job at a time, so this is the longest list that can be filled.
+        let mut list = vec![0; JOB_WORDS * most.min(ROWS)];
+        let Machine { edition, program, vertices, edges, tally, busy } = self;
+        let dispatch = crate::dispatch(program, vertices, edges, tally, *edition, budget, busy, &mut list);
+        let job = |row: &[u32]| Job { vertex: row[JOB_VERTEX], number: row[JOB_NUMBER], offset: row[JOB_OFFSET] };
+        let jobs = list.chunks(JOB_WORDS).take(dispatch.handed as usize).map(job).collect();
+        HandedOut { ending: dispatch.ending, taken: dispatch.taken, jobs }
+    }
+
+    /// The job of this vertex that a dispatch handed out has ended.
+    ///
+    /// # Panics
+    ///
+    /// Where the vertex is not busy.
+    pub fn ended(&mut self, vertex: u32) {
+        assert!(self.is_busy(vertex), "vertex {vertex} has no job that was handed out");
+        self.busy[vertex as usize] = 0;
+    }
+
+    /// Whether a dispatch handed out a job of this vertex that has not ended.
+    pub fn is_busy(&self, vertex: u32) -> bool {
+        self.busy.get(vertex as usize).is_some_and(|mark| *mark != 0)
     }
 
     /// The lowest vertex that can step.

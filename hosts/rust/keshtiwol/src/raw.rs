@@ -19,6 +19,14 @@ pub struct RunReply {
     pub taken: u32,
 }
 
+#[repr(C)]
+#[derive(Clone, Copy, Debug)]
+pub struct DispatchReply {
+    pub ending: Reply,
+    pub taken: u32,
+    pub handed: u32,
+}
+
 // The editions.
 pub const FIRST_EDITION: u32 = 1;
 pub const SECOND_EDITION: u32 = 2;
@@ -40,6 +48,8 @@ pub const STUCK: u32 = 12;
 pub const SPENT: u32 = 13;
 pub const CHAIN: u32 = 14;
 pub const YIELD: u32 = 15;
+pub const WAITING: u32 = 16;
+pub const FULL: u32 = 17;
 
 // The commands.
 pub const DO_NEW: u32 = 1;
@@ -87,6 +97,22 @@ extern "C" {
         edition: u32,
         budget: u32,
     ) -> RunReply;
+
+    pub fn keshtiwol_dispatch(
+        program: *const u8,
+        program_bytes: usize,
+        vertices: *mut u32,
+        vertex_words: usize,
+        edges: *mut u32,
+        edge_words: usize,
+        tally: *mut Tally,
+        edition: u32,
+        budget: u32,
+        busy: *mut u32,
+        busy_words: usize,
+        jobs: *mut u32,
+        job_words: usize,
+    ) -> DispatchReply;
 
     pub fn keshtiwol_lowest(
         program: *const u8,
@@ -153,10 +179,12 @@ mod tests {
         let here = named![
             VERTEX_WORDS STATUS PLACE SCOPE PHASE MADE FUTURE IN_COUNT
             EDGE_WORDS SOURCE TARGET
+            JOB_WORDS JOB_VERTEX JOB_NUMBER JOB_OFFSET
             VERTEX_NEW VERTEX_RELEASED VERTEX_EXECUTING VERTEX_FINISHED
             FIRST_EDITION SECOND_EDITION
             PROGRAM_BYTES ROWS VERTEX_TABLE EDGE_TABLE STEP_LIMIT
             REFUSED READY START NEW EDGE RELEASE TRANSFER JOB STOP NONE VERTEX DONE STUCK SPENT CHAIN YIELD
+            WAITING FULL
             LENGTH_OUTSIDE NUMBER_MALFORMED BYTE_UNKNOWN LEVEL_TOO_DEEP BYTES_RUN_OUT BYTES_AFTER_END JOB_TOO_LARGE TOO_MANY_VERTICES
             NO_SUCH_FUTURE
             TOO_FEW_VERTEX_ROWS TOO_FEW_EDGE_ROWS UNSOUND_TABLES NOTHING_STARTS
@@ -164,6 +192,7 @@ mod tests {
             CALLER_NOT_EXECUTING NO_VERTEX_ROW NO_EDGE_ROW TARGET_NOT_WAITING CLOSES_CYCLE RELEASE_NOT_NEW
             TRANSFER_NOT_NEW TRANSFER_HAS_EDGE_OUT
             NO_CHAIN LIST_TOO_SHORT
+            BUSY_TABLE_TOO_SHORT
             NO_SUCH_EDITION NO_SUCH_COMMAND
             DO_NEW DO_EDGE DO_RELEASE DO_TRANSFER DO_START DO_STOP DO_YIELD
         ];

@@ -35,6 +35,8 @@ pub const TRANSFER_HAS_EDGE_OUT: u32 = 38;
 // Whoever asks for a chain.
 pub const NO_CHAIN: u32 = 41;
 pub const LIST_TOO_SHORT: u32 = 42;
+// A host that has jobs handed out.
+pub const BUSY_TABLE_TOO_SHORT: u32 = 44;
 // A host that names an edition or a command by number.
 pub const NO_SUCH_EDITION: u32 = 98;
 pub const NO_SUCH_COMMAND: u32 = 99;
@@ -78,6 +80,7 @@ pub fn text(number: u32) -> &'static str {
         TRANSFER_HAS_EDGE_OUT => "the vertex that would get the edges has one already",
         NO_CHAIN => "no chain of held edges leads from the target back to the source",
         LIST_TOO_SHORT => "the chain has more vertices than the list has words",
+        BUSY_TABLE_TOO_SHORT => "the table of marks has fewer words than the vertex table has rows",
         NO_SUCH_EDITION => "no edition has this number",
         NO_SUCH_COMMAND => "no command has this number",
         _ => "unknown",

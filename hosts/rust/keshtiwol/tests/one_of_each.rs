@@ -23,7 +23,7 @@ fn one_list_of_refusals() {
     let (_, refusals) = header.split_once("The numbers of refusals").unwrap();
     let (refusals, _) = refusals.split_once("};").unwrap();
     let header = list(refusals, "KESHTIWOL_", " = ");
-    assert_eq!(code.len(), 30);
+    assert_eq!(code.len(), 31);
     assert_eq!(code, definitions);
     assert_eq!(code, header);
     assert_eq!(code, wrapper);
@@ -40,7 +40,7 @@ fn one_text_for_each_refusal() {
         let (name, text) = case.split_once(": return \"").unwrap();
         texts.insert(numbers[name], text.strip_suffix("\";").unwrap());
     }
-    assert_eq!(texts.len(), 30);
+    assert_eq!(texts.len(), 31);
     for number in (0..200).chain([u32::MAX]) {
         assert_eq!(keshtiwol::refusal::text(number), *texts.get(&number).unwrap_or(&"unknown"), "{number}");
     }

@@ -66,6 +66,26 @@ pub struct Run {
     pub taken: u32,
 }
 
+/// How a dispatch ends: "the list is full, only busy vertices could step (waiting), all are finished (done), none can step (stuck) or the
+/// budget is used (spent)"; or it is refused (12 and 44).
+#[derive(Clone, Copy, PartialEq, Eq, Debug)]
+pub enum DispatchEnding {
+    Done,
+    Stuck,
+    Waiting,
+    Full,
+    Spent,
+    Refused { number: u32, place: u32 },
+}
+
+/// What a dispatch answers: its ending, the steps taken, and how many jobs it wrote into the list.
+#[derive(Clone, Copy, PartialEq, Eq, Debug)]
+pub struct Dispatch {
+    pub ending: DispatchEnding,
+    pub taken: u32,
+    pub handed: u32,
+}
+
 /// The commands: those of the slides, and yield.
 #[derive(Clone, Copy, PartialEq, Eq, Debug)]
 pub enum Command {
@@ -177,7 +197,7 @@ pub fn run(program: &[u8], vertices: &mut [u32], edges: &mut [u32], tally: &mut 
     // "Before each step it looks: done if all vertices made are finished; stuck if no step would
     // be accepted; spent if the budget is used."
     loop {
-        match tables.view().seek(&book) {
+        match tables.view().seek(&book, &[]) {
             Seek::Done => run.ending = Ending::Done,
             Seek::Stuck => run.ending = Ending::Stuck,
             Seek::Found(..) if run.taken == budget => run.ending = Ending::Spent,
@@ -191,13 +211,63 @@ pub fn run(program: &[u8], vertices: &mut [u32], edges: &mut [u32], tally: &mut 
     }
 }
 
+/// "Dispatch steps the lowest vertex that can step and is not busy, again and again; where a step answers a job, it marks that vertex busy
+/// in a lent table and writes vertex, number and offset into a lent list". In the table a word that is not 0 is a mark.
+#[allow(clippy::too_many_arguments)]
+pub fn dispatch(
+    program: &[u8],
+    vertices: &mut [u32],
+    edges: &mut [u32],
+    tally: &mut Tally,
+    edition: Edition,
+    budget: u32,
+    busy: &mut [u32],
+    jobs: &mut [u32],
+) -> Dispatch {
+    let mut tables = Tables::new(vertices, edges, tally);
+    let refused = |number| DispatchEnding::Refused { number, place: 0 };
+    let mut done = Dispatch { ending: refused(12), taken: 0, handed: 0 };
+    if !tables.view().sound_to_step() {
+        return done;
+    }
+    // 44: the table of marks has fewer words than the vertex table has usable rows.
+    if busy.len() < tables.rows.len() {
+        done.ending = refused(44);
+        return done;
+    }
+    let book = Book::new(program, edition);
+    let mut list = jobs.chunks_exact_mut(3).peekable();
+    // Before each step it looks, as a run does; "only busy vertices could step" comes behind "none can step".
+    loop {
+        done.ending = match (tables.view().seek(&book, &[]), tables.view().seek(&book, busy)) {
+            (Seek::Done, _) => DispatchEnding::Done,
+            (Seek::Stuck, _) => DispatchEnding::Stuck,
+            (_, Seek::Done | Seek::Stuck) => DispatchEnding::Waiting,
+            _ if list.peek().is_none() => DispatchEnding::Full,
+            _ if done.taken == budget => DispatchEnding::Spent,
+            (_, Seek::Found(vertex, due)) => {
+                if let Answer::Job { number, offset } = tables.take(vertex, due) {
+                    busy[vertex as usize] = 1;
+                    if let Some(row) = list.next() {
+                        row.copy_from_slice(&[vertex, number, offset]);
+                    }
+                    done.handed += 1;
+                }
+                done.taken += 1;
+                continue;
+            }
+        };
+        return done;
+    }
+}
+
 /// The lowest vertex whose step would be accepted; refused exactly where a run is.
 pub fn lowest(program: &[u8], vertices: &[u32], edges: &[u32], tally: &Tally, edition: Edition) -> Lowest {
     let view = View::new(vertices, edges, tally);
     if !view.sound_to_step() {
         return Lowest::Refused { number: 12, place: 0 };
     }
-    match view.seek(&Book::new(program, edition)) {
+    match view.seek(&Book::new(program, edition), &[]) {
         Seek::Found(vertex, _) => Lowest::Vertex(vertex),
         Seek::Done | Seek::Stuck => Lowest::NoVertex,
     }

@@ -195,13 +195,16 @@ impl View<'_> {
         }
     }
 
-    /// What a run finds: done, stuck, or the lowest vertex whose step would be accepted.
-    pub fn seek(&self, book: &Book) -> Seek {
+    /// What a run finds: done, stuck, or the lowest vertex whose step would be accepted. Vertices with a mark are passed over.
+    pub fn seek(&self, book: &Book, marks: &[u32]) -> Seek {
         let rows = self.made();
         // At 8,192 steps none more is accepted (12).
         if self.tally.steps < MOST_STEPS {
             for (number, row) in rows.iter().enumerate() {
                 let vertex = number as u32;
+                if marks.get(number).is_some_and(|&mark| mark != 0) {
+                    continue;
+                }
                 match row[STATUS] {
                     RELEASED if may_start(row).is_ok() => return Seek::Found(vertex, start(vertex)),
                     EXECUTING => {

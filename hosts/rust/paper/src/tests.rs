@@ -3,6 +3,7 @@ use crate::read::{read, Counts, Item};
 use crate::*;
 use std::collections::BTreeSet;
 
+mod dispatches;
 mod editions;
 mod futures;
 mod in_counts;

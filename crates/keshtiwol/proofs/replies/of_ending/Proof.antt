@@ -1,7 +1,7 @@
 -- Each case has the numbers of how it ended.
 use borrow.Author.Needs.{needs}
-use Rattle.engine.specs.declared.Ending.{Ending}
-use Rattle.engine.specs.Answers.{endingOf}
+use Rattle.walks.specs.declared.Ending.{Ending}
+use Rattle.walks.specs.Answers.{endingOf}
 use Rattle.keshtiwol.specs.Numbers.{endingNumbers}
 use Rattle.keshtiwol.proofs.ReplyLaws.{told}
 use Rattle.keshtiwol.proofs.replies.of_ending.Statement.{statement}

@@ -1,7 +1,7 @@
 -- No step has its own numbers, a step has those of what it said.
 use borrow.Author.Needs.{needs}
-use Rattle.engine.specs.declared.LastStep.{LastStep}
-use Rattle.engine.specs.Answers.{lastOf}
+use Rattle.walks.specs.declared.LastStep.{LastStep}
+use Rattle.walks.specs.Answers.{lastOf}
 use Rattle.keshtiwol.specs.Numbers.{lastNumbers}
 use Rattle.keshtiwol.proofs.ReplyLaws.{told}
 use Rattle.keshtiwol.proofs.replies.of_last.Statement.{statement}

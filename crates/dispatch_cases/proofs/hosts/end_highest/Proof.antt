@@ -1,0 +1,32 @@
+-- Each turn is within the marks, whose length stays.
+use Prim.Native.Nat.{_-_, _≤_}
+use Rattle.dispatch_cases.proofs.hosts.end_highest.Statement.{statement}
+use Rattle.dispatch_cases.proofs.hosts.end_highest.Tie as tie
+use borrow.Author.Needs.{needs}
+use lib.ListN.{length, length-set}
+use mathlib.Core.Path.{_≡_}
+use native.Mathlib.Omega.{arith}
+
+abbrev Inv-loop : tie.InvT-loop
+Inv-loop busy₀ above₀ above-end busy above = (above ≤ above-end) × ((above-end ≡ length busy₀) × (length busy ≡ length busy₀))
+
+abbrev μ-loop : tie.MeasureT-loop
+μ-loop busy₀ above₀ above-end busy above = above-end - above
+
+pub end-highest-spec : {M : Type 1} → statement M
+end-highest-spec = tie.close (tie.spec Inv-loop
+    μ-loop
+    (λ c. omega arith)
+    (λ c. omega arith)
+    (λ c. omega arith)
+    (λ c. omega arith)
+    (λ c. omega arith)
+    (λ c. omega arith)
+    (λ c. omega arith)
+    (λ c. simp length-set (omega arith))
+    (λ c. search needs)
+    (λ c. omega arith)
+    (λ c. omega arith)
+    (λ c. omega arith)
+    (λ c. omega arith)
+    (λ c. search needs))
