@@ -106,7 +106,7 @@ pub fn lowest_free(
 }
 
 // A vertex is busy where its mark is not 0. Beyond the table nobody is.
-pub fn is_busy(busy: &[u32], vertex: usize) -> bool
+fn is_busy(busy: &[u32], vertex: usize) -> bool
     ensures { λ r. ⌜ r ≡ isBusy (now (busy .entry)) vertex ⌝ }
 {
     if busy.len() <= vertex {
@@ -139,7 +139,7 @@ fn can_step(
 }
 
 // A vertex may start: it is released, and its word says that no edge leads into it.
-pub fn may_start(vertices: &[u32], vertex: usize) -> bool
+pub(crate) fn may_start(vertices: &[u32], vertex: usize) -> bool
     requires { ⌜ vertexWords * vertex + vertexWords ≤ length (now vertices) ⌝ }
     ensures { λ r. ⌜ r ≡ mayStart (now (vertices .entry)) vertex ⌝ }
 {

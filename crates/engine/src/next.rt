@@ -54,7 +54,7 @@ const NONE_OPEN: u32 = 0;
 pub const STEP_LIMIT: u32 = 8192;
 
 // What is due at a step of `vertex`, where no start is.
-pub fn next_due(
+pub(crate) fn next_due(
     program: &[u8],
     vertices: &[u32],
     edges: &[u32],
@@ -92,7 +92,7 @@ pub fn next_due(
 }
 
 // A start is due: only the tally and the vertex's own row are looked at.
-pub fn start_due(vertices: &[u32], edges: &[u32], tally: Tally, vertex: u32) -> bool
+pub(crate) fn start_due(vertices: &[u32], edges: &[u32], tally: Tally, vertex: u32) -> bool
     ensures { λ r. ⌜ r ≡ startDue (lent (now (vertices .entry)) (now (edges .entry)) tally) vertex ⌝ }
 {
     if !tally_fits(vertices, edges, tally.made, tally.held) {
@@ -118,7 +118,7 @@ pub fn is_steppable(vertices: &[u32], edges: &[u32], tally: Tally) -> bool
 }
 
 // What is due at a step of a vertex that executes, in a program whose places are marked where something starts.
-pub fn marked_due(
+pub(crate) fn marked_due(
     program: &[u8],
     marks: &[u16],
     vertices: &[u32],

@@ -47,7 +47,7 @@ pub fn step_by_value(
 }
 
 // The step of a vertex at which a start is due: the command start. It changes none of the vertex's own words.
-pub fn start_step(vertices: &mut [u32], edges: &[u32], tally: Tally, vertex: u32) -> Done
+pub(crate) fn start_step(vertices: &mut [u32], edges: &[u32], tally: Tally, vertex: u32) -> Done
     requires { ⌜ startDue (lent (now vertices) (now edges) tally) vertex ≡ true ⌝ }
     ensures { λ r. ⌜ Starts (lent (now (vertices .entry)) (now (edges .entry)) tally) vertex (said (r .answer)) (lent (now (vertices .exit)) (now (edges .entry)) (r .tally)) ⌝ }
 {
@@ -67,7 +67,13 @@ pub fn start_step(vertices: &mut [u32], edges: &[u32], tally: Tally, vertex: u32
 }
 
 // Does what is due at a step of `vertex`.
-pub fn do_due(vertices: &mut [u32], edges: &mut [u32], tally: Tally, vertex: u32, next: Due) -> Done
+pub(crate) fn do_due(
+    vertices: &mut [u32],
+    edges: &mut [u32],
+    tally: Tally,
+    vertex: u32,
+    next: Due,
+) -> Done
     requires { ⌜ IsDue (lent (now vertices) (now edges) tally) vertex (dueOf next) ⌝ }
     ensures { λ r. ⌜ DoesDue (lent (now (vertices .entry)) (now (edges .entry)) tally) vertex (dueOf next) (said (r .answer)) (lent (now (vertices .exit)) (now (edges .exit)) (r .tally)) ⌝ }
 {
