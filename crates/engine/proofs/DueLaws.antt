@@ -5,11 +5,11 @@ use mathlib.Core.Bool.{Bool, true, false, cond}
 use mathlib.Core.List.{List}
 use mathlib.Core.Option.{some, Option·none-ne-some}
 use lib.ListN.{length}
-use borrow.Author.Tests.{lt-ltb, le-ltb, eq-eqb, ne-eqb}
+use borrow.Author.Tests.{lt-ltb, le-ltb, eq-eqb, ne-eqb, ltb-true}
 use Rattle.graph.specs.Tests.{both}
 use Rattle.graph.specs.Tables.{Lent, NEW, EXECUTING, FINISHED, placeWord, scopeWord, phaseWord, madeWord, futureWord, vertexWord, status}
 use Rattle.graph.specs.Sound.{sound}
-use Rattle.graph.proofs.TestLaws.{both-true, both-left, both-false-left, both-false-right, not-of-true, not-of-false}
+use Rattle.graph.proofs.TestLaws.{both-true, both-left, both-right, both-false-left, both-false-right, not-of-true, not-of-false}
 use Rattle.graph.proofs.CallLaws.{answered, answered-yes, answered-no}
 use Rattle.refusal.specs.declared.Refusal.{Refusal}
 use Rattle.refusal.specs.Refusals.{nothing-starts}
@@ -137,6 +137,11 @@ due-there ed bytes s k known few lt is h = h s refl refl ∙ sym (due-executing 
 pub steppable-sound : (s : Lent) → steppable s ≡ true → sound s ≡ true
 unfolding steppable
 steppable-sound s h = both-left _ _ h
+
+-- and steps are left to take
+pub steppable-few : (s : Lent) → steppable s ≡ true → s .steps < stepLimit
+unfolding steppable
+steppable-few s h = ltb-true _ _ (both-right _ _ h)
 
 -- what the item asks for is due behind all tests
 pub due-item :

@@ -19,19 +19,19 @@ none-named : (s : Lent) (x : ℕ) → both (ltb 0 x) (ltb x (s .made)) ≡ false
 unfolding openFuture
 none-named s x h = ap (λ (q : Bool). cond q (some x) none) h
 
-open-zero : (s : Lent) (x : ℕ) → x ≡ 0 → openFuture s x ≡ none
+pub open-zero : (s : Lent) (x : ℕ) → x ≡ 0 → openFuture s x ≡ none
 open-zero s x h = none-named s x (both-false-left _ (le-ltb 0 x (omega arith)))
 
-open-beyond : (s : Lent) (x : ℕ) → s .made ≤ x → openFuture s x ≡ none
+pub open-beyond : (s : Lent) (x : ℕ) → s .made ≤ x → openFuture s x ≡ none
 open-beyond s x le = none-named s x (both-false-right _ (le-ltb x (s .made) le))
 
 -- nothing is further out than none
-none-further : (s : Lent) (x k : ℕ) → openFuture s x ≡ none → none ≡ outwards s x k
+pub none-further : (s : Lent) (x k : ℕ) → openFuture s x ≡ none → none ≡ outwards s x k
 unfolding outwards further
 none-further s x zero h = sym h
 none-further s x (suc k) h = ap (λ (o : Option ℕ). further o (λ t. outwards s (latest s t) k)) (sym h)
 
-some-further : (s : Lent) (x k : ℕ) → openFuture s x ≡ some x → outwards s x (suc k) ≡ outwards s (latest s x) k
+pub some-further : (s : Lent) (x k : ℕ) → openFuture s x ≡ some x → outwards s x (suc k) ≡ outwards s (latest s x) k
 unfolding outwards further
 some-further s x k h = ap (λ (o : Option ℕ). further o (λ t. outwards s (latest s t) k)) h
 
@@ -64,7 +64,7 @@ hopped-beyond t made word n x i h le beyond s e m =
     none-further s x (n - i) (open-beyond s x (omega arith)) ∙ h (n - i) (omega arith) s e m
 
 -- at the end of the loop
-word-tells : (s : Lent) (x : ℕ) → x < s .made → unlessZero x ≡ outwards s x 0
+pub word-tells : (s : Lent) (x : ℕ) → x < s .made → unlessZero x ≡ outwards s x 0
 unfolding unlessZero outwards
 word-tells s zero lt = sym (open-zero s zero refl)
 word-tells s (suc x) lt = sym (future-named s (suc x) (omega arith) lt)

@@ -2,6 +2,7 @@
 // of it (crate `machine`), so demand 3 speaks of the engine. Runs and dispatches stand on it (crate `walks`).
 pub mod demand;
 pub mod entry;
+pub mod leaps;
 pub mod load;
 pub mod look;
 pub mod next;

@@ -1,9 +1,8 @@
 // Looking for the lowest vertex whose step would be accepted. Nothing is stored here.
 use crate::Due;
 use crate::Lowest;
-use crate::next::STEP_LIMIT;
+use crate::next::ended_due;
 use crate::next::is_steppable;
-use crate::next::marked_due;
 use graph::Command;
 use graph::Tally;
 use graph::refusals::ACCEPTED;
@@ -20,8 +19,8 @@ use graph::rows::RELEASED;
 use graph::rows::STATUS;
 use graph::rows::VERTEX_WORDS;
 use program::Edition;
+use program::ends::mark_ends;
 use program::format::PROGRAM_BYTES;
-use program::starts::mark_starts;
 use refusal::Refusal;
 use refusal::UNSOUND_TABLES;
 ghost use mathlib.Core.Path.{_≡_};
@@ -34,11 +33,10 @@ ghost use Rattle.graph.specs.Sound.{sound};
 ghost use Rattle.graph.specs.Commands.{command};
 ghost use Rattle.graph.specs.Answers as of-graph;
 ghost use Rattle.program.specs.Limits.{programBytes};
-ghost use Rattle.program.specs.Located.{MarksStarts};
+ghost use Rattle.program.specs.Located.{MarksEnds};
 ghost use Rattle.refusal.specs.Refusals.{unsound-tables};
-ghost use Rattle.machine.specs.Stepping.{stepLimit};
-ghost use Rattle.machine.specs.Running.{canStep, chosen, choice, choice-refused};
-ghost use Rattle.machine.specs.Dispatching.{isBusy, lowestFree};
+ghost use Rattle.machine.specs.Stepping.{stepLimit, steppable};
+ghost use Rattle.machine.specs.Running.{canStep, lowest, chosen, choice, choice-refused};
 ghost use Rattle.engine.specs.Answers.{dueOf, choiceOf};
 ghost use Rattle.engine.specs.Internal.Underway.{mayStart, takes};
 
@@ -55,18 +53,9 @@ pub fn lowest_vertex(
     if !is_steppable(vertices, edges, tally) {
         return refused();
     }
-    let mut marks = [0u16; PROGRAM_BYTES];
-    mark_starts(program, edition, &mut marks);
-    let nobody_busy = [0u32; 1];
-    lowest_free(
-        program,
-        &marks,
-        vertices,
-        edges,
-        tally,
-        edition,
-        &nobody_busy,
-    )
+    let mut ends = [0u16; PROGRAM_BYTES];
+    mark_ends(program, edition, &mut ends);
+    lowest_able(program, &ends, vertices, edges, tally, edition)
 }
 
 fn refused() -> Lowest
@@ -78,54 +67,37 @@ fn refused() -> Lowest
     })
 }
 
-// The lowest vertex that can step and is not busy, on sound tables, in a program whose places are marked where something starts.
-pub fn lowest_free(
+// The lowest vertex that can step, on tables that take steps, in a program whose ends these are.
+fn lowest_able(
     program: &[u8],
-    marks: &[u16],
+    ends: &[u16],
     vertices: &[u32],
     edges: &[u32],
     tally: Tally,
     edition: Edition,
-    busy: &[u32],
 ) -> Lowest
-    requires { ⌜ MarksStarts edition (now program) (now marks) × (length (now marks) ≡ programBytes) × (sound (lent (now vertices) (now edges) tally) ≡ true) ⌝ }
-    ensures { λ r. ⌜ choiceOf r ≡ chosen (lowestFree edition (now (program .entry)) (lent (now (vertices .entry)) (now (edges .entry)) tally) (now (busy .entry))) ⌝ }
+    requires { ⌜ MarksEnds edition (now program) (now ends) × (length (now ends) ≡ programBytes) × (steppable (lent (now vertices) (now edges) tally) ≡ true) ⌝ }
+    ensures { λ r. ⌜ choiceOf r ≡ chosen (lowest edition (now (program .entry)) (lent (now (vertices .entry)) (now (edges .entry)) tally)) ⌝ }
 {
-    if STEP_LIMIT <= tally.steps {
-        return Lowest::NoVertex;
-    }
     for v in 0..tally.made {
-        if is_busy(busy, v as usize) {
-            continue;
-        }
-        if can_step(program, marks, vertices, edges, tally, edition, v) {
+        if can_step(program, ends, vertices, edges, tally, edition, v) {
             return Lowest::Vertex(v);
         }
     }
     Lowest::NoVertex
 }
 
-// A vertex is busy where its mark is not 0. Beyond the table nobody is.
-fn is_busy(busy: &[u32], vertex: usize) -> bool
-    ensures { λ r. ⌜ r ≡ isBusy (now (busy .entry)) vertex ⌝ }
-{
-    if busy.len() <= vertex {
-        return false;
-    }
-    busy[vertex] != 0
-}
-
 // A vertex can step: it may start, or it executes and what is due would be accepted.
 fn can_step(
     program: &[u8],
-    marks: &[u16],
+    ends: &[u16],
     vertices: &[u32],
     edges: &[u32],
     tally: Tally,
     edition: Edition,
     vertex: u32,
 ) -> bool
-    requires { ⌜ MarksStarts edition (now program) (now marks) × (length (now marks) ≡ programBytes) × (sound (lent (now vertices) (now edges) tally) ≡ true) × (tally .steps < stepLimit) × (vertex < tally .made) ⌝ }
+    requires { ⌜ MarksEnds edition (now program) (now ends) × (length (now ends) ≡ programBytes) × (sound (lent (now vertices) (now edges) tally) ≡ true) × (tally .steps < stepLimit) × (vertex < tally .made) ⌝ }
     ensures { λ r. ⌜ r ≡ canStep edition (now (program .entry)) (lent (now (vertices .entry)) (now (edges .entry)) tally) vertex ⌝ }
 {
     if may_start(vertices, vertex as usize) {
@@ -134,7 +106,7 @@ fn can_step(
     if vertices[VERTEX_WORDS * (vertex as usize) + STATUS] != EXECUTING {
         return false;
     }
-    let next = marked_due(program, marks, vertices, tally.made, edition, vertex);
+    let next = ended_due(program, ends, vertices, tally.made, edition, vertex);
     would_take(vertices, edges, tally, next)
 }
 

@@ -18,7 +18,7 @@ use graph::sound::tally_fits;
 use program::Edition;
 use program::ItemRead;
 use program::items::item_at;
-use program::items::item_by_marks;
+use program::items::item_for_looks;
 use refusal::NO_SUCH_VERTEX;
 use refusal::NOTHING_STARTS;
 use refusal::UNSOUND_TABLES;
@@ -33,12 +33,12 @@ ghost use Rattle.graph.specs.declared.Command.the-variants.{NewTd, NewEdge, Rel
 ghost use Rattle.program.specs.Limits.{programBytes};
 ghost use Rattle.program.specs.declared.Edition.the-variants.{First, Second};
 ghost use Rattle.program.specs.Answers.{Stands, stands};
-ghost use Rattle.program.specs.Located.{itemAt, MarksStarts};
+ghost use Rattle.program.specs.Located.{itemAt, MarksEnds};
 ghost use Rattle.machine.specs.Stepping as machine;
 ghost use Rattle.machine.specs.Stepping.{steppable, startDue, due};
 ghost use Rattle.engine.specs.Answers.{ownWords, dueOf};
 ghost use Rattle.engine.specs.Internal.Underway.{DueThere, OwnIn, Next, NextAt, EndNext, JobNext, AsyncNext, ForkNext, ForkLast};
-ghost use Rattle.engine.specs.Internal.Underway.{AlikeAt, AlikeIn, FollowsTo};
+ghost use Rattle.engine.specs.Internal.Underway.{AlikeAt, AlikeIn, FollowsTo, ForceEdge};
 
 // The words of the vertices that the item at hand made.
 pub const FIRST: usize = MADE;
@@ -48,7 +48,7 @@ pub const SECOND: usize = MADE + 1;
 pub const THIRD: usize = MADE + 2;
 
 // A word of a row that names no future.
-const NONE_OPEN: u32 = 0;
+pub(crate) const NONE_OPEN: u32 = 0;
 
 // A step is refused where this many were taken.
 pub const STEP_LIMIT: u32 = 8192;
@@ -117,22 +117,22 @@ pub fn is_steppable(vertices: &[u32], edges: &[u32], tally: Tally) -> bool
     tally.steps < STEP_LIMIT
 }
 
-// What is due at a step of a vertex that executes, in a program whose places are marked where something starts.
-pub(crate) fn marked_due(
+// What is due at a step of a vertex that executes, in a program whose ends these are.
+pub fn ended_due(
     program: &[u8],
-    marks: &[u16],
+    ends: &[u16],
     vertices: &[u32],
     made: u32,
     edition: Edition,
     vertex: u32,
 ) -> Due
-    requires { ⌜ MarksStarts edition (now program) (now marks) × (length (now marks) ≡ programBytes) × (vertex < made) × (vertexWords * made ≤ length (now vertices)) ⌝ }
+    requires { ⌜ MarksEnds edition (now program) (now ends) × (length (now ends) ≡ programBytes) × (vertex < made) × (vertexWords * made ≤ length (now vertices)) ⌝ }
     ensures { λ r. ⌜ DueThere edition (now (program .entry)) (now (vertices .entry)) made vertex (dueOf r) ⌝ }
 {
     let own = own_words(vertices, vertex as usize);
     by_item(
         program,
-        item_by_marks(program, marks, edition, own.place),
+        item_for_looks(program, ends, edition, own.place),
         vertices,
         edition,
         vertex,
@@ -158,7 +158,7 @@ pub fn own_words(vertices: &[u32], vertex: usize) -> Own
 }
 
 // What is due at the step of an executing vertex with these words, where so many vertices are made, and this stands at its place.
-fn by_item(
+pub(crate) fn by_item(
     program: &[u8],
     item: ItemRead,
     vertices: &[u32],
@@ -468,11 +468,7 @@ pub fn force_next(
         return new_td(vertex, past, scope, keeping(own, 0, made));
     }
     if phase == 1 {
-        let forced = followed(vertices, made, own.latest, number);
-        if forced == NONE_OPEN {
-            return Due::Refused(NOTHING_STARTS);
-        }
-        return new_edge(vertex, forced, own.first, onward(own));
+        return force_edge(vertex, own, followed(vertices, made, own.latest, number));
     }
     if phase == 2 {
         return transfer(vertex, own.first, onward(own));
@@ -481,6 +477,17 @@ pub fn force_next(
         return release(vertex, own.first, idle(last, own.latest));
     }
     Due::Refused(NOTHING_STARTS)
+}
+
+// Its second command, where this future is forced.
+pub(crate) fn force_edge(vertex: u32, own: Own, forced: u32) -> Due
+    requires { ⌜ own .phase ≡ 1 ⌝ }
+    ensures { λ r. ⌜ ForceEdge vertex (ownWords own) (own .latest) forced (dueOf r) ⌝ }
+{
+    if forced == NONE_OPEN {
+        return Due::Refused(NOTHING_STARTS);
+    }
+    new_edge(vertex, forced, own.first, onward(own))
 }
 
 // The future that a vertex's word `latest` names, or so many futures further out, each named by the word of the one before it; or

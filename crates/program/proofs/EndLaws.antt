@@ -16,7 +16,7 @@ use Rattle.program.specs.Trees.{Body, end, job, async, finish, fork, fut
 use Rattle.program.specs.Bytes.{endByte, jobByte, asyncByte, finishByte, forkByte, futureByte, forceByte, encode, size}
 use Rattle.program.specs.Reader.{Reading, program, refusal, reading}
 use Rattle.program.specs.Located.{Code, end-at, job-at, async-at, finish-at, fork-at, future-at, force-at, locate, located, startOf, last}
-use Rattle.program.specs.Located.{codeAt, isSome, startsIn, startsAt, endOf, endIn, endAt, MarksEnds, MarksStarts}
+use Rattle.program.specs.Located.{codeAt, isSome, startsIn, startsAt, endOf, endIn, endAt, MarksEnds}
 use Rattle.program.specs.Claims.{Fits, Encoding, encoding}
 use Rattle.program.specs.Internal.Progress.{isRead, opensNumber, inNumber, Outside, Clear, endBy, LooksWithin, Ended}
 use Rattle.program.proofs.LocatedLaws.{here-later, Inner, job-rest, async-body, async-rest, finish-body, finish-rest, fork-left, fork-right}
@@ -328,10 +328,11 @@ ends-read ed bytes ends is ended p lt = go (loads-read ed bytes is)
     go : Loads ed bytes → getD ends p 0 ≡ endAt ed bytes p
     go (loaded b e same long fits) = ended b (fits .fits) same p lt ∙ sym (ap (λ r. endIn r p) e)
 
--- Ends are marks of the places where something starts: where the body ends is past its end byte, and so not 0.
-pub ends-tell-starts : (ed : Edition) (bytes ends : List ℕ) → MarksEnds ed bytes ends → MarksStarts ed bytes ends
+-- Something starts just where the end is not 0: where the body ends is past its end byte.
+pub ends-tell-starts :
+    (ed : Edition) (bytes ends : List ℕ) (p : ℕ) → MarksEnds ed bytes ends → p < length ends → not (eqb (getD ends p 0) 0) ≡ startsAt ed bytes p
 unfolding endAt endIn endOf startsAt startsIn isSome
-ends-tell-starts ed bytes ends marks p lt = ap (λ (n : ℕ). not (eqb n 0)) (marks p lt) ∙ go (reading ed bytes)
+ends-tell-starts ed bytes ends p marks lt = ap (λ (n : ℕ). not (eqb n 0)) (marks p lt) ∙ go (reading ed bytes)
   where
     told : (x : Option Code) → not (eqb (endOf x) 0) ≡ isSome x
     told none = refl

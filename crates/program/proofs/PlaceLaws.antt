@@ -2,12 +2,12 @@
 -- or an end byte starts and where none does.
 use Prim.Native.Nat.{ℕ, _+_, _<_, _≤_}
 use mathlib.Core.Path.{_≡_, refl, sym, ap, _∙_}
-use mathlib.Core.Bool.{Bool, true, false, not, cond, true≢false}
+use mathlib.Core.Bool.{Bool, true, false, not, true≢false}
 use mathlib.Core.List.{List, [], _++_}
 use mathlib.Core.Option.{Option, none, some, Option·none-ne-some}
 use native.Mathlib.Omega.{arith}
-use lib.Dec.{eqb, ltb}
-use lib.ListN.{length, drop, getD, List·getD-eq-default}
+use lib.Dec.{ltb}
+use lib.ListN.{length, drop}
 use borrow.Author.Tests.{ltb-true, ltb-false}
 use Rattle.program.specs.declared.Edition.{Edition}
 use Rattle.program.specs.Limits.{programBytes}
@@ -16,9 +16,9 @@ use Rattle.program.specs.Bytes.{encode, size}
 use Rattle.program.specs.Reader.{Reading, program, refusal, reading}
 use Rattle.refusal.specs.Refusals.{nothing-starts}
 use Rattle.program.specs.Answers.{Stands}
-use Rattle.program.specs.Located.{Code, locate, located, codeAt, head, found, standsIn, itemAt, isSome, startsIn, startsAt, MarksStarts}
+use Rattle.program.specs.Located.{Code, locate, located, codeAt, head, found, standsIn, itemAt, isSome, startsIn, startsAt}
 use Rattle.program.specs.Claims.{Fits, Loadable, Encoding, encoding}
-use Rattle.program.specs.Internal.Progress.{BeginsWithBody, begins, Shows, isRead, inNumber, Outside, Clear}
+use Rattle.program.specs.Internal.Progress.{Shows, isRead, inNumber}
 use Rattle.program.proofs.Exactness.{reading-sound}
 use Rattle.program.proofs.LocatedLaws.{head-locate, item-stands}
 use Rattle.program.proofs.StartLaws.{Placed, placed, code-bytes, starts, starts-within}
@@ -76,23 +76,6 @@ starts-inside ed bytes p is lt = go (loads-read ed bytes is)
     go : Loads ed bytes → not (inNumber bytes p) ≡ startsAt ed bytes p
     go (loaded b e same long fits) =
         ap (λ l. not (inNumber l p)) same ∙ starts b p (fits .fits .numbers) (omega arith) ∙ sym (starts-read ed bytes b p e)
-
--- marks that are all 0 tell it of a program that is refused,
-pub clear-starts : (ed : Edition) (bytes marks : List ℕ) → isRead (reading ed bytes) ≡ false → Clear marks → MarksStarts ed bytes marks
-clear-starts ed bytes marks is clear p lt = ap (λ (m : ℕ). not (eqb m 0)) (clear p lt) ∙ starts-refused ed bytes p is
-
--- and those of the places outside its numbers of one that is read
-pub outside-starts :
-    (ed : Edition) (bytes marks : List ℕ) → isRead (reading ed bytes) ≡ true → Outside bytes marks → MarksStarts ed bytes marks
-outside-starts ed bytes marks is outside p lt = ap (λ (m : ℕ). not (eqb m 0)) (outside p lt) ∙ go (ltb p (length bytes)) refl
-  where
-    unmarked : (t : Bool) → not (eqb (cond t 0 1) 0) ≡ not t
-    unmarked true = refl
-    unmarked false = refl
-
-    go : (t : Bool) → ltb p (length bytes) ≡ t → not (eqb (cond (ltb p (length bytes)) (cond (inNumber bytes p) 0 1) 0) 0) ≡ startsAt ed bytes p
-    go true e = rw e (unmarked (inNumber bytes p)) ∙ starts-inside ed bytes p is (ltb-true p (length bytes) e)
-    go false e = rw e refl ∙ starts-outside ed bytes p is (ltb-false p (length bytes) e)
 
 -- an item or an end byte starts there: the bytes from there on begin with a body, and what that begins with stands there
 data Starts (ed : Edition) (bytes : List ℕ) (p : ℕ) : Type 0 where
@@ -160,16 +143,11 @@ starts-beyond ed bytes p le = go (startsAt ed bytes p) refl
     go true e = absurd (omega (arith, starts-length ed bytes p e))
     go false e = e
 
--- what `item_here` asks
-pub starting-holds :
-    (ed : Edition) (bytes : List ℕ) (p : ℕ) → startsAt ed bytes p ≡ true
-    → BeginsWithBody (part p bytes) × (p + length (part p bytes) ≤ programBytes)
-starting-holds ed bytes p is = go (starts-there ed bytes p is)
-  where
-    go : Starts ed bytes p → BeginsWithBody (part p bytes) × (p + length (part p bytes) ≤ programBytes)
-    go (starting b rest fits tail stands few lt) = (begins b fits rest (part-is p bytes ∙ tail), omega (arith, part-length p bytes))
+-- the bytes from there on end where a program's may
+pub starting-room : (ed : Edition) (bytes : List ℕ) (p : ℕ) → startsAt ed bytes p ≡ true → p + length (part p bytes) ≤ programBytes
+starting-room ed bytes p is = omega (arith, part-length p bytes, starts-length ed bytes p is)
 
--- what it tells stands there
+-- what an item reader tells there stands there
 pub starting-shown :
     (ed : Edition) (bytes : List ℕ) (p : ℕ) (s : Stands) → startsAt ed bytes p ≡ true → Shows (part p bytes) p s → s ≡ itemAt ed bytes p
 starting-shown ed bytes p s is shown = go (starts-there ed bytes p is)
@@ -185,15 +163,3 @@ not-starting ed bytes p is = go (reading ed bytes) is
     go : (r : Reading) → startsIn r p ≡ false → standsIn r p ≡ Stands.refused nothing-starts 0
     go (program b) is = ap found (code-none (codeAt (located b) p) is)
     go (refusal n q) is = refl
-
--- what the mark of a place tells; beyond the marks nothing starts
-pub marked-starts :
-    (ed : Edition) (bytes marks : List ℕ) (p : ℕ) {r : Bool} → MarksStarts ed bytes marks → length marks ≡ programBytes
-    → r ≡ not (eqb (getD marks p 0) 0) → r ≡ startsAt ed bytes p
-marked-starts ed bytes marks p marked full e = e ∙ go (ltb p (length marks)) refl
-  where
-    go : (b : Bool) → ltb p (length marks) ≡ b → not (eqb (getD marks p 0) 0) ≡ startsAt ed bytes p
-    go true h = marked p (ltb-true p (length marks) h)
-    go false h =
-        let beyond : length marks ≤ p = ltb-false p (length marks) h in
-        ap (λ (x : ℕ). not (eqb x 0)) (List·getD-eq-default marks 0 beyond) ∙ sym (starts-beyond ed bytes p (omega arith))

@@ -1,7 +1,7 @@
 -- A tree laid out from an offset on, and what stands at a place.
 use Prim.Native.Nat.{ℕ, zero, suc, _+_, _<_}
 use mathlib.Core.Path.{_≡_}
-use mathlib.Core.Bool.{Bool, true, false, not}
+use mathlib.Core.Bool.{Bool, true, false}
 use mathlib.Core.List.{List, [], _∷_}
 use mathlib.Core.Option.{Option, none, some}
 use lib.Dec.{eqb}
@@ -137,7 +137,3 @@ endAt ed bytes p = endIn (reading ed bytes) p
 -- ends that tell it of each of their places
 abbrev pub MarksEnds : Edition → List ℕ → List ℕ → Type 0
 MarksEnds ed bytes ends = (p : ℕ) → p < length ends → getD ends p 0 ≡ endAt ed bytes p
-
--- marks that are 0 just where no item or end byte starts
-abbrev pub MarksStarts : Edition → List ℕ → List ℕ → Type 0
-MarksStarts ed bytes marks = (p : ℕ) → p < length marks → not (eqb (getD marks p 0) 0) ≡ startsAt ed bytes p

@@ -11,7 +11,6 @@ use crate::format::FORK;
 use crate::format::FUTURE;
 use crate::format::JOB;
 use crate::format::PROGRAM_BYTES;
-use crate::starts::clear;
 use crate::starts::opens_number;
 use refusal::NOTHING_STARTS;
 use refusal::Refusal;
@@ -22,7 +21,7 @@ ghost use Rattle.program.specs.Limits.{programBytes};
 ghost use Rattle.program.specs.Located.{itemAt, MarksEnds};
 ghost use Rattle.program.specs.Answers.{stands, readerAt, handedBack, movedPast};
 ghost use Rattle.program.specs.Claims.{Encoding};
-ghost use Rattle.program.specs.Internal.Progress.{Outside, Ended, endBy, LooksWithin, BeginsEnded, Shows};
+ghost use Rattle.program.specs.Internal.Progress.{Outside, Clear, Ended, endBy, LooksWithin, BeginsEnded, Shows};
 
 // Where the body ends, from every place of a program on at once: past its end byte. Where no item or end byte starts this is 0, as all ends
 // handed in are.
@@ -35,6 +34,15 @@ pub fn mark_ends(program: &[u8], edition: Edition, ends: &mut [u16])
         return;
     }
     fill_ends(program, ends);
+}
+
+// Sets all marks to 0.
+fn clear(marks: &mut [u16])
+    ensures { λ _. ⌜ (length (now (marks .exit)) ≡ length (now (marks .entry))) × Clear (now (marks .exit)) ⌝ }
+{
+    for i in 0..marks.len() {
+        marks[i] = 0;
+    }
 }
 
 // Turns the marks into ends, from the last place to the first. `after` is the end from the lowest place on where something starts, of those

@@ -11,50 +11,49 @@ use crate::format::FORCE;
 use crate::format::FORK;
 use crate::format::FUTURE;
 use crate::format::JOB;
+use crate::format::PROGRAM_BYTES;
 use crate::numbers::number_end;
 use crate::starts::starts_at;
 use refusal::NOTHING_STARTS;
 use refusal::Refusal;
 ghost use mathlib.Core.Path.{_≡_};
-ghost use mathlib.Core.Bool.{not};
 ghost use Prim.Native.Nat.{_+_, _≤_};
-ghost use lib.Dec.{eqb};
-ghost use lib.ListN.{length, getD};
+ghost use lib.ListN.{length};
 ghost use Rattle.program.specs.Limits.{programBytes};
-ghost use Rattle.program.specs.Located.{itemAt, startsAt, MarksStarts};
+ghost use Rattle.program.specs.Located.{itemAt, startsAt, MarksEnds};
 ghost use Rattle.program.specs.Answers.{Stands, stands, readerAt, handedBack, movedPast};
-ghost use Rattle.program.specs.Internal.Progress.{BeginsWithBody, Shows, ShowsNumbered, Sized};
+ghost use Rattle.program.specs.Internal.Progress.{BeginsWithBody, BeginsEnded, EndTold, Shows, ShowsNumbered, Sized};
 
 // What stands at a place of a program, with a reader moved past it that has seen nothing; refused where the program is, and where no item
 // or end byte starts.
 pub fn item_at(program: &[u8], edition: Edition, place: u32) -> ItemRead
     ensures { λ r. ⌜ (stands r ≡ itemAt edition (now (program .entry)) place) × (handedBack r ≡ movedPast (readerAt place) (stands r)) ⌝ }
 {
-    item_if_starts(program, edition, place, starts_at(program, edition, place))
+    let no_ends: [u16; 0] = [];
+    let starts = starts_at(program, edition, place);
+    item_if_starts(program, &no_ends, edition, place, starts)
 }
 
-// The same, in a program whose places are marked where something starts.
-pub fn item_by_marks(program: &[u8], marks: &[u16], edition: Edition, place: u32) -> ItemRead
-    requires { ⌜ MarksStarts edition (now program) (now marks) × (length (now marks) ≡ programBytes) ⌝ }
+// The same for a look, in a program whose ends these are: without a search. The loop of a walk has a reader of its own (`ends::item_by_ends`):
+// what has one caller is compiled into it.
+pub fn item_for_looks(program: &[u8], ends: &[u16], edition: Edition, place: u32) -> ItemRead
+    requires { ⌜ MarksEnds edition (now program) (now ends) × (length (now ends) ≡ programBytes) ⌝ }
     ensures { λ r. ⌜ (stands r ≡ itemAt edition (now (program .entry)) place) × (handedBack r ≡ movedPast (readerAt place) (stands r)) ⌝ }
 {
-    item_if_starts(program, edition, place, is_marked(marks, place))
+    let from = place as usize;
+    let starts = from < PROGRAM_BYTES && ends[from] != 0;
+    item_if_starts(program, ends, edition, place, starts)
 }
 
-// Beyond the marks nothing is marked.
-fn is_marked(marks: &[u16], place: u32) -> bool
-    ensures { λ r. ⌜ r ≡ not (eqb (getD (now (marks .entry)) place 0) 0) ⌝ }
-{
-    let at = place as usize;
-    if marks.len() <= at {
-        return false;
-    }
-    marks[at] != 0
-}
-
-// The same, told whether an item or an end byte starts at the place.
-fn item_if_starts(program: &[u8], edition: Edition, place: u32, starts: bool) -> ItemRead
-    requires { ⌜ starts ≡ startsAt edition (now program) place ⌝ }
+// The same, told whether an item or an end byte starts at the place, and the program's ends or none.
+fn item_if_starts(
+    program: &[u8],
+    ends: &[u16],
+    edition: Edition,
+    place: u32,
+    starts: bool,
+) -> ItemRead
+    requires { ⌜ MarksEnds edition (now program) (now ends) × (starts ≡ startsAt edition (now program) place) ⌝ }
     ensures { λ r. ⌜ (stands r ≡ itemAt edition (now (program .entry)) place) × (handedBack r ≡ movedPast (readerAt place) (stands r)) ⌝ }
 {
     if !starts {
@@ -64,7 +63,7 @@ fn item_if_starts(program: &[u8], edition: Edition, place: u32, starts: bool) ->
         });
     }
     let from = place as usize;
-    Reader::at(place).item_here(&program[from..])
+    Reader::at(place).item_here(&program[from..], ends)
 }
 
 impl Reader {
@@ -87,9 +86,9 @@ impl Reader {
     }
 
     // What stands at this reader's place, where `bytes` start: the bytes of a body, or of what is left of one. The reader is handed back
-    // moved past it. What it has seen stays: the bodies' ends are searched for, and nothing is counted.
-    pub fn item_here(self, bytes: &[u8]) -> ItemRead
-        requires { ⌜ BeginsWithBody (now bytes) × (self .place + length (now bytes) ≤ programBytes) ⌝ }
+    // moved past it. What it has seen stays: `ends` tell where the bodies there end, or that is searched for, and nothing is counted.
+    fn item_here(self, bytes: &[u8], ends: &[u16]) -> ItemRead
+        requires { ⌜ BeginsEnded (now bytes) (self .place) (now ends) × (self .place + length (now bytes) ≤ programBytes) ⌝ }
         ensures { λ r. ⌜ Shows (now (bytes .entry)) (self .place) (stands r) × (handedBack r ≡ movedPast self (stands r)) ⌝ }
     {
         let first = bytes[0];
@@ -105,7 +104,7 @@ impl Reader {
             return self.force_here(bytes);
         }
         let body = self.place + 1;
-        let behind = 1 + body_size(&bytes[1..]);
+        let behind = 1 + size_there(&bytes[1..], body, ends);
         let past = self.moved(behind as u32);
         if first == ASYNC {
             return ItemRead::Async { body, past };
@@ -119,7 +118,7 @@ impl Reader {
         ItemRead::Fork {
             left: body,
             right: past.place,
-            past: past.moved(body_size(&bytes[behind..]) as u32),
+            past: past.moved(size_there(&bytes[behind..], past.place, ends) as u32),
         }
     }
 
@@ -148,7 +147,19 @@ impl Reader {
     }
 }
 
-// The number of bytes of the body that `bytes` start with: the search for its end.
+// The number of bytes of the body that `bytes` start with, at a place: told by its end, or by a search where none is told.
+fn size_there(bytes: &[u8], place: u32, ends: &[u16]) -> usize
+    requires { ⌜ BeginsWithBody (now bytes) × EndTold (now bytes) place (now ends) ⌝ }
+    ensures { λ r. ⌜ Sized (now (bytes .entry)) r ⌝ }
+{
+    let at = place as usize;
+    if ends.len() <= at {
+        return body_size(bytes);
+    }
+    ends[at] as usize - at
+}
+
+// The same without ends: the search for the body's end.
 fn body_size(bytes: &[u8]) -> usize
     requires { ⌜ BeginsWithBody (now bytes) ⌝ }
     ensures { λ r. ⌜ Sized (now (bytes .entry)) r ⌝ }

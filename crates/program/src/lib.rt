@@ -1,9 +1,9 @@
 // Reading programs: the bytes of a program to its items, their counts, and the refusals of its writer.
 //
 // `reading::read` reads a whole program, `items::item_at` tells what stands at a place of it. Neither asks anything of the bytes.
-// `Reader::item_here`, the item reader of a step, serves the engine; so do `ends::mark_ends`, which tells of every place at once where its body ends,
-// and `ends::item_by_ends`, which then tells what stands at a place without a search. `starts::mark_starts` tells of every place whether something
-// starts there. `mark_ends`, `mark_starts` and `item_at` need only know whether the program is read, which `checks::check` tells in one pass.
+// `ends::mark_ends` tells of every place at once where its body ends; with these ends `items::item_for_looks` and, for the loop of a walk alone,
+// `ends::item_by_ends` tell what stands at a place without a search. `mark_ends` and `item_at` need only know whether the program is read, which
+// `checks::check` tells in one pass.
 mod bodies;
 mod checks;
 pub mod ends;
@@ -11,7 +11,7 @@ pub mod format;
 pub mod items;
 mod numbers;
 pub mod reading;
-pub mod starts;
+mod starts;
 
 use refusal::Refusal;
 

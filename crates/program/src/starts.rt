@@ -6,14 +6,13 @@ use crate::format::JOB;
 use crate::format::TOP_BIT;
 ghost use mathlib.Core.Path.{_≡_};
 ghost use Prim.Native.Nat.{_≤_};
-ghost use lib.ListN.{length, replicate};
-ghost use Rattle.program.specs.Limits.{programBytes};
-ghost use Rattle.program.specs.Located.{startsAt, MarksStarts};
+ghost use lib.ListN.{length};
+ghost use Rattle.program.specs.Located.{startsAt};
 ghost use Rattle.program.specs.Claims.{Encoding};
-ghost use Rattle.program.specs.Internal.Progress.{opensNumber, inNumber, Clear};
+ghost use Rattle.program.specs.Internal.Progress.{opensNumber, inNumber};
 
 // Whether an item or an end byte starts at a place of a program.
-pub fn starts_at(program: &[u8], edition: Edition, place: u32) -> bool
+pub(crate) fn starts_at(program: &[u8], edition: Edition, place: u32) -> bool
     ensures { λ r. ⌜ r ≡ startsAt edition (now (program .entry)) place ⌝ }
 {
     let mut no_marks = [0u16; 1];
@@ -25,25 +24,6 @@ pub fn starts_at(program: &[u8], edition: Edition, place: u32) -> bool
         return false;
     }
     !in_number(program, at)
-}
-
-// Marks every place of a program where an item or an end byte starts. All marks handed in are 0, and those of the other places stay so.
-pub fn mark_starts(program: &[u8], edition: Edition, marks: &mut [u16])
-    requires { ⌜ now marks ≡ replicate programBytes 0 ⌝ }
-    ensures { λ _. ⌜ (length (now (marks .exit)) ≡ programBytes) × MarksStarts edition (now (program .entry)) (now (marks .exit)) ⌝ }
-{
-    if !check(program, edition, marks) {
-        clear(marks);
-    }
-}
-
-// Sets all marks to 0.
-pub(crate) fn clear(marks: &mut [u16])
-    ensures { λ _. ⌜ (length (now (marks .exit)) ≡ length (now (marks .entry))) × Clear (now (marks .exit)) ⌝ }
-{
-    for i in 0..marks.len() {
-        marks[i] = 0;
-    }
 }
 
 // The byte is a job's first or a force's, unless it is itself one of a number.

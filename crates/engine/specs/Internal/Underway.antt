@@ -56,6 +56,10 @@ unlessZero (suc t) = some (suc t)
 abbrev pub FollowsTo : List ℕ → ℕ → ℕ → ℕ → ℕ → Type 0
 FollowsTo t made word n r = (s : Lent) → s .vertices ≡ t → s .made ≡ made → unlessZero r ≡ outwards s word n
 
+-- d is due at a force's newEdge where the vertex's word is l, whatever is forced, if r tells it
+abbrev pub ForceEdge : ℕ → Own → ℕ → ℕ → Due → Type 0
+ForceEdge v w l r d = (t : List ℕ) (L σ made n past : ℕ) → FollowsTo t made l n r → AlikeIn t L v σ w made (Stands.force n past) d
+
 -- w are vertex k's own words in a table
 abbrev pub OwnIn : List ℕ → ℕ → Own → Type 0
 OwnIn t k w = (s : Lent) → s .vertices ≡ t → w ≡ ownOf s k

@@ -171,11 +171,15 @@ LooksWithin first after ends =
 abbrev pub Ended : List ℕ → List ℕ → Type 0
 Ended xs ends = (b : Body) → Fits b → xs ≡ encode b → (p : ℕ) → p < length ends → getD ends p 0 ≡ endOf (codeAt (located b) p)
 
--- ends that tell it of each place of this code where something starts
+-- ends that tell it of each of their places where something of this code starts; they may be none
 abbrev pub EndsIn : List ℕ → Code → Type 0
-EndsIn ends m = (q : ℕ) (c : Code) → codeAt m q ≡ some c → getD ends q 0 ≡ suc (last c)
+EndsIn ends m = (q : ℕ) (c : Code) → q < length ends → codeAt m q ≡ some c → getD ends q 0 ≡ suc (last c)
 
 -- these bytes begin with a body's, laid out from p on, and these ends tell where the bodies in it end
 pub data BeginsEnded (xs : List ℕ) (p : ℕ) (ends : List ℕ) : Type 0 where
   begins-ended :
       (opened : List Code) (b : Body) → Fits b → (rest : List ℕ) → xs ≡ encode b ++ rest → EndsIn ends (locate opened p b) → BeginsEnded xs p ends
+
+-- the end that is told of p, where these bytes start, if one is told: that of the body that they begin with
+abbrev pub EndTold : List ℕ → ℕ → List ℕ → Type 0
+EndTold xs p ends = p < length ends → (p ≤ getD ends p 0) × Sized xs (getD ends p 0 - p)

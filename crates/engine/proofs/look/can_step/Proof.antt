@@ -30,7 +30,7 @@ returns-2 c =
 returns-3 : tie.Need-returns-3
 returns-3 c =
     let start = c .before .before .before .before .before .before .before .before .before .before in
-    sym (executing-can _ _ _ _ (start .pre .2) (start .pre .3) (start .pre .4) (c .before .before .if2 .left) (c .before .marked-due .ensures) (c .would-take .ensures))
+    sym (executing-can _ _ _ _ (start .pre .2) (start .pre .3) (start .pre .4) (c .before .before .if2 .left) (c .before .ended-due .ensures) (c .would-take .ensures))
 
 pub can-step-spec : {M : Type 1} → statement M
 can-step-spec =

@@ -34,21 +34,21 @@ forked c =
 returns-4 : tie.Need-returns-4
 returns-4 c =
     let first = held (c .before .before .before) in (
-      shows-async _ _ _ (c .if4 .taken) (first .sized) (c .before .placed .ensures .0 ∙ first .is),
+      shows-async _ _ _ (c .if4 .taken) (first .sized) (c .before .placed .ensures .0 ∙ first .is (omega (arith, first .starts))),
       handed _ refl (c .before .placed .ensures .1),
     )
 
 returns-5 : tie.Need-returns-5
 returns-5 c =
     let first = held (c .before .before .before .before) in (
-      shows-finish _ _ _ (c .if5 .taken) (first .sized) (c .before .before .placed .ensures .0 ∙ first .is),
+      shows-finish _ _ _ (c .if5 .taken) (first .sized) (c .before .before .placed .ensures .0 ∙ first .is (omega (arith, first .starts))),
       handed _ refl (c .before .before .placed .ensures .1),
     )
 
 returns-6 : tie.Need-returns-6
 returns-6 c =
     let first = held (c .before .before .before .before .before) in (
-      shows-future _ _ _ (c .if6 .taken) (first .sized) (c .before .before .before .placed .ensures .0 ∙ first .is),
+      shows-future _ _ _ (c .if6 .taken) (first .sized) (c .before .before .before .placed .ensures .0 ∙ first .is (omega (arith, first .starts))),
       handed _ refl (c .before .before .before .placed .ensures .1),
     )
 
@@ -57,8 +57,8 @@ returns-7 c =
     let both = forked (c .before .before) in
     let right = c .before .before .before .before .before .placed .ensures .0 in (
       shows-fork _ _ _ _ (omega (arith, begun (c .before .before .before .before .before .before .before .before .before .before .before)))
-          (both .left .sized) (both .right .sized) (right ∙ both .left .is)
-          (c .placed2 .ensures .0 ∙ fork-past _ _ _ both ∙ ap (λ k. k + both .right .t) (sym right)),
+          (both .left .sized) (both .right .sized) (right ∙ both .left .is (omega (arith, both .left .starts)))
+          (c .placed2 .ensures .0 ∙ fork-past _ _ _ both (omega arith) ∙ ap (λ k. k + both .right .t) (sym right)),
       handed _ refl (c .placed2 .ensures .1),
     )
 
@@ -76,15 +76,17 @@ item-ended-spec =
     (λ c. search needs)
     (λ c. search needs)
     (λ c. search needs)
-    (λ c. omega (arith, held (c .before)))
-    (λ c. omega (arith, held (c .before)))
+    (λ c. omega (arith, held (c .before) .starts))
+    (λ c. let first = held (c .before) in omega (arith, first .is (omega (arith, first .starts)), first .within))
     (λ c κs. search needs)
     returns-4
     returns-5
     returns-6
     (λ c. search needs)
     (λ c. search needs)
-    (λ c. omega (arith, forked (c .before) .left, forked (c .before) .right))
-    (λ c. omega (arith, fork-past _ _ _ (forked (c .before)), forked (c .before) .left, forked (c .before) .right))
+    (λ c. let both = forked (c .before) in omega (arith, both .left .is (omega (arith, both .left .starts)), both .right .starts))
+    (λ c.
+    let both = forked (c .before) in
+    omega (arith, both .left .is (omega (arith, both .left .starts)), fork-past _ _ _ both (omega arith), both .right .within))
     (λ c κs. search needs)
     returns-7)

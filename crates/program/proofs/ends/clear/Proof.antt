@@ -4,8 +4,8 @@ use mathlib.Core.Path.{_≡_, refl}
 use native.Mathlib.Omega.{arith}
 use lib.ListN.{length, length-set}
 use Rattle.program.proofs.MarkLaws.{ClearTo, clear-more}
-use Rattle.program.proofs.starts.clear.Statement.{statement}
-use Rattle.program.proofs.starts.clear.Tie as tie
+use Rattle.program.proofs.ends.clear.Statement.{statement}
+use Rattle.program.proofs.ends.clear.Tie as tie
 
 abbrev Inv-loop : tie.InvT-loop
 Inv-loop marks₀ i₀ i-end marks i = (i-end ≡ length marks₀) × (length marks ≡ length marks₀) × ClearTo marks i
