@@ -14,6 +14,7 @@
 --     Widening     who may step after a command, and could not before
 --     CommandLaws  the refusals of a caller that executes, and the two ways in which a command on an index ends
 --     EdgeCommands the commands that change edges
+--     LookLaws     whether a command would be accepted, and what it hinges on
 pub mod RowLaws
 pub mod KeptLaws
 pub mod StandsFor
@@ -28,3 +29,4 @@ pub mod SearchLaws
 pub mod Widening
 pub mod CommandLaws
 pub mod EdgeCommands
+pub mod LookLaws

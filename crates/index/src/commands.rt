@@ -135,7 +135,13 @@ fn new_edge(
 }
 
 // The refusals that an edge's ends cause: 20, 33, which spares the caller.
-fn ends_refusal(vertices: &[u32], course: Course, caller: u32, source: u32, target: u32) -> u32
+pub(crate) fn ends_refusal(
+    vertices: &[u32],
+    course: Course,
+    caller: u32,
+    source: u32,
+    target: u32,
+) -> u32
     requires { ⌜ Executes (now vertices) course caller × (course .tally .made ≤ vertexRows (now vertices)) ⌝ }
     ensures { λ r. ⌜ ((e : List ℕ) → sound (lent (now (vertices .entry)) e (course .tally)) ≡ true → r ≡ endsRefusal (lent (now (vertices .entry)) e (course .tally)) caller source target 0) ⌝ }
 {
@@ -157,7 +163,13 @@ fn ends_refusal(vertices: &[u32], course: Course, caller: u32, source: u32, targ
 }
 
 // An edge from `source` to `target` adds nothing: its source is finished, or it is held already.
-fn adds_nothing(vertices: &[u32], index: &[u32], course: Course, source: u32, target: u32) -> bool
+pub(crate) fn adds_nothing(
+    vertices: &[u32],
+    index: &[u32],
+    course: Course,
+    source: u32,
+    target: u32,
+) -> bool
     requires { ⌜ Indexed (now index) (course .used) × (course .tally .held ≡ liveRows (now index) (course .used)) ⌝ }
     requires { ⌜ (source < course .tally .made) × (course .tally .made ≤ vertexRows (now vertices)) ⌝ }
     ensures { λ r. ⌜ ((e : List ℕ) → r ≡ addsNothing (stateOf (now (vertices .entry)) (now (index .entry)) course e) source target) ⌝ }
@@ -169,7 +181,13 @@ fn adds_nothing(vertices: &[u32], index: &[u32], course: Course, source: u32, ta
 }
 
 // The refusals of an edge that is to be appended: 35, 32.
-fn append_refusal(index: &[u32], limit: u32, course: Course, source: u32, target: u32) -> u32
+pub(crate) fn append_refusal(
+    index: &[u32],
+    limit: u32,
+    course: Course,
+    source: u32,
+    target: u32,
+) -> u32
     requires { ⌜ Indexed (now index) (course .used) × (course .tally .held ≡ liveRows (now index) (course .used)) ⌝ }
     requires { ⌜ (course .tally .held ≤ course .peak) × (course .peak ≤ limit) × (source < usableLimit) × (target < usableLimit) ⌝ }
     ensures { λ r. ⌜ ((e : List ℕ) → edgeRows e ≡ limit → r ≡ appendRefusal (tableOf (now (index .entry)) (course .used) (course .peak) e) (course .tally .held) source target) ⌝ }
@@ -263,7 +281,7 @@ fn transfer(
 }
 
 // transfer: 20, 37, 38, 35.
-fn transfer_refusal(
+pub(crate) fn transfer_refusal(
     vertices: &[u32],
     index: &[u32],
     course: Course,

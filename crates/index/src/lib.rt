@@ -3,6 +3,7 @@
 // without a look at the others, and hands the edges that are left back at its end.
 pub mod commands;
 pub mod layout;
+pub mod looks;
 pub mod rows;
 pub mod search;
 
@@ -30,4 +31,15 @@ pub struct Lowered {
     pub dropped: u32,
     pub lowest: u32,
     pub highest: u32,
+}
+
+// What a command hinges on: nothing that is asked of many vertices at once, or a pair. Where no row leads from `goal` to `start`, it is refused if a
+// path leads from `start` to `goal`, or, where it `appends` a row, if none is left.
+pub enum Asked {
+    Nothing,
+    Pair {
+        start: u32,
+        goal: u32,
+        appends: bool,
+    },
 }
