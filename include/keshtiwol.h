@@ -51,7 +51,7 @@ extern "C" {
  * meaning of an answer), the second where something is added, the third otherwise. */
 #define KESHTIWOL_VERSION_MAJOR 4
 #define KESHTIWOL_VERSION_MINOR 2
-#define KESHTIWOL_VERSION_PATCH 0
+#define KESHTIWOL_VERSION_PATCH 1
 /* As one number. */
 #define KESHTIWOL_VERSION (10000 * KESHTIWOL_VERSION_MAJOR + 100 * KESHTIWOL_VERSION_MINOR + KESHTIWOL_VERSION_PATCH)
 

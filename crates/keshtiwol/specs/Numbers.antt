@@ -200,6 +200,6 @@ abbrev pub ChainReplied : ChainOutcome → Reply → List ℕ → Type 0
 ChainReplied o r list = (replyNumbers r ≡ chainNumbers (o .answer)) × (list ≡ o .list)
 
 -- VERSION
--- 4.2.0: 10,000 times the first number, 100 times the second, and the third
+-- 4.2.1: 10,000 times the first number, 100 times the second, and the third
 unfoldable pub version : ℕ
-version = 40200
+version = 40201

@@ -21,7 +21,7 @@ ghost use Rattle.chains.specs.Showing.{showChain};
 ghost use Rattle.keshtiwol.specs.Numbers.{OpenReplied, Commanded, LoadReplied, Replied, RunReplied, DispatchReplied, LowestReplied, ChainReplied, byNumbers, editionOf, loadIn, stepIn, runIn, dispatchIn, choiceIn, version};
 
 // 10,000 times the major number, 100 times the minor one, and the patch's.
-pub const VERSION: u32 = 40_200;
+pub const VERSION: u32 = 40_201;
 
 // What was said, and its values: vertices, a job's number and offset, or a refusal's number and place. `replies` has the numbers.
 #[repr(C)]

@@ -1,7 +1,6 @@
 -- What a dispatch makes of a walk that hands jobs out, and how it ends.
 --
---     ends-done, ends-idle, ends-full, ends-spent      how it ends, by what is found where it stops
---     idle-found, idle-none                            where no vertex that is not busy can step
+--     ends-same, ends-told                             how it ends, by what is found where it stops
 --     dispatch-stops                                   it ends where its walk does
 --     dispatch-turned, dispatch-short                  its refusals, by 12 and by 44
 --     dispatched                                       what it answers and leaves
@@ -29,56 +28,31 @@ use Rattle.machine.specs.Dispatching.{lowestFree, Desk, desk, marksOf, listOf, 
 use Rattle.machine.specs.Dispatching.{Ending, done, full, spent, refused, Outcome, ended, look, lookAt, dispatchOn, dispatch}
 use Rattle.machine.specs.Traces.{Dispatched}
 use Rattle.machine.proofs.LookLaws.{finished-none}
+use Rattle.looks.specs.Looking.{found}
+use Rattle.walks.proofs.WalkLaws.{none-free}
 use Rattle.walks.specs.declared.Walked.{Walked}
-use Rattle.walks.specs.Internal.Endings.{whenIdle, dispatchEnds, dispatchRests}
+use Rattle.walks.specs.Internal.Endings.{dispatchEnds, dispatchRests}
 use Rattle.walks.specs.Internal.Walking.{Came, begun, further, WalkedTo}
 
 -- HOW IT ENDS, BY WHAT IS FOUND
--- no vertex that is not busy can step: a busy one can,
-pub idle-found : (o : Option ℕ) (v : ℕ) → o ≡ some v → Ending.waiting ≡ whenIdle o
-unfolding whenIdle
-idle-found o v is = rw is refl
+-- by what is known of each test
+pub ends-same :
+    {all any free row s a f r : Bool} → all ≡ s → any ≡ a → free ≡ f → row ≡ r → dispatchEnds s a f r ≡ dispatchEnds all any free row
+ends-same p q t u = rw (p, q, t, u) refl
 
--- or none
-pub idle-none : (o : Option ℕ) → o ≡ none → Ending.stuck ≡ whenIdle o
-unfolding whenIdle
-idle-none o is = rw is refl
-
--- whether all vertices are finished, as the code sees it
-all-seen : (s : Lent) {r b : Bool} → r ≡ every (λ k. eqb (status (s .vertices) k) FINISHED) (s .made) → r ≡ b → allFinished s ≡ b
+-- as the code tells it
+pub ends-told :
+    (ed : Edition) (bytes : List ℕ) (s : Lent) (marks : List ℕ) {e : Ending} {any free row left : Bool}
+    → e ≡ dispatchEnds (every (λ k. eqb (status (s .vertices) k) FINISHED) (s .made)) any free row → any ≡ found (lowest ed bytes s)
+    → free ≡ found (lowestFree ed bytes s marks) → row ≡ left → e ≡ dispatchRests ed bytes s marks left
 unfolding allFinished
-all-seen s p q = sym p ∙ q
-
-module _ (s : Lent) {seen : Bool} (is-seen : seen ≡ every (λ k. eqb (status (s .vertices) k) FINISHED) (s .made)) (any free : Option ℕ) (row : Bool) where
-  -- all vertices are finished,
-  pub ends-done : seen ≡ true → done ≡ dispatchEnds (allFinished s) any free row
-  unfolding dispatchEnds
-  ends-done all = rw (all-seen s is-seen all) refl
-
-  -- no vertex that is not busy can step,
-  pub ends-idle : {e : Ending} → seen ≡ false → free ≡ none → e ≡ whenIdle any → e ≡ dispatchEnds (allFinished s) any free row
-  unfolding dispatchEnds
-  ends-idle live is told = rw (all-seen s is-seen live, is) told
-
-  -- or one can, and the list is full or not
-  pub ends-full : (v : ℕ) → seen ≡ false → free ≡ some v → row ≡ false → full ≡ dispatchEnds (allFinished s) any free row
-  unfolding dispatchEnds
-  ends-full v live is none-left = rw (all-seen s is-seen live, is, none-left) refl
-
-  pub ends-spent : (v : ℕ) → seen ≡ false → free ≡ some v → row ≡ true → spent ≡ dispatchEnds (allFinished s) any free row
-  unfolding dispatchEnds
-  ends-spent v live is one-left = rw (all-seen s is-seen live, is, one-left) refl
+ends-told ed bytes s marks is p q r = rw (sym p, sym q, sym r) is
 
 -- A LOOK
 module _ (ed : Edition) (bytes : List ℕ) where
-  -- where nobody can step, nobody can who is not busy
-  none-free : (s : Lent) (marks : List ℕ) → lowest ed bytes s ≡ none → lowestFree ed bytes s marks ≡ none
-  unfolding lowest lowestFree
-  none-free s marks h = none-is _ (s .made) (λ u lt. both-false-left _ (none-holds _ (s .made) h u lt))
-
   -- so somebody can where one can who is not busy, and not all are finished
   one-free : (s : Lent) (marks : List ℕ) (v : ℕ) → lowestFree ed bytes s marks ≡ some v → lowest ed bytes s ≡ none → ⊥
-  one-free s marks v h none-can = Option·none-ne-some v (sym (none-free s marks none-can) ∙ h)
+  one-free s marks v h none-can = Option·none-ne-some v (sym (none-free ed bytes s marks none-can) ∙ h)
 
   not-all : (s : Lent) (marks : List ℕ) (v : ℕ) → lowestFree ed bytes s marks ≡ some v → allFinished s ≡ false
   not-all s marks v h = not-so (allFinished s) (λ all. one-free s marks v h (finished-none ed bytes s all))
@@ -108,8 +82,8 @@ module _ (ed : Edition) (bytes : List ℕ) where
   look-stops :
       (again : Lent → Desk → ℕ → Outcome) (budget : ℕ) (s : Lent) (d : Desk) (taken : ℕ) (all : Bool) (any free : Option ℕ) (row : Bool)
       → (any ≡ none → free ≡ none) → Stops budget free row
-      → look ed bytes again budget s d taken all any free row ≡ ended (dispatchEnds all any free row) taken s d
-  unfolding look dispatchEnds whenIdle
+      → look ed bytes again budget s d taken all any free row ≡ ended (dispatchEnds all (found any) (found free) row) taken s d
+  unfolding look dispatchEnds found
   look-stops again budget s d taken true any free row idle stops = refl
   look-stops again budget s d taken false none none row idle stops = refl
   look-stops again budget s d taken false none (some v) row idle stops = absurd (Option·none-ne-some v (sym (idle refl)))
@@ -124,8 +98,8 @@ module _ (ed : Edition) (bytes : List ℕ) where
       → dispatchOn ed bytes budget s d taken
       ≡ ended (dispatchRests ed bytes s (marksOf d) (ltb (handedOf d) (room (listOf d)))) taken s d
   unfolding dispatchOn lookAt
-  stops-here zero s d taken stops = look-stops _ 0 s d taken _ _ _ _ (none-free s (marksOf d)) stops
-  stops-here (suc budget) s d taken stops = look-stops (dispatchOn ed bytes budget) (suc budget) s d taken _ _ _ _ (none-free s (marksOf d)) stops
+  stops-here zero s d taken stops = look-stops _ 0 s d taken _ _ _ _ (none-free ed bytes s (marksOf d)) stops
+  stops-here (suc budget) s d taken stops = look-stops (dispatchOn ed bytes budget) (suc budget) s d taken _ _ _ _ (none-free ed bytes s (marksOf d)) stops
 
 -- ITS WALK
 -- a dispatch from its start is the dispatch that goes on from where its walk has come to

@@ -1,14 +1,12 @@
 -- The open vertices, which may step, as far as their own rows tell, and are neither busy nor shut: finding the first of them, where the others
 -- are, and that the lowest vertex that can step and is not busy is among them.
 --
---     free-as-marked, open-as-told            one that may step is free as its mark says, and open as the table of the shut says
---     NoneOpen, one-more                      none is open from a number on, below another
 --     low-first, skip-first                   the first one is `low`, or is looked for from `skip` on
 --     from-first, settles, idle-place         where the candidates are, from the first one on and after a step
---     none-shut                               where nobody is shut
---     made-rows, still-ready, may-here        what a step asks for
---     Looked, look-begins, nearer             looking at the open vertices one after the other
---     turned-over, taken-next, none-next      a step is refused, or accepted; all vertices are looked at
+--     still-ready, may-here                   what a step asks for
+--     Looked, look-begins                     looking at the open vertices one after the other
+--     left-tables, turned-over                a step is refused
+--     taken-next, none-next                   it is accepted; all vertices are looked at
 use Prim.Native.Nat.{ℕ, _+_, _*_, _-_, _<_, _≤_, max}
 use mathlib.Core.Path.{_≡_, refl, sym, _∙_, ap, subst}
 use mathlib.Core.Bool.{Bool, true, false, not}
@@ -38,34 +36,15 @@ use Rattle.walks.specs.declared.Candidates.{Candidates}
 use Rattle.walks.specs.declared.Moved.{Moved}
 use Rattle.engine.specs.Answers.{said}
 use Rattle.engine.specs.Internal.Underway.{mayStart}
-use Rattle.walks.specs.Internal.Walking.{StepsOn, isFree, isOpen, Barred, OpensNobody, ShutAsTold, Covers, FirstOpen, StillCovers}
+use Rattle.looks.specs.Looking.{isFree, isOpen, Barred, FirstOpen, CannotOn, Shuts}
+use Rattle.looks.proofs.OpenLaws.{shut-here, none-shut, shuts-one, shuts-both, still-open}
+use Rattle.looks.proofs.OwnDue.{made-rows}
+use Rattle.looks.proofs.LookLaws.{unopen, shuts-barred}
+use Rattle.walks.specs.Internal.Walking.{StepsOn, OpensNobody, ShutAsTold, Covers, StillCovers}
 use Rattle.walks.specs.Internal.Walking.{Settles, Reopens, Took}
 use Rattle.engine.proofs.DueLaws.{both-skip}
 use Rattle.engine.proofs.CandidateLaws.{both-fails, barred}
 use Rattle.engine.proofs.LowestLaws.{canNow, NoneNow}
-
--- WHO IS FREE
-not-not : (b : Bool) → b ≡ not (not b)
-not-not true = refl
-not-not false = refl
-
--- one that may step is free as its mark says
-pub free-as-marked : (v marks : List ℕ) (u : ℕ) {b : Bool} → mayStep v u ≡ true → b ≡ eqb (getD marks u 0) 0 → b ≡ isFree v marks u
-free-as-marked v marks u may h = h ∙ (not-not (eqb (getD marks u 0) 0) ∙ both-skip (not (isBusy marks u)) may)
-
--- a free one is open as the table of the shut says
-pub open-as-told : (v marks shut : List ℕ) (u : ℕ) {b : Bool} → isFree v marks u ≡ true → b ≡ eqb (getD shut u 0) 0 → b ≡ isOpen v marks shut u
-open-as-told v marks shut u free h = h ∙ (not-not (eqb (getD shut u 0) 0) ∙ both-skip (not (isBusy shut u)) free)
-
--- none is open from a number on, below another
-abbrev pub NoneOpen : List ℕ → List ℕ → List ℕ → ℕ → ℕ → Type 0
-NoneOpen v marks shut from n = (u : ℕ) → from ≤ u → u < n → isOpen v marks shut u ≡ false
-
-pub one-more :
-    (v marks shut : List ℕ) (from n : ℕ) → NoneOpen v marks shut from n → isOpen v marks shut n ≡ false → NoneOpen v marks shut from (n + 1)
-one-more v marks shut from n h q =
-    rw (add-one n)
-    (λ u le lt. ⊎-elim (λ e. subst (λ (x : ℕ). isOpen v marks shut x ≡ false) (sym e) q) (λ l. h u le l) (below-suc lt))
 
 -- CANDIDATES
 -- `low` is the first one, if it is open and before `skip`;
@@ -135,63 +114,7 @@ pub idle-place :
 idle-place low' skip' v' made low u idle lt may e =
     true-false (subst (λ (x : ℕ). mayStep v' x ≡ true) e may) (idle (subst (λ (x : ℕ). x < made) e lt))
 
--- WHO IS SHUT
--- one more is
-pub shut-here : (shut : List ℕ) (u : ℕ) → u < length shut → isBusy (set shut u 1) u ≡ true
-shut-here shut u lt = ap (λ (n : ℕ). not (eqb n 0)) (getD-set-same shut u 1 0 lt)
-
-shut-other : (shut : List ℕ) (u t : ℕ) → (t ≡ u → ⊥) → isBusy (set shut u 1) t ≡ isBusy shut t
-shut-other shut u t ne = ap (λ (n : ℕ). not (eqb n 0)) (getD-set-other shut u t 1 0 ne)
-
--- who is open then was so before
-open-before :
-    (v marks shut : List ℕ) (u t : ℕ) → u < length shut → isOpen v marks (set shut u 1) t ≡ true → isOpen v marks shut t ≡ true
-open-before v marks shut u t lt is-open =
-    ⊎-elim
-    (λ (e : t ≡ u).
-    true-false (both-right (isFree v marks t) _ is-open) (ap not (ap (λ (y : ℕ). isBusy (set shut u 1) y) e ∙ shut-here shut u lt)))
-    (λ ne. both-true (both-left _ _ is-open) (sym (ap not (shut-other shut u t ne)) ∙ both-right (isFree v marks t) _ is-open))
-    (equal? t u)
-
--- where nobody is
-pub none-shut : (n u : ℕ) → isBusy (replicate n 0) u ≡ false
-none-shut n u = ap (λ (k : ℕ). not (eqb k 0)) blank
-  where
-    blank : _≡_ {A = ℕ} (getD (replicate n 0) u 0) 0
-    blank =
-        ⊎-elim (λ p. getD-replicate n u 0 0 (ltb-true u n p))
-        (λ p. List·getD-eq-default (replicate n 0) 0 (omega (arith, length-replicate {A = ℕ} n 0, ltb-false u n p)))
-        (decide (ltb u n))
-
--- WHO CAN STEP
--- who may not step cannot
-idle-stays :
-    (ed : Edition) (bytes : List ℕ) (s : Lent) (u : ℕ) → sound s ≡ true → u < s .made → mayStep (s .vertices) u ≡ false
-    → canStep ed bytes s u ≡ false
-unfolding mayStep mayStart
-idle-stays ed bytes s u known lt h =
-    barred ed bytes s u known lt (sym (either-false-right _ _ h)) refl (eqb-false (status (s .vertices) u) EXECUTING (either-false-left _ _ h))
-
--- one that is not free is none
-unfree :
-    (ed : Edition) (bytes : List ℕ) (s : Lent) (marks : List ℕ) (u : ℕ) → sound s ≡ true → u < s .made → isFree (s .vertices) marks u ≡ false
-    → canNow ed bytes s marks u ≡ false
-unfree ed bytes s marks u known lt h =
-    ⊎-elim (λ idle. both-false-left _ (idle-stays ed bytes s u known lt idle)) (λ busy. both-false-right (canStep ed bytes s u) busy)
-    (both-fails (mayStep (s .vertices) u) (not (isBusy marks u)) h)
-
 -- THE NEXT STEP
--- the rows of the vertices that are made are there, and usable
-pub made-rows :
-    (v x : List ℕ) (k : Course) (limit : ℕ) → Ready v x k limit
-    → (vertexWords * k .tally .made ≤ length v) × (k .tally .made ≤ usableLimit)
-made-rows v x k limit ready =
-    let e : List ℕ = replicate (edgeWords * limit) 0 in
-    let long : length e ≡ edgeWords * limit = length-replicate (edgeWords * limit) 0 in
-    let few : limit ≤ usableLimit = ready .few in
-    let rows = sound-rows (stateOf v x k e) (ready .sound e (omega arith)) in
-    (rows .0, rows .1 .1 .0)
-
 -- the same of equal tables
 pub still-ready : (v v₁ x x₁ : List ℕ) (k : Course) (limit : ℕ) → Ready v x k limit → v₁ ≡ v → x₁ ≡ x → Ready v₁ x₁ k limit
 still-ready v v₁ x x₁ k limit ready p q =
@@ -209,16 +132,6 @@ pub record Looked (ed : Edition) (bytes v x marks shut₀ : List ℕ) (k : Cours
   pub barred : (e : List ℕ) → edgeRows e ≡ limit → Barred ed bytes (stateOf v x k e) shut₀ → Barred ed bytes (stateOf v x k e) shut
   pub long : length shut ≡ usableLimit
   pub as-told : told ≡ false → (u' : ℕ) → isBusy shut u' ≡ false
-
--- the first open vertex behind u is nearer to the end
-pub nearer :
-    (v marks shut : List ℕ) (made u skip from r : ℕ) → u < made → from ≡ max (u + 1) skip → FirstOpen v marks shut made from r
-    → made - r < made - u
-nearer v marks shut made u skip from r lt behind first =
-    let within : r ≤ made = first .0 in
-    ⊎-elim (λ (l : r < made). let ahead : from ≤ r = first .1 l .0 in omega arith)
-    (⊎-elim (λ (e : r ≡ made). omega arith) (λ (g : made < r). omega arith))
-    (order? r made)
 
 module _ (ed : Edition) (bytes v x marks shut₀ : List ℕ) (k : Course) (limit : ℕ) (ready : Ready v x k limit) (w : Candidates) where
   -- the look begins at the first open vertex
@@ -240,9 +153,7 @@ module _ (ed : Edition) (bytes v x marks shut₀ : List ℕ) (k : Course) (limit
     lower-now :
         u ≤ k .tally .made → (e : List ℕ) → edgeRows e ≡ limit → Barred ed bytes (stateOf v x k e) shut₀ → NoneNow ed bytes (stateOf v x k e) marks u
     lower-now within e is none-can u' lt =
-        ⊎-elim (λ unfree-here. unfree ed bytes (stateOf v x k e) marks u' (ready .sound e is) (omega arith) unfree-here)
-        (λ is-open. both-false-left _ (looked .barred e is none-can u' (not-false _ is-open)))
-        (both-fails (isFree v marks u') (not (isBusy shut u')) (looked .lower u' lt))
+        unopen ed bytes (stateOf v x k e) marks shut u' (ready .sound e is) (omega arith) (looked .barred e is none-can) (looked .lower u' lt)
 
     -- there is none once all are looked at
     pub none-next :
@@ -256,35 +167,37 @@ module _ (ed : Edition) (bytes v x marks shut₀ : List ℕ) (k : Course) (limit
       u-short : u < length shut
       u-short = let rows = made-rows v x k limit ready in omega (arith, looked .long)
 
-      -- one whose step is refused is shut, and the look goes on at the next open one
+      -- one whose step is refused is shut, with others that cannot step, and the look goes on at the next open one
       look-goes-on :
-          (from r : ℕ) → ((e : List ℕ) → edgeRows e ≡ limit → canStep ed bytes (stateOf v x k e) u ≡ false) → from ≡ max (u + 1) (w .skip)
-          → FirstOpen v marks (set shut u 1) (k .tally .made) from r → Looked ed bytes v x marks shut₀ k limit w (set shut u 1) r true
-      look-goes-on from r cannot behind first =
+          (shut' : List ℕ) (from r : ℕ) → CannotOn ed bytes v x k limit u → Shuts ed bytes v x k limit (set shut u 1) shut' → from ≡ max (u + 1) (w .skip)
+          → FirstOpen v marks shut' (k .tally .made) from r → Looked ed bytes v x marks shut₀ k limit w shut' r true
+      look-goes-on shut' from r cannot more behind first =
           record {
             here = λ lt. first .1 lt .1;
             lower =
                 λ u' lt.
                 not-so _
                 (λ is-open.
-                ⊎-elim (λ l. true-false (open-before v marks shut u u' u-short is-open) (looked .lower u' l))
+                ⊎-elim (λ l. true-false (open-before u' is-open) (looked .lower u' l))
                 (⊎-elim
                 (λ (same : u' ≡ u).
                 true-false (both-right (isFree v marks u') _ is-open)
-                (ap not (ap (λ (y : ℕ). isBusy (set shut u 1) y) same ∙ shut-here shut u u-short)))
+                (ap not (more .still u' (ap (λ (y : ℕ). isBusy (set shut u 1) y) same ∙ shut-here shut u u-short))))
                 (λ g. between u' lt g is-open))
                 (order? u' u));
-            covers = λ u' lt is-open. looked .covers u' lt (open-before v marks shut u u' u-short is-open);
-            barred =
-                λ e is none-can u' busy.
-                ⊎-elim (λ same. subst (λ (y : ℕ). canStep ed bytes (stateOf v x k e) y ≡ false) (sym same) (cannot e is))
-                (λ ne. looked .barred e is none-can u' (sym (shut-other shut u u' ne) ∙ busy))
-                (equal? u' u);
-            long = length-set shut u 1 ∙ looked .long;
+            covers = λ u' lt is-open. looked .covers u' lt (open-before u' is-open);
+            barred = λ e is none-can. shuts-barred ed bytes v x marks k limit all e is (looked .barred e is none-can);
+            long = all .long ∙ looked .long;
             as-told = λ p. true-false refl p;
           }
         where
-          between : (u' : ℕ) → u' < r → u < u' → isOpen v marks (set shut u 1) u' ≡ true → ⊥
+          all : Shuts ed bytes v x k limit shut shut'
+          all = shuts-both ed bytes v x k limit (shuts-one ed bytes v x k limit shut u u-short cannot) more
+
+          open-before : (t : ℕ) → isOpen v marks shut' t ≡ true → isOpen v marks shut t ≡ true
+          open-before = still-open ed bytes v x k limit marks all
+
+          between : (u' : ℕ) → u' < r → u < u' → isOpen v marks shut' u' ≡ true → ⊥
           between u' lt g is-open =
               let within : r ≤ k .tally .made = first .0 in
               ⊎-elim
@@ -292,7 +205,7 @@ module _ (ed : Edition) (bytes v x marks shut₀ : List ℕ) (k : Course) (limit
               ⊎-elim (λ (e : u ≡ w .low). absurd (omega arith)) (λ (h : w .skip ≤ u). true-false is-open (first .2 u' (omega arith) lt))
               (looked .covers u made (looked .here made)))
               (λ (h : w .skip ≤ u'). true-false is-open (first .2 u' (omega arith) lt))
-              (looked .covers u' (omega arith) (open-before v marks shut u u' u-short is-open))
+              (looked .covers u' (omega arith) (open-before u' is-open))
 
       -- The step of the vertex at hand, where the tables are as they were when the look began:
       module _
@@ -307,20 +220,29 @@ module _ (ed : Edition) (bytes v x marks shut₀ : List ℕ) (k : Course) (limit
           can-as-said : (e : List ℕ) → edgeRows e ≡ limit → canStep ed bytes (stateOf v x k e) u ≡ accepted (said (m .answer))
           can-as-said e is = sym (ap accepted (here-stepped .steps e is .says))
 
-          -- a refused step leaves the tables, and the look goes on;
-          pub turned-over :
-              {refused : Bool} (from r : ℕ) → refused ≡ not (accepted (said (m .answer))) → not refused ≡ false → from ≡ max (u + 1) (w .skip)
-              → FirstOpen v' marks (set shut u 1) (k .tally .made) from r
-              → (v' ≡ v) × (x' ≡ x) × (r ≤ k .tally .made) × Looked ed bytes v x marks shut₀ k limit w (set shut u 1) r true
-          turned-over from r refuses is-refused behind first =
-              let no : accepted (said (m .answer)) ≡ false = not-true _ (sym refuses ∙ not-false _ is-refused) in
-              let kept = here-stepped .turned no in (
-                kept .0,
-                kept .1,
-                first .0,
-                look-goes-on from r (λ e is. can-as-said e is ∙ no) behind
-                    (subst (λ (y : List ℕ). FirstOpen y marks (set shut u 1) (k .tally .made) from r) (kept .0) first),
-              )
+          -- a refused step leaves the tables,
+          module _ {refused : Bool} (refuses : refused ≡ not (accepted (said (m .answer)))) (is-refused : not refused ≡ false) where
+            no : accepted (said (m .answer)) ≡ false
+            no = not-true _ (sym refuses ∙ not-false _ is-refused)
+
+            pub left-tables : (v' ≡ v) × (x' ≡ x)
+            left-tables = here-stepped .turned no
+
+            -- and the look goes on;
+            pub turned-over :
+                (shut' : List ℕ) (from r : ℕ) → from ≡ max (u + 1) (w .skip) → Shuts ed bytes v' x' k limit (set shut u 1) shut'
+                → FirstOpen v' marks shut' (k .tally .made) from r
+                → (v' ≡ v) × (x' ≡ x) × (r ≤ k .tally .made) × Looked ed bytes v x marks shut₀ k limit w shut' r true
+            turned-over shut' from r behind more first = (
+              left-tables .0,
+              left-tables .1,
+              first .0,
+              look-goes-on shut' from r (λ e is. can-as-said e is ∙ no)
+                  (subst (λ (y : List ℕ). Shuts ed bytes y x k limit (set shut u 1) shut') (left-tables .0)
+                  (subst (λ (y : List ℕ). Shuts ed bytes v' y k limit (set shut u 1) shut') (left-tables .1) more))
+                  behind
+                  (subst (λ (y : List ℕ). FirstOpen y marks shut' (k .tally .made) from r) (left-tables .0) first),
+            )
 
           -- an accepted one is the lowest vertex's
           lowest-now :

@@ -1,11 +1,9 @@
 -- A step on an index of the edges: one law for each path through the code, told of every edge table that may be lent.
 --
---     rows-there               the rows of the made vertices lie in the vertex table
 --     own-command              a command that is due at the step of an executing vertex is its own, and no start
 --     refused-on, job-on       a refusal or a job is due
 --     turned-on, taken-on      a command is due, and refused or taken
 --     stored-ready             row and count behind a command that is taken
---     executing-one            a vertex that may step and is not released executes
 --     due-on, steps-on         what is due there, and a step that does it
 --     started-on               a released vertex that may step is started
 use Prim.Native.Nat.{ℕ, _+_, _*_, _<_, _≤_}
@@ -59,21 +57,8 @@ use Rattle.engine.specs.Answers.{said, ownWords, dueOf}
 use Rattle.engine.specs.Internal.Underway.{IsDue, is-due, DoesDue, DueThere}
 use Rattle.walks.specs.Internal.Walking.{DueOn, DoesOn, StepsOn}
 use Rattle.engine.proofs.DueLaws.{due-there}
+use Rattle.looks.proofs.OwnDue.{tableWith, rows-with, rows-there, may-cases, OwnCommand, own-task}
 use Rattle.engine.proofs.StepIs.{refused-path, job-path, turned-path, taken-ready, taken-path}
-
--- an edge table with so many usable rows
-abbrev tableWith : ℕ → List ℕ
-tableWith limit = replicate (edgeWords * limit) 0
-
-rows-with : (limit : ℕ) → limit ≤ usableLimit → edgeRows (tableWith limit) ≡ limit
-rows-with limit few =
-    let long : length (tableWith limit) ≡ edgeWords * limit = length-replicate (edgeWords * limit) 0 in
-    omega arith
-
--- the rows of the made vertices lie in the vertex table
-pub rows-there : {v x : List ℕ} {k : Course} {limit : ℕ} → Ready v x k limit → k .tally .made ≤ vertexRows v
-rows-there {v} {x} {k} {limit} ready =
-    sound-fits (stateOf v x k (tableWith limit)) (ready .sound (tableWith limit) (rows-with limit (ready .few))) .vertices-fit
 
 -- a course one step further
 abbrev Counted : Course → Course → Type 0
@@ -100,37 +85,7 @@ ready-counted {x = x} {limit = limit} ready h known =
     }
 
 -- A COMMAND THAT IS DUE
--- what a command that is due at the step of an executing vertex is
-abbrev pub OwnCommand : ℕ → Due → Type 0
-OwnCommand t (refusal-due n) = Unit {0}
-OwnCommand t (job-due n p w) = Unit {0}
-OwnCommand t (command-due c w) = (callerOf c ≡ t) × (isStart c ≡ false)
-
-own-if : (t : ℕ) (b : Bool) (n : ℕ) (d : Due) → OwnCommand t d → OwnCommand t (dueIf b n d)
-unfolding dueIf
-own-if t true n d h = h
-own-if t false n d h = tt
-
-own-filled : (s : Lent) (t n : ℕ) (spot : Spot → ℕ) (w : machine.Own) (c : Command) → OwnCommand t (filledIn s t n spot w c)
-unfolding filledIn callerOf isStart
-own-filled s t n spot w perform = tt
-own-filled s t n spot w (newTd p a) = (refl, refl)
-own-filled s t n spot w (newEdge a b) = (refl, refl)
-own-filled s t n spot w (transfer a) = (refl, refl)
-own-filled s t n spot w (release a) = (refl, refl)
-own-filled s t n spot w yield = (refl, refl)
-
-own-next : (s : Lent) (t : ℕ) (row : Row) (n : ℕ) (spot : Spot → ℕ) (x : Option Command) → OwnCommand t (nextOf s t row n spot x)
-unfolding nextOf
-own-next s t row n spot none = tt
-own-next s t row n spot (some c) = own-if t (allStand s t n c) _ _ (own-filled s t n spot _ c)
-
-pub own-task : (s : Lent) (t : ℕ) (x : Task) → OwnCommand t (nextAt s t x)
-unfolding nextAt callerOf isStart
-own-task s t (item row n spot) = own-next s t row n spot _
-own-task s t ends = own-if t (eqb (phase s t) 0) _ _ (refl, refl)
-own-task s t nothing = tt
-
+-- at the step of an executing vertex is its own, and no start
 own-due :
     (s : Lent) (t : ℕ) {d : Due} → sound s ≡ true → s .steps < stepLimit → t < s .made → status (s .vertices) t ≡ EXECUTING → IsDue s t d
     → OwnCommand t d
@@ -156,14 +111,6 @@ turned-may v t u other =
     let same-count : inCount (setStatus v t EXECUTING) u ≡ inCount v u =
     getD-set-other v (vertexWords * t + statusWord) (vertexWords * u + inCountWord) EXECUTING 0 (omega arith) in
     λ i. either (eqb (same-status i) EXECUTING) (both (eqb (same-status i) RELEASED) (eqb (same-count i) 0))
-
--- a vertex that may step executes, or it is released and its word says that no edge leads into it
-may-cases : (v : List ℕ) (u : ℕ) → mayStep v u ≡ true → (status v u ≡ EXECUTING) ⊎ ((status v u ≡ RELEASED) × (inCount v u ≡ 0))
-unfolding mayStep
-may-cases v u may =
-    ⊎-elim (λ h. inl (eqb-true (status v u) EXECUTING h))
-    (λ h. inr (eqb-true (status v u) RELEASED (both-left _ _ h), eqb-true (inCount v u) 0 (both-right _ _ h)))
-    (either-cases _ _ may)
 
 -- WHAT IS DONE
 -- what is done keeps the tables sound
@@ -286,10 +233,6 @@ module _ {v x : List ℕ} {k : Course} {limit t : ℕ} (ready : Ready v x k limi
           (changed .does e rows) b told (said a) v' (k' .tally) h q words (counted .0, counted .1, counted .2))
 
 -- A STEP
--- a vertex that may step and is not released executes
-pub executing-one : (v : List ℕ) (t : ℕ) → mayStep v t ≡ true → (status v t ≡ RELEASED → ⊥) → status v t ≡ EXECUTING
-executing-one v t may not-released = ⊎-elim (λ h. h) (λ h. absurd (not-released (h .0))) (may-cases v t may)
-
 -- of an executing vertex: what is due there, and that it was done
 module _ (ed : Edition) (bytes : List ℕ) {v x : List ℕ} {k : Course} {limit t : ℕ} {d : Due} (ready : Ready v x k limit)
     (early : k .tally .steps < stepLimit) (runs : Executes v k t) (there : DueThere ed bytes v (k .tally .made) t d) where

@@ -61,7 +61,7 @@ use Rattle.machine.proofs.StepDemand2.{said-accepted, can-ready}
 use Rattle.machine.proofs.TablesFollow.OwnLaws.{own-adds, status-not-own, count-not-own}
 use Rattle.machine.proofs.TablesFollow.StepLaws.{steppable-of, step-is}
 use Rattle.walks.specs.Internal.Walking.{OpensNobody}
-use Rattle.walks.proofs.IndexSteps.{OwnCommand, own-task}
+use Rattle.looks.proofs.OwnDue.{OwnCommand, own-task}
 
 -- WHAT A STEP OF t LEAVES
 -- no other vertex can do on s' what it cannot on s

@@ -4,7 +4,7 @@ use mathlib.Core.Path.{_≡_, refl, sym, _∙_, ap, subst}
 use mathlib.Core.Bool.{Bool, true, false, not, cond}
 use mathlib.Core.Logic.{_⊎_, inr}
 use mathlib.Core.List.{List}
-use mathlib.Core.Option.{none}
+use mathlib.Core.Option.{Option, none, some}
 use native.Mathlib.Numerals.{add-one}
 use native.Mathlib.Omega.{arith}
 use lib.Dec.{eqb, leb}
@@ -14,7 +14,8 @@ use borrow.Author.Tests.{eqb-true, eqb-false, leb-true, leb-false}
 use Rattle.graph.specs.Tests.{both}
 use Rattle.graph.specs.Tables.{Lent, lent, usableLimit, vertexRows, edgeRows}
 use Rattle.graph.specs.Sound.{sound}
-use Rattle.graph.proofs.TestLaws.{true-false, both-true, both-left, both-right}
+use Rattle.graph.proofs.TestLaws.{true-false, both-true, both-left, both-right, both-false-left}
+use Rattle.graph.proofs.LowestLaws.{none-is, none-holds}
 use Rattle.index.specs.declared.Course.{Course}
 use Rattle.index.specs.Table.{tableOf}
 use Rattle.index.specs.Underway.{stateOf, Ready}
@@ -31,8 +32,11 @@ use Rattle.walks.specs.declared.LastStep.the-variants as of-last
 use Rattle.walks.specs.declared.Walked.{Walked}
 use Rattle.engine.specs.Answers.{said}
 use Rattle.walks.specs.Answers.{lastOf}
-use Rattle.walks.specs.Internal.Walking.{isFree, Barred, ShutAsTold, Covers, Took, AttemptedOn, Came, begun, further, WalkedTo}
-use Rattle.walks.proofs.FreeLaws.{none-shut}
+use Rattle.looks.specs.Looking.{isFree, Barred, found, Looks}
+use Rattle.looks.proofs.OpenLaws.{none-shut}
+use Rattle.looks.proofs.LookLaws.{found-some, found-none}
+use Rattle.walks.specs.declared.Rested.{Rested}
+use Rattle.walks.specs.Internal.Walking.{ShutAsTold, Covers, Took, AttemptedOn, Came, begun, further, WalkedTo, RestsBy, RestsAt}
 
 -- WHO IS FREE
 -- who is busy stays busy where another one is marked
@@ -213,8 +217,11 @@ module _ (ed : Edition) (bytes : List ℕ) (hands : Bool) (budget limit : ℕ) w
         → (r .course ≡ k) × (r .last ≡ last) × (r .taken ≡ taken) × (r .handed ≡ handed) × (r .over ≡ over)
         → (over ≡ true → lowestFree ed bytes (stateOf v x k e) marks ≡ none)
         → (over ≡ false → (budget ≤ taken) ⊎ ((hands ≡ true) × (room list ≤ handed)))
+        → (shut' : List ℕ) → length shut' ≡ usableLimit → Barred ed bytes (stateOf v x k e) shut'
         → WalkedTo ed bytes hands budget s₀ d₀ r (stateOf v x (r .course) e) (desk marks list (r .handed)) × Ready v x (r .course) limit × (limit ≡ edgeRows e)
-    walked-to v e x marks list shut k w last taken handed over r h told none-free halts =
+        × (length shut' ≡ usableLimit)
+        × Barred ed bytes (stateOf v x (r .course) e) shut'
+    walked-to v e x marks list shut k w last taken handed over r h told none-free halts shut' long barred =
         rw (told .0, told .1, told .2, told .3, told .4) (
           record {
             came = h .came;
@@ -225,14 +232,87 @@ module _ (ed : Edition) (bytes : List ℕ) (hands : Bool) (budget limit : ℕ) w
           },
           h .ready,
           h .rows,
+          long,
+          barred,
         )
 
--- the same of what was lent, with the edges handed back
-pub walked-lent :
-    {ed : Edition} {bytes : List ℕ} {hands : Bool} {budget : ℕ} {s₀ s₁ : Lent} {d₀ d : Desk} {r : Walked} {v : List ℕ} (x e : List ℕ) {e' : List ℕ}
-    → WalkedTo ed bytes hands budget s₀ d₀ r (stateOf v x (r .course) e) d → s₀ ≡ s₁ → e' ≡ tableOf x (r .course .used) (r .course .peak) e
-    → WalkedTo ed bytes hands budget s₁ d₀ r (lent v e' (r .course .tally)) d
-walked-lent x e h first back = rw (sym first, back) h
+-- WHERE IT RESTS
+-- where nobody can step, nobody can who is not busy
+pub none-free : (ed : Edition) (bytes : List ℕ) (s : Lent) (marks : List ℕ) → lowest ed bytes s ≡ none → lowestFree ed bytes s marks ≡ none
+unfolding lowest lowestFree
+none-free ed bytes s marks h = none-is _ (s .made) (λ u lt. both-false-left _ (none-holds _ (s .made) h u lt))
+
+-- where one can step who is not busy, one can
+pub free-any : (ed : Edition) (bytes : List ℕ) (s : Lent) (marks : List ℕ) → true ≡ found (lowestFree ed bytes s marks) → true ≡ found (lowest ed bytes s)
+free-any ed bytes s marks h = go (lowest ed bytes s) refl
+  where
+    go : (o : Option ℕ) → lowest ed bytes s ≡ o → true ≡ found (lowest ed bytes s)
+    go none q = true-false refl (h ∙ found-none _ (none-free ed bytes s marks q))
+    go (some u) q = sym (found-some _ u q)
+
+module _ (ed : Edition) (bytes v x marks shut : List ℕ) (hands : Bool) (limit : ℕ) (w : Walked) where
+  -- a look found one that is not busy
+  pub rests-free :
+      (q : Rested) {r : Bool} {shut' : List ℕ} → Looks ed bytes v x marks (w .course) limit shut r shut' → r ≡ true
+      → (q .walked ≡ w) × (q .free ≡ true) × (q .any ≡ true)
+      → (q .walked ≡ w)
+      × ((e : List ℕ) → edgeRows e ≡ limit → RestsBy ed bytes hands marks shut w (stateOf v x (w .course) e) (q .free) (q .any))
+  rests-free q look one told = (
+    told .0,
+    λ e rows barred over.
+        let seen : true ≡ found (lowestFree ed bytes (stateOf v x (w .course) e) marks) = sym one ∙ look .tells e rows barred in
+        (told .1 ∙ seen, λ h. told .2 ∙ free-any ed bytes (stateOf v x (w .course) e) marks seen),
+  )
+
+  -- the walk came to no step, or a look found none; `any` is told by another look
+  rests-none :
+      (q : Rested) (shut' : List ℕ)
+      → ((e : List ℕ) → edgeRows e ≡ limit → Barred ed bytes (stateOf v x (w .course) e) shut
+      → (w .over ≡ true → lowestFree ed bytes (stateOf v x (w .course) e) marks ≡ none)
+      → (false ≡ found (lowestFree ed bytes (stateOf v x (w .course) e) marks)) × Barred ed bytes (stateOf v x (w .course) e) shut')
+      → (q .walked ≡ w) × (q .free ≡ false)
+      × ((e : List ℕ) → edgeRows e ≡ limit → Barred ed bytes (stateOf v x (w .course) e) shut' → hands ≡ true
+      → q .any ≡ found (lowest ed bytes (stateOf v x (w .course) e)))
+      → (q .walked ≡ w)
+      × ((e : List ℕ) → edgeRows e ≡ limit → RestsBy ed bytes hands marks shut w (stateOf v x (w .course) e) (q .free) (q .any))
+  rests-none q shut' idle told = (
+    told .0,
+    λ e rows barred over. let h = idle e rows barred over in (told .1 ∙ h .0, told .2 e rows (h .1)),
+  )
+
+  pub rests-over :
+      (q : Rested) → w .over ≡ true
+      → (q .walked ≡ w) × (q .free ≡ false)
+      × ((e : List ℕ) → edgeRows e ≡ limit → Barred ed bytes (stateOf v x (w .course) e) shut → hands ≡ true
+      → q .any ≡ found (lowest ed bytes (stateOf v x (w .course) e)))
+      → (q .walked ≡ w)
+      × ((e : List ℕ) → edgeRows e ≡ limit → RestsBy ed bytes hands marks shut w (stateOf v x (w .course) e) (q .free) (q .any))
+  rests-over q is-over = rests-none q shut (λ e rows barred over. (sym (found-none _ (over is-over)), barred))
+
+  pub rests-looked :
+      (q : Rested) {r : Bool} {shut' : List ℕ} → Looks ed bytes v x marks (w .course) limit shut r shut' → r ≡ false
+      → (q .walked ≡ w) × (q .free ≡ false)
+      × ((e : List ℕ) → edgeRows e ≡ limit → Barred ed bytes (stateOf v x (w .course) e) shut' → hands ≡ true
+      → q .any ≡ found (lowest ed bytes (stateOf v x (w .course) e)))
+      → (q .walked ≡ w)
+      × ((e : List ℕ) → edgeRows e ≡ limit → RestsBy ed bytes hands marks shut w (stateOf v x (w .course) e) (q .free) (q .any))
+  rests-looked q {shut' = shut'} look nobody =
+      rests-none q shut' (λ e rows barred over. (sym nobody ∙ look .tells e rows barred, look .barred e rows barred))
+
+-- what was lent, with the edges handed back
+pub rested-lent :
+    {ed : Edition} {bytes : List ℕ} {hands : Bool} {budget : ℕ} {s₀ s₁ : Lent} {d₀ : Desk} {w : Walked} {v : List ℕ} (x e : List ℕ) {e' : List ℕ} (marks list shut : List ℕ) (q : Rested)
+    → WalkedTo ed bytes hands budget s₀ d₀ w (stateOf v x (w .course) e) (desk marks list (w .handed)) → s₀ ≡ s₁
+    → e' ≡ tableOf x (w .course .used) (w .course .peak) e → Barred ed bytes (stateOf v x (w .course) e) shut → q .walked ≡ w
+    → RestsBy ed bytes hands marks shut w (stateOf v x (w .course) e) (q .free) (q .any)
+    → RestsAt ed bytes hands budget s₁ d₀ q (lent v e' (q .walked .course .tally)) (desk marks list (q .walked .handed))
+rested-lent x e marks list shut q h first back barred same rests =
+    let told = rests barred (h .over) in
+    record {
+      walked = rw (same, sym first, back) h;
+      free = rw (same, back) (told .0);
+      any = rw (same, back) (told .1);
+    }
 
 -- AN ATTEMPT, BY ITS CASE
 module _
@@ -244,6 +324,8 @@ module _
         → ((e : List ℕ) → edgeRows e ≡ limit → Barred ed bytes (stateOf v x k e) shut → lowestFree ed bytes (stateOf v x k e) marks ≡ none)
         × (v' ≡ v)
         × (x' ≡ x)
+        × (length shut' ≡ usableLimit)
+        × ((e : List ℕ) → edgeRows e ≡ limit → Barred ed bytes (stateOf v x k e) shut → Barred ed bytes (stateOf v x k e) shut')
     attempt-none is = subst (λ (b : Attempt). AttemptedOn ed bytes v x marks shut k limit b v' x' shut') is h
 
     pub attempt-took :

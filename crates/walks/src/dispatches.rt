@@ -5,8 +5,6 @@ use crate::DispatchEnding;
 use crate::runs::all_finished;
 use crate::walk::JOB_WORDS;
 use crate::walk::walk;
-use engine::Lowest;
-use engine::look::lowest_free;
 use engine::next::is_steppable;
 use graph::Tally;
 use graph::rows::vertex_rows;
@@ -17,20 +15,15 @@ use refusal::BUSY_TABLE_TOO_SHORT;
 use refusal::Refusal;
 use refusal::UNSOUND_TABLES;
 ghost use mathlib.Core.Path.{_≡_};
-ghost use mathlib.Core.Bool.{true};
-ghost use mathlib.Core.Option.{none};
-ghost use lib.Dec.{ltb};
+ghost use Prim.Native.Nat.{_*_, _≤_};
+ghost use lib.Dec.{eqb};
 ghost use lib.ListN.{length};
-ghost use Rattle.graph.specs.Tables.{lent};
-ghost use Rattle.graph.specs.Sound.{sound};
-ghost use Rattle.program.specs.Limits.{programBytes};
-ghost use Rattle.program.specs.Located.{MarksStarts};
-ghost use Rattle.machine.specs.Running.{lowest};
-ghost use Rattle.machine.specs.Dispatching.{lowestFree};
+ghost use Rattle.graph.specs.Tests.{every};
+ghost use Rattle.graph.specs.Tables.{lent, vertexWords, status, FINISHED};
 ghost use Rattle.machine.specs.Dispatching as of-dispatch;
 ghost use Rattle.machine.specs.Traces.{Dispatched};
 ghost use Rattle.walks.specs.Answers.{dispatchEndingOf};
-ghost use Rattle.walks.specs.Internal.Endings.{whenIdle, dispatchRests};
+ghost use Rattle.walks.specs.Internal.Endings.{dispatchEnds};
 
 // A dispatch, with the tally by value.
 pub fn dispatch_by_value(
@@ -53,7 +46,7 @@ pub fn dispatch_by_value(
     }
     let mut ends = [0u16; PROGRAM_BYTES];
     mark_ends(program, edition, &mut ends);
-    let walked = walk(
+    let rested = walk(
         program,
         &ends,
         vertices,
@@ -65,21 +58,13 @@ pub fn dispatch_by_value(
         true,
         budget,
     );
+    let walked = rested.walked;
     let course = walked.course;
     let after = course.tally;
-    let ending = at_end(
-        program,
-        &ends,
-        vertices,
-        edges,
-        after,
-        edition,
-        busy,
-        jobs.len() / JOB_WORDS,
-        walked.handed,
-        walked.over,
-    );
-    ended(ending, walked.taken, walked.handed, after)
+    let handed = walked.handed;
+    let room = (handed as usize) < jobs.len() / JOB_WORDS;
+    let ending = at_end(vertices, after.made as usize, rested.any, rested.free, room);
+    ended(ending, walked.taken, handed, after)
 }
 
 fn refused(number: u32, tally: Tally) -> DispatchDone
@@ -106,65 +91,22 @@ fn ended(ending: DispatchEnding, taken: u32, handed: u32, tally: Tally) -> Dispa
     }
 }
 
-// How a dispatch ends where it stops: no vertex that is not busy can step, its list has no row left, or its budget is used.
-fn at_end(
-    program: &[u8],
-    marks: &[u16],
-    vertices: &[u32],
-    edges: &[u32],
-    tally: Tally,
-    edition: Edition,
-    busy: &[u32],
-    rows: usize,
-    handed: u32,
-    over: bool,
-) -> DispatchEnding
-    requires { ⌜ MarksStarts edition (now program) (now marks) × (length (now marks) ≡ programBytes) × (sound (lent (now vertices) (now edges) tally) ≡ true) × (over ≡ true → lowestFree edition (now program) (lent (now vertices) (now edges) tally) (now busy) ≡ none) ⌝ }
-    ensures { λ r. ⌜ dispatchEndingOf r ≡ dispatchRests edition (now (program .entry)) (lent (now (vertices .entry)) (now (edges .entry)) tally) (now (busy .entry)) (ltb handed rows) ⌝ }
+// How a dispatch ends where it stops, told whether some vertex can step there, whether one can that is not busy, and whether its list has a row left.
+fn at_end(vertices: &[u32], made: usize, any: bool, free: bool, room: bool) -> DispatchEnding
+    requires { ⌜ vertexWords * made ≤ length (now vertices) ⌝ }
+    ensures { λ r. ⌜ dispatchEndingOf r ≡ dispatchEnds (every (λ v. eqb (status (now (vertices .entry)) v) FINISHED) made) any free room ⌝ }
 {
-    if all_finished(vertices, tally.made as usize) {
+    if all_finished(vertices, made) {
         return DispatchEnding::Done;
     }
-    if over {
-        return when_idle(program, marks, vertices, edges, tally, edition);
+    if free {
+        if room {
+            return DispatchEnding::Spent;
+        }
+        return DispatchEnding::Full;
     }
-    let found = lowest_free(program, marks, vertices, edges, tally, edition, busy);
-    match found {
-        Lowest::Vertex(v) => if rows <= handed as usize {
-            DispatchEnding::Full
-        } else {
-            DispatchEnding::Spent
-        },
-        Lowest::NoVertex => when_idle(program, marks, vertices, edges, tally, edition),
-        Lowest::Refused(refusal) => when_idle(program, marks, vertices, edges, tally, edition),
+    if any {
+        return DispatchEnding::Waiting;
     }
-}
-
-// How it ends where no vertex that is not busy can step, and not all are finished.
-fn when_idle(
-    program: &[u8],
-    marks: &[u16],
-    vertices: &[u32],
-    edges: &[u32],
-    tally: Tally,
-    edition: Edition,
-) -> DispatchEnding
-    requires { ⌜ MarksStarts edition (now program) (now marks) × (length (now marks) ≡ programBytes) × (sound (lent (now vertices) (now edges) tally) ≡ true) ⌝ }
-    ensures { λ r. ⌜ dispatchEndingOf r ≡ whenIdle (lowest edition (now (program .entry)) (lent (now (vertices .entry)) (now (edges .entry)) tally)) ⌝ }
-{
-    let nobody_busy = [0u32; 1];
-    let found = lowest_free(
-        program,
-        marks,
-        vertices,
-        edges,
-        tally,
-        edition,
-        &nobody_busy,
-    );
-    match found {
-        Lowest::Vertex(v) => DispatchEnding::Waiting,
-        Lowest::NoVertex => DispatchEnding::Stuck,
-        Lowest::Refused(refusal) => DispatchEnding::Stuck,
-    }
+    DispatchEnding::Stuck
 }

@@ -49,6 +49,13 @@ pub struct Walked {
     pub over: bool,
 }
 
+// Where a walk rests: how far it went, whether some vertex that is not busy can step there, and whether some vertex can, where jobs are handed out.
+pub struct Rested {
+    pub walked: Walked,
+    pub free: bool,
+    pub any: bool,
+}
+
 // How a run ends.
 pub enum Ending {
     Done,

@@ -4,8 +4,6 @@ use crate::LastStep;
 use crate::RunAnswer;
 use crate::RunDone;
 use crate::walk::walk;
-use engine::Lowest;
-use engine::look::lowest_free;
 use engine::next::is_steppable;
 use graph::Tally;
 use graph::rows::FINISHED;
@@ -17,21 +15,17 @@ use program::format::PROGRAM_BYTES;
 use refusal::Refusal;
 use refusal::UNSOUND_TABLES;
 ghost use mathlib.Core.Path.{_≡_};
-ghost use mathlib.Core.Bool.{true};
 ghost use mathlib.Core.Option.{none};
 ghost use Prim.Native.Nat.{_*_, _≤_};
 ghost use lib.Dec.{eqb};
 ghost use lib.ListN.{length};
 ghost use Rattle.graph.specs.Tests.{every};
 ghost use Rattle.graph.specs.Tables.{lent, vertexWords, status, FINISHED};
-ghost use Rattle.graph.specs.Sound.{sound};
-ghost use Rattle.program.specs.Limits.{programBytes};
-ghost use Rattle.program.specs.Located.{MarksStarts};
 ghost use Rattle.refusal.specs.Refusals.{unsound-tables};
 ghost use Rattle.machine.specs.Running as of-run;
 ghost use Rattle.machine.specs.Traces.{Ran};
 ghost use Rattle.walks.specs.Answers.{endingOf, lastOf};
-ghost use Rattle.walks.specs.Internal.Endings.{atRest, whenUsed};
+ghost use Rattle.walks.specs.Internal.Endings.{runEnds};
 
 // A run, with the tally by value.
 pub fn run_by_value(
@@ -51,7 +45,7 @@ pub fn run_by_value(
     mark_ends(program, edition, &mut ends);
     let mut nobody_busy = [0; 1];
     let mut no_list = [0; 1];
-    let walked = walk(
+    let rested = walk(
         program,
         &ends,
         vertices,
@@ -63,23 +57,12 @@ pub fn run_by_value(
         false,
         budget,
     );
+    let walked = rested.walked;
     let last = walked.last;
     let course = walked.course;
     let after = course.tally;
-    if walked.over {
-        return ended(
-            at_rest(vertices, after.made as usize),
-            last,
-            walked.taken,
-            after,
-        );
-    }
-    ended(
-        when_used(program, &ends, vertices, edges, after, edition),
-        last,
-        walked.taken,
-        after,
-    )
+    let ending = at_end(vertices, after.made as usize, rested.free);
+    ended(ending, last, walked.taken, after)
 }
 
 fn refused(tally: Tally) -> RunDone
@@ -109,41 +92,14 @@ fn ended(ending: Ending, last: LastStep, taken: u32, tally: Tally) -> RunDone
     }
 }
 
-// How a run ends whose budget is used.
-fn when_used(
-    program: &[u8],
-    marks: &[u16],
-    vertices: &[u32],
-    edges: &[u32],
-    tally: Tally,
-    edition: Edition,
-) -> Ending
-    requires { ⌜ MarksStarts edition (now program) (now marks) × (length (now marks) ≡ programBytes) × (sound (lent (now vertices) (now edges) tally) ≡ true) ⌝ }
-    ensures { λ r. ⌜ endingOf r ≡ whenUsed edition (now (program .entry)) (lent (now (vertices .entry)) (now (edges .entry)) tally) ⌝ }
-{
-    let nobody_busy = [0u32; 1];
-    let found = lowest_free(
-        program,
-        marks,
-        vertices,
-        edges,
-        tally,
-        edition,
-        &nobody_busy,
-    );
-    let rest = at_rest(vertices, tally.made as usize);
-    match found {
-        Lowest::Vertex(v) => Ending::Spent,
-        Lowest::NoVertex => rest,
-        Lowest::Refused(refusal) => rest,
-    }
-}
-
-// How a run ends where no step would be accepted.
-fn at_rest(vertices: &[u32], made: usize) -> Ending
+// How a run ends where it stops, told whether some vertex can step there.
+fn at_end(vertices: &[u32], made: usize, can: bool) -> Ending
     requires { ⌜ vertexWords * made ≤ length (now vertices) ⌝ }
-    ensures { λ r. ⌜ endingOf r ≡ atRest (every (λ v. eqb (status (now (vertices .entry)) v) FINISHED) made) ⌝ }
+    ensures { λ r. ⌜ endingOf r ≡ runEnds can (every (λ v. eqb (status (now (vertices .entry)) v) FINISHED) made) ⌝ }
 {
+    if can {
+        return Ending::Spent;
+    }
     if all_finished(vertices, made) {
         return Ending::Done;
     }

@@ -3,17 +3,13 @@
 use crate::Attempt;
 use crate::Candidates;
 use crate::LastStep;
+use crate::Rested;
 use crate::Walked;
 use crate::onindex::step_on_index;
 use engine::Answer;
 use engine::next::STEP_LIMIT;
 use graph::Tally;
-use graph::rows::EXECUTING;
-use graph::rows::IN_COUNT;
-use graph::rows::RELEASED;
-use graph::rows::STATUS;
 use graph::rows::USABLE_LIMIT;
-use graph::rows::VERTEX_WORDS;
 use graph::rows::clear;
 use graph::rows::edge_rows;
 use index::Course;
@@ -21,10 +17,16 @@ use index::layout::INDEX_WORDS;
 use index::layout::ROW_LIMIT;
 use index::rows::hand_back;
 use index::rows::take_in;
+use looks::able::anyone_can;
+use looks::able::next_able;
+use looks::open::is_open;
+use looks::open::may_step;
+use looks::open::next_open;
 use program::Edition;
 ghost use mathlib.Core.Path.{_≡_};
 ghost use mathlib.Core.Bool.{true, false, not, cond};
-ghost use Prim.Native.Nat.{_*_, _+_, _<_, _≤_, max};
+ghost use mathlib.Core.List.{List};
+ghost use Prim.Native.Nat.{ℕ, _*_, _+_, _<_, _≤_, max};
 ghost use lib.Dec.{leb};
 ghost use lib.ListN.{length, replicate};
 ghost use Rattle.graph.specs.Tests.{both};
@@ -37,8 +39,10 @@ ghost use Rattle.program.specs.Located.{MarksEnds};
 ghost use Rattle.machine.specs.Answers.{accepted};
 ghost use Rattle.machine.specs.Dispatching.{desk, handOut, room};
 ghost use Rattle.engine.specs.Answers.{said};
-ghost use Rattle.walks.specs.Internal.Walking.{isFree, isOpen, Covers, ShutAsTold, FirstOpen, StillCovers, Settles};
-ghost use Rattle.walks.specs.Internal.Walking.{OpensNobody, Reopens, AttemptedOn, WalkedTo};
+ghost use Rattle.machine.specs.Running.{lowest};
+ghost use Rattle.looks.specs.Looking.{FirstOpen, Shuts, Barred, found, Lookable};
+ghost use Rattle.walks.specs.Internal.Walking.{Covers, ShutAsTold, StillCovers, Settles, OpensNobody, Reopens, AttemptedOn};
+ghost use Rattle.walks.specs.Internal.Walking.{WalkedTo, RestsBy, RestsAt};
 
 // The words of a row of the list.
 pub const JOB_WORDS: usize = 3;
@@ -55,9 +59,9 @@ pub(crate) fn walk(
     edition: Edition,
     hands: bool,
     budget: u32,
-) -> Walked
+) -> Rested
     requires { ⌜ MarksEnds edition (now program) (now ends) × (length (now ends) ≡ programBytes) × (sound (lent (now vertices) (now edges) tally) ≡ true) × (hands ≡ true → vertexRows (now vertices) ≤ length (now busy)) ⌝ }
-    ensures { λ r. ⌜ WalkedTo edition (now (program .entry)) hands budget (lent (now (vertices .entry)) (now (edges .entry)) tally) (desk (now (busy .entry)) (now (jobs .entry)) 0) r (lent (now (vertices .exit)) (now (edges .exit)) (r .course .tally)) (desk (now (busy .exit)) (now (jobs .exit)) (r .handed)) ⌝ }
+    ensures { λ r. ⌜ RestsAt edition (now (program .entry)) hands budget (lent (now (vertices .entry)) (now (edges .entry)) tally) (desk (now (busy .entry)) (now (jobs .entry)) 0) r (lent (now (vertices .exit)) (now (edges .exit)) (r .walked .course .tally)) (desk (now (busy .exit)) (now (jobs .exit)) (r .walked .handed)) ⌝ }
 {
     let limit = edge_rows(edges) as u32;
     let mut index = [0; INDEX_WORDS];
@@ -83,9 +87,115 @@ pub(crate) fn walk(
         hands,
         budget,
     );
+    let rested = rest(
+        program,
+        ends,
+        vertices,
+        &index,
+        busy,
+        &mut shut,
+        limit,
+        edition,
+        hands,
+        walked,
+    );
     let course = walked.course;
     hand_back(edges, &index, course.used as usize, course.peak as usize);
-    walked
+    rested
+}
+
+// Where a walk rests: who can step there.
+fn rest(
+    program: &[u8],
+    ends: &[u16],
+    vertices: &[u32],
+    index: &[u32],
+    busy: &[u32],
+    shut: &mut [u32],
+    limit: u32,
+    edition: Edition,
+    hands: bool,
+    walked: Walked,
+) -> Rested
+    requires { ⌜ MarksEnds edition (now program) (now ends) × (length (now ends) ≡ programBytes) × Ready (now vertices) (now index) (walked .course) limit × (length (now shut) ≡ usableLimit) ⌝ }
+    ensures { λ r. ⌜ (r .walked ≡ walked) × ((e : List ℕ) → edgeRows e ≡ limit → RestsBy edition (now (program .entry)) hands (now (busy .entry)) (now (shut .entry)) walked (stateOf (now (vertices .entry)) (now (index .entry)) (walked .course) e) (r .free) (r .any)) ⌝ }
+{
+    if walked.over {
+        return none_free(
+            program,
+            ends,
+            vertices,
+            index,
+            shut,
+            limit,
+            edition,
+            hands,
+            walked,
+        );
+    }
+    if anyone_can(
+        program,
+        ends,
+        vertices,
+        index,
+        busy,
+        shut,
+        limit,
+        edition,
+        walked.course,
+    ) {
+        return rested(walked, true, true);
+    }
+    none_free(
+        program,
+        ends,
+        vertices,
+        index,
+        shut,
+        limit,
+        edition,
+        hands,
+        walked,
+    )
+}
+
+// The same, where no vertex that is not busy can step.
+fn none_free(
+    program: &[u8],
+    ends: &[u16],
+    vertices: &[u32],
+    index: &[u32],
+    shut: &mut [u32],
+    limit: u32,
+    edition: Edition,
+    hands: bool,
+    walked: Walked,
+) -> Rested
+    requires { ⌜ MarksEnds edition (now program) (now ends) × (length (now ends) ≡ programBytes) × Ready (now vertices) (now index) (walked .course) limit × (length (now shut) ≡ usableLimit) ⌝ }
+    ensures { λ r. ⌜ (r .walked ≡ walked) × (r .free ≡ false) × ((e : List ℕ) → edgeRows e ≡ limit → Barred edition (now (program .entry)) (stateOf (now (vertices .entry)) (now (index .entry)) (walked .course) e) (now (shut .entry)) → hands ≡ true → r .any ≡ found (lowest edition (now (program .entry)) (stateOf (now (vertices .entry)) (now (index .entry)) (walked .course) e))) ⌝ }
+{
+    if !hands {
+        return rested(walked, false, false);
+    }
+    let nobody_busy = [0u32; 1];
+    let any = anyone_can(
+        program,
+        ends,
+        vertices,
+        index,
+        &nobody_busy,
+        shut,
+        limit,
+        edition,
+        walked.course,
+    );
+    rested(walked, false, any)
+}
+
+fn rested(walked: Walked, free: bool, any: bool) -> Rested
+    ensures { λ r. ⌜ (r .walked ≡ walked) × (r .free ≡ free) × (r .any ≡ any) ⌝ }
+{
+    Rested { walked, free, any }
 }
 
 // The same on an index of the edges, which are handed back later. A vertex whose step was refused is shut until a step that might open it.
@@ -105,7 +215,7 @@ fn walk_on(
     budget: u32,
 ) -> Walked
     requires { ⌜ MarksEnds edition (now program) (now ends) × (length (now ends) ≡ programBytes) × Ready (now vertices) (now index) start limit × (limit ≡ edgeRows (now edges)) × (hands ≡ true → vertexRows (now vertices) ≤ length (now busy)) × (now shut ≡ replicate usableLimit 0) ⌝ }
-    ensures { λ r. ⌜ WalkedTo edition (now (program .entry)) hands budget (stateOf (now (vertices .entry)) (now (index .entry)) start (now (edges .entry))) (desk (now (busy .entry)) (now (jobs .entry)) 0) r (stateOf (now (vertices .exit)) (now (index .exit)) (r .course) (now (edges .exit))) (desk (now (busy .exit)) (now (jobs .exit)) (r .handed)) × Ready (now (vertices .exit)) (now (index .exit)) (r .course) limit × (limit ≡ edgeRows (now (edges .exit))) ⌝ }
+    ensures { λ r. ⌜ WalkedTo edition (now (program .entry)) hands budget (stateOf (now (vertices .entry)) (now (index .entry)) start (now (edges .entry))) (desk (now (busy .entry)) (now (jobs .entry)) 0) r (stateOf (now (vertices .exit)) (now (index .exit)) (r .course) (now (edges .exit))) (desk (now (busy .exit)) (now (jobs .exit)) (r .handed)) × Ready (now (vertices .exit)) (now (index .exit)) (r .course) limit × (limit ≡ edgeRows (now (edges .exit))) × (length (now (shut .exit)) ≡ usableLimit) × Barred edition (now (program .entry)) (stateOf (now (vertices .exit)) (now (index .exit)) (r .course) (now (edges .exit))) (now (shut .exit)) ⌝ }
 {
     let rows = jobs.len() / JOB_WORDS;
     let mut course = start;
@@ -231,9 +341,51 @@ fn take_next(
         }
         shut[vertex as usize] = 1;
         told = true;
-        vertex = next_open(vertices, busy, shut, made, behind(vertex, candidates.skip));
+        vertex = look_further(
+            program,
+            ends,
+            vertices,
+            index,
+            busy,
+            shut,
+            limit,
+            edition,
+            course,
+            behind(vertex, candidates.skip),
+        );
     }
     Attempt::NoStep
+}
+
+// The first open vertex from `from` on that can step, or `made` where there is none: `next_able`, which is no part of the walk's loop. What it is
+// handed goes through memory; handed over from here, the loop's own slices and course need not.
+fn look_further(
+    program: &[u8],
+    ends: &[u16],
+    vertices: &[u32],
+    index: &[u32],
+    busy: &[u32],
+    shut: &mut [u32],
+    limit: u32,
+    edition: Edition,
+    course: Course,
+    from: u32,
+) -> u32
+    requires { ⌜ Lookable edition (now program) (now ends) (now vertices) (now index) course limit (now shut) ⌝ }
+    ensures { λ r. ⌜ Shuts edition (now (program .entry)) (now (vertices .entry)) (now (index .entry)) course limit (now (shut .entry)) (now (shut .exit)) × FirstOpen (now (vertices .entry)) (now (busy .entry)) (now (shut .exit)) (course .tally .made) from r ⌝ }
+{
+    next_able(
+        program,
+        ends,
+        vertices,
+        index,
+        busy,
+        shut,
+        limit,
+        edition,
+        course,
+        from,
+    )
 }
 
 // A step was refused.
@@ -311,21 +463,6 @@ fn first_open(
     next_open(vertices, busy, shut, made, candidates.skip)
 }
 
-// The first such vertex from `from` on, or `made` where there is none.
-fn next_open(vertices: &[u32], busy: &[u32], shut: &[u32], made: u32, from: u32) -> u32
-    requires { ⌜ (vertexWords * made ≤ length (now vertices)) × (made ≤ length (now shut)) ⌝ }
-    ensures { λ r. ⌜ FirstOpen (now (vertices .entry)) (now (busy .entry)) (now (shut .entry)) made from r ⌝ }
-{
-    let mut vertex = from;
-    while vertex < made {
-        if is_open(vertices, busy, shut, vertex) {
-            return vertex;
-        }
-        vertex += 1;
-    }
-    made
-}
-
 // Where to look behind a vertex.
 fn behind(vertex: u32, skip: u32) -> u32
     requires { ⌜ vertex < usableLimit ⌝ }
@@ -335,47 +472,6 @@ fn behind(vertex: u32, skip: u32) -> u32
         return skip;
     }
     vertex + 1
-}
-
-// A vertex may step, as far as its own row tells, is not busy and is not shut.
-fn is_open(vertices: &[u32], busy: &[u32], shut: &[u32], vertex: u32) -> bool
-    requires { ⌜ (vertexWords * vertex + vertexWords ≤ length (now vertices)) × (vertex < length (now shut)) ⌝ }
-    ensures { λ r. ⌜ r ≡ isOpen (now (vertices .entry)) (now (busy .entry)) (now (shut .entry)) vertex ⌝ }
-{
-    if !is_free(vertices, busy, vertex) {
-        return false;
-    }
-    shut[vertex as usize] == 0
-}
-
-// A vertex may step, as far as its own row tells, and is not busy.
-fn is_free(vertices: &[u32], busy: &[u32], vertex: u32) -> bool
-    requires { ⌜ vertexWords * vertex + vertexWords ≤ length (now vertices) ⌝ }
-    ensures { λ r. ⌜ r ≡ isFree (now (vertices .entry)) (now (busy .entry)) vertex ⌝ }
-{
-    let at = vertex as usize;
-    if !may_step(vertices, at) {
-        return false;
-    }
-    if busy.len() <= at {
-        return true;
-    }
-    busy[at] == 0
-}
-
-// A vertex may step, as far as its own row tells: it executes, or it is released and its word says that no edge leads into it.
-fn may_step(vertices: &[u32], vertex: usize) -> bool
-    requires { ⌜ vertexWords * vertex + vertexWords ≤ length (now vertices) ⌝ }
-    ensures { λ r. ⌜ r ≡ mayStep (now (vertices .entry)) vertex ⌝ }
-{
-    let status = vertices[VERTEX_WORDS * vertex + STATUS];
-    if status == EXECUTING {
-        return true;
-    }
-    if status != RELEASED {
-        return false;
-    }
-    vertices[VERTEX_WORDS * vertex + IN_COUNT] == 0
 }
 
 // Where the candidates are besides `vertex`, the first of them: behind it. Whether some are shut is told anew.

@@ -14,14 +14,16 @@ use Rattle.index.specs.declared.Course.{Course}
 use Rattle.program.specs.declared.Edition.{Edition}
 use Rattle.machine.specs.Answers.{StepSaid, accepted}
 use Rattle.machine.specs.Stepping.{step, Due}
-use Rattle.machine.specs.Running.{canStep}
+use Rattle.machine.specs.Running.{canStep, lowest}
 use Rattle.machine.specs.Dispatching.{isBusy, lowestFree, Desk, marksOf, listOf, handedOf, room, handOut}
 use Rattle.machine.specs.Traces.{Stepped}
 use Rattle.engine.specs.declared.Answer.{Answer}
+use Rattle.looks.specs.Looking.{isOpen, Barred, found}
 use Rattle.walks.specs.declared.Attempt.{Attempt}
 use Rattle.walks.specs.declared.Attempt.the-variants as of-attempt
 use Rattle.walks.specs.declared.Candidates.{Candidates}
 use Rattle.walks.specs.declared.Moved.{Moved}
+use Rattle.walks.specs.declared.Rested.{Rested}
 use Rattle.walks.specs.declared.Walked.{Walked}
 use Rattle.engine.specs.Answers.{said}
 use Rattle.walks.specs.Answers.{lastOf}
@@ -45,18 +47,6 @@ pub record StepsOn (ed : Edition) (bytes v x : List ℕ) (k : Course) (limit t :
   pub ready : Ready v' x' (r .course) limit
   pub widens : Widens v (k .tally .made) v' (r .course .tally .made) (r .lowest) (r .highest)
 
--- a vertex may step, as far as its own row tells, and is not busy
-abbrev pub isFree : List ℕ → List ℕ → ℕ → Bool
-isFree v marks u = both (mayStep v u) (not (isBusy marks u))
-
--- an open vertex is free, and not shut; the table of the shut has a word for each vertex, as that of the busy
-abbrev pub isOpen : List ℕ → List ℕ → List ℕ → ℕ → Bool
-isOpen v marks shut u = both (isFree v marks u) (not (isBusy shut u))
-
--- who is shut cannot step
-abbrev pub Barred : Edition → List ℕ → Lent → List ℕ → Type 0
-Barred ed bytes s shut = (u : ℕ) → isBusy shut u ≡ true → canStep ed bytes s u ≡ false
-
 -- a step that says this lets no other vertex step that could not before
 abbrev pub OpensNobody : StepSaid → Type 0
 OpensNobody a =
@@ -70,11 +60,6 @@ ShutAsTold w shut = (length shut ≡ usableLimit) × (w .shut ≡ false → (u :
 -- every open vertex is `low`, or `skip` or above
 abbrev pub Covers : Candidates → List ℕ → List ℕ → List ℕ → ℕ → Type 0
 Covers w v marks shut made = (u : ℕ) → u < made → isOpen v marks shut u ≡ true → (u ≡ w .low) ⊎ (w .skip ≤ u)
-
--- r is the first open vertex from a number on, or `made` where there is none
-abbrev pub FirstOpen : List ℕ → List ℕ → List ℕ → ℕ → ℕ → ℕ → Type 0
-FirstOpen v marks shut made from r =
-    (r ≤ made) × (r < made → (from ≤ r) × (isOpen v marks shut r ≡ true)) × ((u : ℕ) → from ≤ u → u < r → isOpen v marks shut u ≡ false)
 
 -- w' covers what w does, where no open vertex is below `vertex`
 abbrev pub StillCovers : Candidates → ℕ → Candidates → Type 0
@@ -109,6 +94,8 @@ AttemptedOn ed bytes v x marks shut k limit of-attempt.NoStep v' x' shut' =
     ((e : List ℕ) → edgeRows e ≡ limit → Barred ed bytes (stateOf v x k e) shut → lowestFree ed bytes (stateOf v x k e) marks ≡ none)
     × (v' ≡ v)
     × (x' ≡ x)
+    × (length shut' ≡ usableLimit)
+    × ((e : List ℕ) → edgeRows e ≡ limit → Barred ed bytes (stateOf v x k e) shut → Barred ed bytes (stateOf v x k e) shut')
 AttemptedOn ed bytes v x marks shut k limit (of-attempt.Taken u a k' w') v' x' shut' =
     Took ed bytes v x marks shut k limit u a k' w' v' x' shut'
 
@@ -130,3 +117,15 @@ pub record WalkedTo (ed : Edition) (bytes : List ℕ) (hands : Bool) (budget : �
   pub within : r .taken ≤ budget
   pub over : r .over ≡ true → lowestFree ed bytes s (marksOf d) ≡ none
   pub halted : r .over ≡ false → (budget ≤ r .taken) ⊎ ((hands ≡ true) × (room (listOf d) ≤ handedOf d))
+
+-- who can step on s, where those of this table are shut and the walk came to no step, or did not look for one
+abbrev pub RestsBy : Edition → List ℕ → Bool → List ℕ → List ℕ → Walked → Lent → Bool → Bool → Type 0
+RestsBy ed bytes hands marks shut r s free any =
+    Barred ed bytes s shut → (r .over ≡ true → lowestFree ed bytes s marks ≡ none)
+    → (free ≡ found (lowestFree ed bytes s marks)) × (hands ≡ true → any ≡ found (lowest ed bytes s))
+
+-- where it rests: whether some vertex that is not busy can step there, and whether some vertex can, where jobs are handed out
+pub record RestsAt (ed : Edition) (bytes : List ℕ) (hands : Bool) (budget : ℕ) (s₀ : Lent) (d₀ : Desk) (r : Rested) (s : Lent) (d : Desk) : Type 0 where
+  pub walked : WalkedTo ed bytes hands budget s₀ d₀ (r .walked) s d
+  pub free : r .free ≡ found (lowestFree ed bytes s (marksOf d))
+  pub any : hands ≡ true → r .any ≡ found (lowest ed bytes s)

@@ -1,11 +1,11 @@
 -- Refused by 12 or 44; else a walk that hands jobs out, and how it ends.
-use mathlib.Core.Path.{_∙_}
+use mathlib.Core.Path.{refl, _∙_}
 use borrow.Author.Needs.{needs}
 use native.Mathlib.Omega.{arith}
 use Rattle.graph.proofs.CallLaws.{answered-yes, answered-no}
-use Rattle.program.proofs.EndLaws.{ends-tell-starts}
+use Rattle.graph.proofs.SoundChecks.{sound-rows}
 use Rattle.engine.proofs.DueLaws.{steppable-sound}
-use Rattle.walks.proofs.DispatchLaws.{dispatch-turned, dispatch-short, dispatch-stops, dispatched}
+use Rattle.walks.proofs.DispatchLaws.{ends-told, dispatch-turned, dispatch-short, dispatch-stops, dispatched}
 use Rattle.walks.proofs.dispatches.dispatch_by_value.Statement.{statement}
 use Rattle.walks.proofs.dispatches.dispatch_by_value.Tie as tie
 
@@ -36,17 +36,14 @@ walk-requires c κs = (
   λ q. omega (arith, c .before .before .before .before .before .before .before .before .before .vertex-rows .ensures, c .before .before .before .before .before .before .before .before .if2 .left),
 )
 
-at-end-requires : tie.Need-at-end-requires
-at-end-requires c κs =
-    let walked = c .before .before .before .before .before .before .before .before .before .before .before .before .before .before .walk .ensures in
-    (ends-tell-starts _ _ (c .before .before .before .before .before .before .before .before .before .before .before .before .before .before .before .before .before .before .before .before .before .mark-ends .last .1 .1 .0) (c .before .before .before .before .before .before .before .before .before .before .before .before .before .before .before .before .before .before .before .before .before .mark-ends .ensures .1), c .before .before .before .before .before .before .before .before .before .before .before .before .before .before .before .before .before .before .before .before .before .mark-ends .ensures .0, walked .still-sound, walked .over)
-
 returns-3 : tie.Need-returns-3
 returns-3 c =
     let ended = c .ended .ensures in
+    let rested = c .before .before .before .before .before .before .before .before .before .before .before .before .before .before .before .walk .ensures in
     dispatched _ _ _ _ _ _ _ _ _ _
-    (dispatch-stops _ _ _ _ _ _ _ _ _ (answered-yes (c .before .before .before .before .before .before .before .before .before .before .before .before .before .before .before .before .before .before .before .before .before .before .before .before .before .before .before .before .before .is-steppable .ensures) (c .before .before .before .before .before .before .before .before .before .before .before .before .before .before .before .before .before .before .before .before .before .before .before .before .before .before .before .before .if1 .left)) (c .before .before .before .before .before .before .before .before .before .before .before .before .before .before .before .before .before .before .before .before .before .before .before .before .before .before .vertex-rows .ensures) (c .before .before .before .before .before .before .before .before .before .before .before .before .before .before .before .before .before .before .before .before .before .before .before .before .before .if2 .left) (c .before .before .before .before .before .before .before .before .before .before .before .before .before .before .before .before .walk .ensures))
-    (ended .0 ∙ c .before .at-end .ensures)
+    (dispatch-stops _ _ _ _ _ _ _ _ _ (answered-yes (c .before .before .before .before .before .before .before .before .before .before .before .before .before .before .before .before .before .before .before .before .before .before .before .before .before .before .before .before .is-steppable .ensures) (c .before .before .before .before .before .before .before .before .before .before .before .before .before .before .before .before .before .before .before .before .before .before .before .before .before .before .before .if1 .left)) (c .before .before .before .before .before .before .before .before .before .before .before .before .before .before .before .before .before .before .before .before .before .before .before .before .before .vertex-rows .ensures) (c .before .before .before .before .before .before .before .before .before .before .before .before .before .before .before .before .before .before .before .before .before .before .before .before .if2 .left)
+    (rested .walked))
+    (ended .0 ∙ ends-told _ _ _ _ (c .before .at-end .ensures) (rested .any refl) (rested .free) refl)
     (ended .1)
     (ended .2)
     (ended .3)
@@ -70,7 +67,8 @@ dispatch-by-value-spec =
     (λ c. search needs)
     walk-requires
     (λ c. search needs)
-    at-end-requires
+    (λ c. search needs)
+    (λ c κs. sound-rows _ (c .before .before .before .before .before .before .before .before .before .before .before .before .before .walk .ensures .walked .still-sound) .0)
     (λ c κs. search needs)
     (λ c. search needs)
     (λ c. search needs)

@@ -1,7 +1,8 @@
 -- Each return by the law of its path.
 use borrow.Author.Needs.{needs}
 use native.Mathlib.Omega.{arith}
-use Rattle.walks.proofs.IndexSteps.{rows-there, refused-on, job-on, own-command, turned-on, stored-ready, taken-on}
+use Rattle.looks.proofs.OwnDue.{rows-there}
+use Rattle.walks.proofs.IndexSteps.{refused-on, job-on, own-command, turned-on, stored-ready, taken-on}
 use Rattle.walks.proofs.onindex.do_on_index.Statement.{statement}
 use Rattle.walks.proofs.onindex.do_on_index.Tie as tie
 

@@ -8,7 +8,8 @@ use Rattle.index.specs.Underway.{Executes}
 use Rattle.engine.specs.Answers.{dueOf}
 use Rattle.engine.specs.Internal.Underway.{DueThere}
 use Rattle.engine.proofs.DueLaws.{there-next}
-use Rattle.walks.proofs.IndexSteps.{rows-there, executing-one, due-on, steps-on, started-on}
+use Rattle.looks.proofs.OwnDue.{rows-there, executing-one}
+use Rattle.walks.proofs.IndexSteps.{due-on, steps-on, started-on}
 use Rattle.walks.proofs.onindex.step_on_index.Statement.{statement}
 use Rattle.walks.proofs.onindex.step_on_index.Tie as tie
 

@@ -4,11 +4,10 @@ use borrow.Author.Needs.{needs}
 use Rattle.graph.proofs.TestLaws.{true-false}
 use Rattle.graph.proofs.CallLaws.{answered-yes, answered-no}
 use Rattle.graph.proofs.SoundChecks.{sound-rows}
-use Rattle.program.proofs.EndLaws.{ends-tell-starts}
 use Rattle.machine.proofs.LookLaws.{run-turned}
 use Rattle.engine.proofs.DueLaws.{steppable-sound}
 use Rattle.engine.proofs.LowestLaws.{none-marked}
-use Rattle.walks.proofs.RunLaws.{run-rests, run-used, ran}
+use Rattle.walks.proofs.RunLaws.{run-ends, ran}
 use Rattle.walks.proofs.runs.run_by_value.Statement.{statement}
 use Rattle.walks.proofs.runs.run_by_value.Tie as tie
 
@@ -23,27 +22,11 @@ walk-requires c κs =
     let takes-steps = answered-yes (c .before .before .before .before .before .before .before .before .before .is-steppable .ensures) (c .before .before .before .before .before .before .before .before .if1 .left) in
     (c .before .before .before .before .before .before .mark-ends .ensures .1, c .before .before .before .before .before .before .mark-ends .ensures .0, steppable-sound _ takes-steps, λ q. true-false q refl)
 
--- no vertex can step
 returns-2 : tie.Need-returns-2
 returns-2 c =
     let ended = c .ended .ensures in
     let takes-steps = answered-yes (c .before .before .before .before .before .before .before .before .before .before .before .before .before .before .before .before .before .before .before .before .before .before .before .is-steppable .ensures) (c .before .before .before .before .before .before .before .before .before .before .before .before .before .before .before .before .before .before .before .before .before .before .if1 .left) in
-    ran _ _ _ _ _ _
-    (run-rests _ _ _ _ _ _ _ _ _ takes-steps (none-marked 1) (c .before .before .before .before .before .before .before .before .before .before .before .before .before .walk .ensures) (c .before .before .before .before .if2 .taken) (c .before .at-rest .ensures)) (ended .0)
-    (ended .1)
-    (ended .2)
-    (ended .3)
-
-when-used-requires : tie.Need-when-used-requires
-when-used-requires c κs = (ends-tell-starts _ _ (c .before .before .before .before .before .before .before .before .before .before .before .before .before .before .before .before .before .before .before .mark-ends .last .1 .1 .0) (c .before .before .before .before .before .before .before .before .before .before .before .before .before .before .before .before .before .before .before .mark-ends .ensures .1), c .before .before .before .before .before .before .before .before .before .before .before .before .before .before .before .before .before .before .before .mark-ends .ensures .0, c .before .before .before .before .before .before .before .before .before .before .before .before .walk .ensures .still-sound)
-
--- the budget is used
-returns-3 : tie.Need-returns-3
-returns-3 c =
-    let ended = c .ended2 .ensures in
-    let takes-steps = answered-yes (c .before .before .before .before .before .before .before .before .before .before .before .before .before .before .before .before .before .before .before .before .before .before .before .before .is-steppable .ensures) (c .before .before .before .before .before .before .before .before .before .before .before .before .before .before .before .before .before .before .before .before .before .before .before .if1 .left) in
-    ran _ _ _ _ _ _
-    (run-used _ _ _ _ _ _ _ _ _ takes-steps (none-marked 1) (c .before .before .before .before .before .before .before .before .before .before .before .before .before .before .walk .ensures) (c .before .before .before .before .before .if2 .left) (c .before .when-used .ensures)) (ended .0)
+    ran _ _ _ _ _ _ (run-ends _ _ _ _ _ _ _ _ _ takes-steps (none-marked 1) (c .before .before .before .before .before .before .before .before .before .before .before .before .before .walk .ensures) (c .before .at-end .ensures)) (ended .0)
     (ended .1)
     (ended .2)
     (ended .3)
@@ -64,14 +47,8 @@ run-by-value-spec =
     (λ c. search needs)
     walk-requires
     (λ c. search needs)
-    (λ c κs. sound-rows _ (c .before .before .before .before .before .before .before .before .before .before .before .walk .ensures .still-sound) .0)
+    (λ c κs. sound-rows _ (c .before .before .before .before .before .before .before .before .before .before .before .walk .ensures .walked .still-sound) .0)
     (λ c κs. search needs)
     (λ c. search needs)
     (λ c. search needs)
-    returns-2
-    (λ c. search needs)
-    when-used-requires
-    (λ c κs. search needs)
-    (λ c. search needs)
-    (λ c. search needs)
-    returns-3)
+    returns-2)

@@ -5,7 +5,7 @@ use mathlib.Core.Bool.{false}
 use mathlib.Core.Logic.{⊎-elim}
 use native.Mathlib.Omega.{arith}
 use borrow.Author.Needs.{needs}
-use Rattle.walks.specs.Internal.Walking.{isOpen}
+use Rattle.looks.specs.Looking.{isOpen}
 use Rattle.walks.proofs.FreeLaws.{low-first, skip-first}
 use Rattle.walks.proofs.walk.first_open.Statement.{statement}
 use Rattle.walks.proofs.walk.first_open.Tie as tie

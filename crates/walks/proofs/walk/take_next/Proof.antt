@@ -7,8 +7,9 @@ use lib.ListN.{length, set, length-set}
 use Rattle.graph.specs.Tables.{vertexWords, usableLimit}
 use Rattle.index.specs.Underway.{Ready}
 use Rattle.engine.proofs.LowestLaws.{late-free}
-use Rattle.walks.proofs.FreeLaws.{made-rows, still-ready, may-here, Looked, nearer}
-use Rattle.walks.proofs.FreeLaws.{look-begins, turned-over, taken-next, none-next}
+use Rattle.looks.proofs.OpenLaws.{nearer}
+use Rattle.looks.proofs.OwnDue.{made-rows}
+use Rattle.walks.proofs.FreeLaws.{still-ready, may-here, Looked, look-begins, left-tables, turned-over, taken-next, none-next}
 use Rattle.walks.proofs.walk.take_next.Statement.{statement}
 use Rattle.walks.proofs.walk.take_next.Tie as tie
 
@@ -21,7 +22,8 @@ abbrev μ-loop : tie.MeasureT-loop
 μ-loop program ends vertices₀ index₀ busy shut₀ limit edition course candidates made vertex₀ told₀ vertices index shut vertex told = made - vertex
 
 returns : tie.Need-returns Inv-loop μ-loop
-returns c = (λ e is none-can. late-free _ _ _ _ (c .if1 .taken), refl, refl)
+returns c =
+    (λ e is none-can. late-free _ _ _ _ (c .if1 .taken), refl, refl, c .before .before .before .before .before .before .before .before .before .pre .1 .3 .0, λ e is none-can. none-can)
 
 -- at a turn
 module _ (c : tie.In-loop Inv-loop μ-loop) where
@@ -100,32 +102,47 @@ returns-2 c =
     (c .before .before .before .before .before .before .before .if2 .taken) (c .before .before .before .before .before .found .ensures)
     (c .before .before .before .before .settled .ensures) (c .before .before .reopened .ensures)
 
-next-open-requires : tie.Need-next-open-requires Inv-loop μ-loop
-next-open-requires c κs =
-    let step = c .before .before .before .before .before .before .before .before .before .before in
-    (rows-left step, omega (arith, length-set (turn step .before .loop .shut) (turn step .before .loop .vertex) 1, looked (turn step) .long, made-rows _ _ _ _ (ready (turn step))))
-
-loop-less : tie.Need-loop-less Inv-loop μ-loop
-loop-less c =
-    let turn = turn (c .before .before .before .before .before .before .before .before .before .before .before) in
-    nearer _ (start turn .args .busy .now) (set (turn .before .loop .shut) (turn .before .loop .vertex) 1) _ _ (start turn .args .candidates .skip) _ _ (turn .loop-test .taken) (c .before .behind .ensures)
-    (c .next-open .ensures)
-
-loop-again : tie.Need-loop-again Inv-loop μ-loop
-loop-again c =
+look-further-requires : tie.Need-look-further-requires Inv-loop μ-loop
+look-further-requires c κs =
     let step = c .before .before .before .before .before .before .before .before .before .before .before in
     let turn = turn step in
     let start = start turn in
     let inv = turn .before .loop .inv in
+    let same =
+    left-tables _ _ _ _ (start .args .busy .now) (start .args .shut .now) _ _ (ready turn) (start .args .candidates) (turn .before .loop .shut) _ _
+    (looked turn) (turn .loop-test .taken) _ _ _ _ (step .step-on-index .result) (inv .0) (inv .1) (step .step-on-index .ensures)
+    (c .before .before .before .before .before .step-refused .ensures) (c .before .before .before .before .if2 .left)
+    in (
+      start .pre .0 .0,
+      start .pre .0 .1,
+      still-ready _ _ _ _ _ _ (ready turn) (same .0) (same .1),
+      turn .before .before .before .before .before .if1 .left,
+      length-set (turn .before .loop .shut) (turn .before .loop .vertex) 1 ∙ looked turn .long,
+    )
+
+loop-less : tie.Need-loop-less Inv-loop μ-loop
+loop-less c =
+    let turn = turn (c .before .before .before .before .before .before .before .before .before .before .before .before .before .before) in
+    nearer _ (start turn .args .busy .now) (c .before .before .look-further .last .1 .1 .1 .1 .1 .0) _ _ _ _ (turn .loop-test .taken)
+    (omega (arith, c .before .before .before .behind .ensures))
+    (c .before .before .look-further .ensures .1)
+
+loop-again : tie.Need-loop-again Inv-loop μ-loop
+loop-again c =
+    let step = c .before .before .before .before .before .before .before .before .before .before .before .before .before .before in
+    let turn = turn step in
+    let start = start turn in
+    let inv = turn .before .loop .inv in
+    let found = c .before .before .look-further .ensures in
     turned-over _ _ _ _ (start .args .busy .now) (start .args .shut .now) _ _ (ready turn) (start .args .candidates) (turn .before .loop .shut) _ _
-    (looked turn) (turn .loop-test .taken) _ _ _ _ (step .step-on-index .result) (inv .0) (inv .1) (step .step-on-index .ensures) _ _
-    (c .before .before .before .before .before .step-refused .ensures) (c .before .before .before .before .if2 .left) (c .before .behind .ensures) (c .next-open .ensures)
+    (looked turn) (turn .loop-test .taken) _ _ _ _ (step .step-on-index .result) (inv .0) (inv .1) (step .step-on-index .ensures)
+    (c .before .before .before .before .before .before .before .before .step-refused .ensures) (c .before .before .before .before .before .before .before .if2 .left) (c .before .before .look-further .last .1 .1 .1 .1 .1 .0) _ _ (c .before .before .before .behind .ensures) (found .0) (found .1)
 
 returns-3 : tie.Need-returns-3 Inv-loop μ-loop
 returns-3 c =
     let start = c .before .before .before .before .before .before .before .before .before .before .before .before .before .before in
     let inv = c .before .loop .inv in
-    (none-next _ _ _ _ _ _ _ _ (start .pre .1 .0) _ _ _ _ (inv .3) (c .loop-test .left) (inv .2), inv .0, inv .1)
+    (none-next _ _ _ _ _ _ _ _ (start .pre .1 .0) _ _ _ _ (inv .3) (c .loop-test .left) (inv .2), inv .0, inv .1, inv .3 .long, inv .3 .barred)
 
 pub take-next-spec : {M : Type 1} → statement M
 take-next-spec =
@@ -148,8 +165,8 @@ take-next-spec =
     (λ c. search needs)
     (λ c. search needs)
     (λ c. short (c .before .before .before .before .before .before .before .before .before .before))
-    (λ c κs. usable (c .before .before .before .before .before .before .before .before .before .before .before .before))
-    next-open-requires
+    (λ c κs. usable (c .before .before .before .before .before .before .before .before .before .before .before .before .before))
+    look-further-requires
     loop-less
     loop-again
     (λ c. ap length (c .before .loop .inv .0))

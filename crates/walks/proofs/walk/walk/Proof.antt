@@ -1,11 +1,11 @@
--- The held edges are taken in, and what is left of them is handed back.
+-- The held edges are taken in, and what is left of them behind the walk is handed back.
 use borrow.Author.Needs.{needs}
-use mathlib.Core.Path.{refl}
+use mathlib.Core.Path.{refl, sym, _∙_}
 use native.Mathlib.Omega.{arith}
 use Rattle.graph.proofs.SoundChecks.{sound-rows}
 use Rattle.index.proofs.TakenIn.{taken-in, stands-for-lent}
 use Rattle.walks.proofs.RenewLaws.{usable-ends, room-back}
-use Rattle.walks.proofs.WalkLaws.{ready-for, walked-lent}
+use Rattle.walks.proofs.WalkLaws.{ready-for, rested-lent}
 use Rattle.walks.proofs.walk.walk.Statement.{statement}
 use Rattle.walks.proofs.walk.walk.Tie as tie
 
@@ -27,17 +27,25 @@ walk-on-requires c κs =
       refl,
     )
 
+rest-requires : tie.Need-rest-requires
+rest-requires c κs =
+    let pre = c .before .before .before .before .before .before .before .before .before .before .before .before .before .before .before .before .before .before .before .before .before .before .before .before .before .before .before .before .before .before .before .before .before .before .pre in
+    let walked = c .before .before .before .before .before .before .before .before .before .before .before .before .before .before .walk-on .ensures in
+    (pre .0, pre .1, walked .1, walked .3)
+
 hand-back-requires : tie.Need-hand-back-requires
 hand-back-requires c κs =
-    let walked = c .before .before .before .before .before .before .before .before .before .before .before .before .before .before .before .walk-on .ensures in
-    let back = room-back _ _ _ _ (c .before .before .before .before .before .before .before .before .before .before .before .before .before .before .before .walk-on .last .1 .1 .1 .0) (walked .1) (walked .2) in
+    let walked = c .before .before .before .before .before .before .before .before .before .before .before .before .before .before .before .before .before .before .before .before .before .walk-on .ensures in
+    let back = room-back _ _ _ _ (c .before .before .before .before .before .before .before .before .before .before .before .before .before .before .before .before .before .before .before .before .before .walk-on .last .1 .1 .1 .0) (walked .1) (walked .2) in
     (walked .1 .indexed, back .0, back .1)
 
 returns : tie.Need-returns
 returns c =
-    walked-lent _ _ (c .before .before .before .before .before .before .before .before .before .before .before .before .before .before .before .before .before .before .walk-on .ensures .0)
-    (stands-for-lent _ _ _ _ (c .before .before .before .before .before .before .before .before .before .before .before .before .before .before .before .before .before .before .before .before .before .before .before .before .before .before .before .before .before .before .before .before .before .before .before .before .before .before .pre .2) (c .before .before .before .before .before .before .before .before .before .before .before .before .before .before .before .before .before .before .before .before .before .before .before .before .before .before .take-in .ensures .1))
-    (c .before .before .hand-back .ensures)
+    let walked = c .before .before .before .before .before .before .before .before .before .before .before .before .before .before .before .before .before .before .before .before .before .before .before .before .walk-on .ensures in
+    let rested = c .before .before .before .before .before .before .before .before .before .rest .ensures in
+    rested-lent _ _ (c .before .before .before .before .before .before .before .before .before .before .before .before .before .before .before .before .before .before .before .before .before .before .before .before .walk-on .last .1 .1 .1 .1 .1 .0) _ (c .before .before .before .before .before .before .before .before .before .before .before .before .before .before .before .before .before .before .before .before .before .before .before .before .walk-on .last .1 .1 .1 .1 .1 .1 .1 .0) (c .before .before .before .before .before .before .before .before .before .rest .result) (walked .0)
+    (stands-for-lent _ _ _ _ (c .before .before .before .before .before .before .before .before .before .before .before .before .before .before .before .before .before .before .before .before .before .before .before .before .before .before .before .before .before .before .before .before .before .before .before .before .before .before .before .before .before .before .before .before .pre .2) (c .before .before .before .before .before .before .before .before .before .before .before .before .before .before .before .before .before .before .before .before .before .before .before .before .before .before .before .before .before .before .before .before .take-in .ensures .1)) (c .before .before .hand-back .ensures) (walked .4) (rested .0)
+    (rested .1 _ (sym (walked .2)))
 
 pub walk-spec : {M : Type 1} → statement M
 walk-spec =
@@ -53,10 +61,13 @@ walk-spec =
     walk-on-requires
     (λ c. search needs)
     (λ c. search needs)
+    rest-requires
+    (λ c. search needs)
+    (λ c. search needs)
     (λ c. search needs)
     hand-back-requires
-    (λ c. search needs)
-    (λ c. search needs)
-    (λ c. search needs)
-    (λ c. search needs)
+    (λ c. c .before .before .before .before .before .before .before .before .before .before .before .before .before .before .before .before .before .before .before .before .before .before .before .before .walk-on .kept .1 .1 .0)
+    (λ c. c .before .before .hand-back .kept .0 ∙ c .before .before .before .before .before .before .before .before .before .before .before .before .before .before .before .before .before .before .before .before .before .before .before .before .walk-on .kept .1 .1 .1 .0)
+    (λ c. c .before .before .before .before .before .before .before .before .before .before .before .before .before .before .before .before .before .before .before .before .before .before .before .before .walk-on .kept .1 .1 .1 .1 .1 .0)
+    (λ c. c .before .before .before .before .before .before .before .before .before .before .before .before .before .before .before .before .before .before .before .before .before .before .before .before .walk-on .kept .1 .1 .1 .1 .1 .1 .0)
     returns)

@@ -8,7 +8,7 @@ use lib.ListN.{length}
 use Rattle.graph.proofs.TestLaws.{true-false}
 use Rattle.index.specs.Underway.{stateOf}
 use Rattle.machine.specs.Dispatching.{desk}
-use Rattle.walks.proofs.IndexSteps.{rows-there}
+use Rattle.looks.proofs.OwnDue.{rows-there}
 use Rattle.walks.proofs.WalkLaws.{Walking, row-left, row-none, walking-begins, walking-renewed, walking-further, walked-to, attempt-none, attempt-took}
 use Rattle.walks.proofs.walk.walk_on.Statement.{statement}
 use Rattle.walks.proofs.walk.walk_on.Tie as tie
@@ -38,6 +38,7 @@ returns : tie.Need-returns Inv-loop μ-loop
 returns c =
     walked-to _ _ _ _ _ _ _ _ _ _ _ _ _ _ _ _ _ _ _ _ (c .before .before .before .before .loop .inv .6) (c .walked .ensures) (λ q. true-false q refl)
     (λ q. inr (row-none _ (c .before .before .before .before .loop .jobs) (c .before .before .before .before .before .before .before .before .before .before .before .before .before .args .jobs .now) _ (c .before .before .before .before .loop .inv .4) (c .before .before .is-full .ensures) (c .before .if1 .taken)))
+    (c .before .before .before .before .loop .shut) (c .before .before .before .before .loop .inv .6 .told .0) (c .before .before .before .before .loop .inv .6 .barred)
 
 renewed-requires : tie.Need-renewed-requires Inv-loop μ-loop
 renewed-requires c κs = let h = c .before .before .before .before .before .before .loop .inv .6 in (h .ready, h .rows)
@@ -52,9 +53,9 @@ take-next-requires c κs =
 returns-2 : tie.Need-returns-2 Inv-loop μ-loop
 returns-2 c =
     let here = walking-renewed _ _ _ _ _ _ _ _ _ _ _ _ _ _ _ _ _ _ _ _ _ (c .before .before .before .before .before .before .before .before .before .before .before .before .before .before .before .before .before .before .before .before .before .before .before .before .before .loop .inv .6) (c .before .before .before .before .before .before .before .before .before .before .before .before .before .before .before .before .before .before .renewed .ensures .0) (c .before .before .before .before .before .before .before .before .before .before .before .before .before .before .before .before .before .before .renewed .ensures .2) (c .before .before .before .before .before .before .before .before .before .before .before .before .before .before .before .before .before .before .renewed .ensures .3) in
-    let (low, same-v, same-x) = attempt-none _ _ _ _ _ _ _ _ _ _ _ (c .before .before .before .before .before .before .before .before .before .take-next .ensures) (c .before .enum-told .given .1) in
+    let (low, same-v, same-x, long, barred) = attempt-none _ _ _ _ _ _ _ _ _ _ _ (c .before .before .before .before .before .before .before .before .before .take-next .ensures) (c .before .enum-told .given .1) in
     rw (same-v, same-x)
-    (walked-to _ _ _ _ _ _ _ _ _ _ _ _ _ _ _ _ _ _ _ _ here (c .walked2 .ensures) (λ q. low _ (sym (here .rows)) (here .barred)) (λ q. true-false refl q))
+    (walked-to _ _ _ _ _ _ _ _ _ _ _ _ _ _ _ _ _ _ _ _ here (c .walked2 .ensures) (λ q. low _ (sym (here .rows)) (here .barred)) (λ q. true-false refl q) (c .before .before .before .before .before .before .before .before .before .take-next .last .1 .1 .1 .1 .1 .0) long (barred _ (sym (here .rows)) (here .barred)))
 
 hand-out-requires : tie.Need-hand-out-requires Inv-loop μ-loop
 hand-out-requires c κs =
@@ -81,6 +82,7 @@ returns-3 : tie.Need-returns-3 Inv-loop μ-loop
 returns-3 c =
     walked-to _ _ _ _ _ _ _ _ _ _ _ _ _ _ _ _ _ _ _ _ (c .before .before .loop .inv .6) (c .walked3 .ensures) (λ q. true-false q refl)
     (λ q. inl (c .before .loop-test .left))
+    (c .before .before .loop .shut) (c .before .before .loop .inv .6 .told .0) (c .before .before .loop .inv .6 .barred)
 
 pub walk-on-spec : {M : Type 1} → statement M
 walk-on-spec =

@@ -5,8 +5,8 @@ use borrow.Author.Tests.{eq-eqb, ne-eqb}
 use Rattle.graph.proofs.TestLaws.{either-left, either-skip, either-false, both-false-left}
 use Rattle.index.specs.Underway.{mayStep}
 use Rattle.engine.proofs.DueLaws.{both-skip}
-use Rattle.walks.proofs.walk.may_step.Statement.{statement}
-use Rattle.walks.proofs.walk.may_step.Tie as tie
+use Rattle.looks.proofs.open.may_step.Statement.{statement}
+use Rattle.looks.proofs.open.may_step.Tie as tie
 
 returns : tie.Need-returns
 unfolding mayStep

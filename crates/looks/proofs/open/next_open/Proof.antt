@@ -2,9 +2,9 @@
 use Prim.Native.Nat.{_-_, _≤_}
 use mathlib.Core.Path.{sym, _∙_}
 use native.Mathlib.Omega.{arith}
-use Rattle.walks.proofs.FreeLaws.{NoneOpen, one-more}
-use Rattle.walks.proofs.walk.next_open.Statement.{statement}
-use Rattle.walks.proofs.walk.next_open.Tie as tie
+use Rattle.looks.proofs.OpenLaws.{NoneOpen, one-more}
+use Rattle.looks.proofs.open.next_open.Statement.{statement}
+use Rattle.looks.proofs.open.next_open.Tie as tie
 
 abbrev Inv-loop : tie.InvT-loop
 Inv-loop vertices busy shut made from vertex₀ vertex = (from ≤ vertex) × NoneOpen vertices busy shut from vertex

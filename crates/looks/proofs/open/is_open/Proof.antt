@@ -3,9 +3,9 @@ use mathlib.Core.Path.{refl, sym, _∙_}
 use borrow.Author.Needs.{needs}
 use borrow.Author.Tests.{not-true, not-false}
 use Rattle.graph.proofs.TestLaws.{both-false-left}
-use Rattle.walks.proofs.FreeLaws.{open-as-told}
-use Rattle.walks.proofs.walk.is_open.Statement.{statement}
-use Rattle.walks.proofs.walk.is_open.Tie as tie
+use Rattle.looks.proofs.OpenLaws.{open-as-told}
+use Rattle.looks.proofs.open.is_open.Statement.{statement}
+use Rattle.looks.proofs.open.is_open.Tie as tie
 
 returns : tie.Need-returns
 returns c = sym (both-false-left _ (sym (c .before .is-free .ensures) ∙ not-true _ (c .if1 .taken)))

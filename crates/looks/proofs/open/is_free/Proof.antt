@@ -4,9 +4,9 @@ use borrow.Author.Needs.{needs}
 use borrow.Author.Tests.{eq-eqb, not-true, not-false}
 use lib.ListN.{List·getD-eq-default}
 use Rattle.graph.proofs.TestLaws.{both-false-left}
-use Rattle.walks.proofs.FreeLaws.{free-as-marked}
-use Rattle.walks.proofs.walk.is_free.Statement.{statement}
-use Rattle.walks.proofs.walk.is_free.Tie as tie
+use Rattle.looks.proofs.OpenLaws.{free-as-marked}
+use Rattle.looks.proofs.open.is_free.Statement.{statement}
+use Rattle.looks.proofs.open.is_free.Tie as tie
 
 returns : tie.Need-returns
 returns c = sym (both-false-left _ (sym (c .before .may-step .ensures) ∙ not-true _ (c .if1 .taken)))
