@@ -2,6 +2,7 @@
 
 use std::hint::black_box;
 
+use compare::pair::State;
 use keshtiwol::{
     Edition, EDGE_TABLE, EDGE_WORDS, IN_COUNT, JOB_WORDS, ROWS, SOURCE, STATUS, STEP_LIMIT, TARGET, VERTEX_EXECUTING, VERTEX_RELEASED,
     VERTEX_TABLE, VERTEX_WORDS,
@@ -24,6 +25,12 @@ pub trait Side {
     fn step(&mut self, program: &[u8], edition: Edition, vertex: u32) -> Result<(), u32>;
     /// Runs to the end and tells the steps taken.
     fn run(&mut self, program: &[u8], edition: Edition) -> u32;
+    /// Puts tables, tally and marks into this state.
+    fn put(&mut self, state: &State, busy: &[u32]);
+    /// A run of so many steps at most; tells the steps taken.
+    fn run_some(&mut self, program: &[u8], edition: Edition, budget: u32) -> u32;
+    /// One dispatch of so many steps at most, with the marks as they are; tells the steps taken.
+    fn dispatch_some(&mut self, program: &[u8], edition: Edition, budget: u32) -> u32;
     /// Has a loaded program's jobs handed out, with a list of so many, to the end, and tells how many there were. Each has ended at the next call.
     fn dispatch(&mut self, program: &[u8], edition: Edition, list: usize) -> u32;
     /// The lowest vertex that can step.
@@ -90,6 +97,26 @@ macro_rules! side {
                 let run = $made_by::run(program, &mut self.vertices, &mut self.edges, &mut self.tally, edition, black_box(STEP_LIMIT));
                 assert_eq!(run.ending, $made_by::Ending::Done);
                 run.taken
+            }
+
+            fn put(&mut self, state: &State, busy: &[u32]) {
+                self.vertices.clone_from(&state.vertices);
+                self.edges.clone_from(&state.edges);
+                self.busy.clear();
+                self.busy.extend_from_slice(busy);
+                let keshtiwol::Tally { made, held, steps } = state.tally;
+                self.tally = $made_by::Tally { made, held, steps };
+            }
+
+            fn run_some(&mut self, program: &[u8], edition: Edition, budget: u32) -> u32 {
+                let (edition, budget) = (Self::edition(edition), black_box(budget));
+                black_box($made_by::run(program, &mut self.vertices, &mut self.edges, &mut self.tally, edition, budget)).taken
+            }
+
+            fn dispatch_some(&mut self, program: &[u8], edition: Edition, budget: u32) -> u32 {
+                let (edition, budget) = (Self::edition(edition), black_box(budget));
+                let (vertices, edges, tally) = (&mut self.vertices, &mut self.edges, &mut self.tally);
+                black_box($made_by::dispatch(program, vertices, edges, tally, edition, budget, &mut self.busy, &mut self.list)).taken
             }
 
             fn dispatch(&mut self, program: &[u8], edition: Edition, list: usize) -> u32 {

@@ -58,6 +58,55 @@ pub struct Counts {
     editions: [[u64; OF_EDITIONS.end - OF_EDITIONS.start]; 3],
     crossings: Crossings,
     orders: Orders,
+    /// What runs and dispatches passed over.
+    passes: [Passes; 2],
+}
+
+/// How often steps of runs, or of dispatches, had to pass over vertices that may step and are refused, on tables where many are.
+#[derive(Clone, Copy, Debug, Default)]
+pub struct Passes {
+    /// Steps that were looked at.
+    pub steps: u64,
+    /// Of these, where at least two were passed over, and where at least 65 were.
+    pub two: u64,
+    pub many: u64,
+    /// Calls that ended because all were refused, at least two and at least 65 of them.
+    pub last_two: u64,
+    pub last_many: u64,
+    /// The most that were passed over.
+    pub most: usize,
+    /// What those said that were passed over at a call's first look: 35 of newEdge, of a force's newEdge and of transfer, 32, or another.
+    pub cycles: u64,
+    pub force_cycles: u64,
+    pub transfer_cycles: u64,
+    pub full: u64,
+    pub others: u64,
+    /// Steps that appended an edge, took one that adds nothing, or handed edges on.
+    pub appended: u64,
+    pub idle: u64,
+    pub transfers: u64,
+    /// Steps after which one that was passed over is the next.
+    pub opened: u64,
+}
+
+impl Passes {
+    fn add(&mut self, more: Passes) {
+        self.steps += more.steps;
+        self.two += more.two;
+        self.many += more.many;
+        self.last_two += more.last_two;
+        self.last_many += more.last_many;
+        self.most = more.most.max(self.most);
+        self.cycles += more.cycles;
+        self.force_cycles += more.force_cycles;
+        self.transfer_cycles += more.transfer_cycles;
+        self.full += more.full;
+        self.others += more.others;
+        self.appended += more.appended;
+        self.idle += more.idle;
+        self.transfers += more.transfers;
+        self.opened += more.opened;
+    }
 }
 
 /// What dispatches did.
@@ -366,6 +415,11 @@ impl Counts {
         self.dispatches.add(Dispatches { kept: 1, passed: passed.into(), ..Dispatches::default() });
     }
 
+    /// Notes what the steps of a run or a dispatch passed over.
+    pub fn passed(&mut self, by_dispatch: bool, passes: Passes) {
+        self.passes[usize::from(by_dispatch)].add(passes);
+    }
+
     /// Notes a program that loaded.
     pub fn loaded(&mut self, program: &[u8], edition: Edition) {
         let (vertices, _, levels) = programs::needs(program, edition);
@@ -495,6 +549,9 @@ impl Counts {
         }
         self.crossings.add(other.crossings);
         self.orders.add(other.orders);
+        for (passes, more) in self.passes.iter_mut().zip(other.passes) {
+            passes.add(more);
+        }
     }
 
     pub fn calls(&self) -> u64 {
@@ -581,6 +638,11 @@ impl Counts {
         self.orders
     }
 
+    /// What the steps of runs and of dispatches passed over, on tables where many vertices are refused.
+    pub fn passes(&self) -> [Passes; 2] {
+        self.passes
+    }
+
     /// The calls that can be refused with 12 though the tally refuses nothing, and how often they were.
     pub fn unsound_beside_the_tally(&self) -> impl Iterator<Item = (&'static str, u64)> {
         CALLS.into_iter().zip(self.unsound).skip(2)
@@ -664,6 +726,15 @@ impl fmt::Display for Counts {
             "orders of jobs were asked for and kept {whole} times, with {most} jobs at most, and {cut} times kept up to a job that "
         )?;
         writeln!(f, "stands before one ahead of it")?;
+        for (by, passes) in ["runs", "dispatches"].iter().zip(self.passes) {
+            let Passes { steps, two, many, last_two, last_many, most, cycles, force_cycles, transfer_cycles, full, others, .. } = passes;
+            let Passes { appended, idle, transfers, opened, .. } = passes;
+            write!(f, "of {steps} steps of {by} where many vertices are refused {two} passed over two or more, {many} over 65 or more, ")?;
+            write!(f, "{most} at most; {last_two} ended with two or more refused, {last_many} with 65 or more; of those passed over ")?;
+            write!(f, "{cycles} were 35 by newEdge, {force_cycles} by that of a force, {transfer_cycles} by transfer, {full} were 32, ")?;
+            write!(f, "{others} others; steps appended {appended} edges, took {idle} that add nothing, handed edges on {transfers} ")?;
+            writeln!(f, "times, and {opened} times one that was passed over came next")?;
+        }
         write!(f, "12 for a status or an edge:")?;
         for (call, times) in self.unsound_beside_the_tally() {
             write!(f, " {call} {times}")?;

@@ -6,11 +6,11 @@ use std::ops::Range;
 
 use keshtiwol::{
     refusal, Answer, Chain, Command, Dispatch, DispatchEnding, Edition, Ending, Lowest, Run, Tally, EDGE_WORDS, FUTURE, IN_COUNT,
-    JOB_WORDS, MADE, PHASE, ROWS, SOURCE, STATUS, STEP_LIMIT, TARGET, VERTEX_EXECUTING, VERTEX_FINISHED, VERTEX_NEW, VERTEX_RELEASED,
-    VERTEX_WORDS,
+    JOB_WORDS, MADE, PHASE, PLACE, ROWS, SOURCE, STATUS, STEP_LIMIT, TARGET, VERTEX_EXECUTING, VERTEX_FINISHED, VERTEX_NEW,
+    VERTEX_RELEASED, VERTEX_WORDS,
 };
 
-use crate::counts::{Callers, Counts, Forces, InCounts, Repeats, Starts};
+use crate::counts::{Callers, Counts, Forces, InCounts, Passes, Repeats, Starts};
 use crate::programs;
 
 #[derive(Clone, Copy, Debug, PartialEq)]
@@ -101,6 +101,13 @@ impl State {
         into
     }
 
+    /// The vertices below this one that execute and have no mark.
+    fn executing(&self, below: u32, marks: &[u32]) -> Vec<u32> {
+        let is_free = |vertex: u32| marks.get(vertex as usize).is_none_or(|&mark| mark == 0);
+        let executing = |(vertex, row): &(u32, &[u32])| row[STATUS] == VERTEX_EXECUTING && is_free(*vertex);
+        (0..below).zip(self.made()).filter(executing).map(|(vertex, _)| vertex).collect()
+    }
+
     /// For each vertex made its in-count, and what that should be.
     fn in_counts(&self) -> Vec<(u32, u32)> {
         self.made().map(|row| row[IN_COUNT]).zip(self.edges_into()).collect()
@@ -144,6 +151,40 @@ struct Starting {
     edges_in: u32,
     bad_status: bool,
     bad_edge: bool,
+}
+
+/// The steps of a run or a dispatch of which it is looked at what they passed over.
+const STEPS_LOOKED_AT: u32 = 6;
+/// The most vertices that are asked why they were passed over.
+const MOST_ASKED: usize = 200;
+
+/// What a vertex asks for that a cycle may refuse.
+#[derive(Clone, Copy, Debug, PartialEq)]
+pub enum Asked {
+    Edge,
+    ForcedEdge,
+    Transfer,
+}
+
+/// The phases of the item with this first byte at which its next command is a newEdge or a transfer.
+pub fn asked_at(first: u8, edition: Edition) -> &'static [(u32, Asked)] {
+    match (first, edition) {
+        (programs::ASYNC, _) => &[(1, Asked::Edge)],
+        (programs::FINISH, _) => &[(2, Asked::Edge), (3, Asked::Transfer)],
+        (programs::FORK, Edition::First) => &[(3, Asked::Edge), (4, Asked::Edge), (5, Asked::Transfer)],
+        (programs::FORK, Edition::Second) => &[(2, Asked::Edge), (3, Asked::Edge)],
+        (programs::FUTURE, _) => &[(2, Asked::Edge)],
+        (programs::FORCE, _) => &[(1, Asked::ForcedEdge), (2, Asked::Transfer)],
+        _ => &[],
+    }
+}
+
+/// The vertex whose step led from one state to the other: its place or its phase moves, or it starts, stops or yields.
+fn stepped(old: &State, new: &State) -> Option<u32> {
+    let moved = |(old, new): (&[u32], &[u32])| {
+        old[PLACE] != new[PLACE] || old[PHASE] != new[PHASE] || old[STATUS] != VERTEX_NEW && old[STATUS] != new[STATUS]
+    };
+    old.made().zip(new.made()).position(moved).map(|vertex| vertex as u32)
 }
 
 /// Words around the engine's tables, marks and list that no call may touch.
@@ -565,6 +606,87 @@ impl Pair {
             at = word;
         }
         unreachable!("a number is below the futures of a program")
+    }
+
+    /// A run or a dispatch on both sides. Its first steps are taken once more by `paper`, one at a time, and it is noted which vertices
+    /// that may step each of them passed over.
+    pub fn pass_over(&mut self, call: Call) -> Result<Said, Difference> {
+        let (mut state, mut busy) = (self.state.clone(), self.paper_busy.clone());
+        let said = self.call(call)?;
+        let Some(edition) = edition_of(self.edition) else { return Ok(said) };
+        let (taken, stuck, waiting) = match said {
+            Said::Run(run) if refusal_of(said).is_none() => (run.taken, run.ending == Ending::Stuck, false),
+            Said::Dispatch(Dispatch { ending, taken, .. }) if refusal_of(said).is_none() => {
+                (taken, ending == DispatchEnding::Stuck, ending == DispatchEnding::Waiting)
+            }
+            _ => return Ok(said),
+        };
+        let by_dispatch = matches!(call, Call::Dispatch { .. });
+        let mut passes = Passes::default();
+        let mut before = Vec::new();
+        for step in 0..taken.min(STEPS_LOOKED_AT) {
+            let marks = if by_dispatch { busy.clone() } else { Vec::new() };
+            let (old, held) = (state.clone(), state.tally.held);
+            let one = if by_dispatch { Call::Dispatch { budget: 1, words: JOB_WORDS as u32 } } else { Call::Run(1) };
+            on_paper(one, Some(edition), &self.program, &mut state, &mut busy, &mut [0; JOB_WORDS]);
+            let Some(vertex) = stepped(&old, &state) else { return Err(self.disagreement("a step changes no vertex that may step")) };
+            let passed = old.executing(vertex, &marks);
+            if step == 0 {
+                self.note_refusals(&old, edition, &passed, &mut passes)?;
+            }
+            passes.steps += 1;
+            passes.two += u64::from(passed.len() >= 2);
+            passes.many += u64::from(passed.len() >= 65);
+            passes.most = passed.len().max(passes.most);
+            passes.opened += u64::from(before.contains(&vertex));
+            match self.edge_or_transfer(&old, vertex) {
+                Some(Asked::Transfer) => passes.transfers += 1,
+                Some(_) if state.tally.held > held => passes.appended += 1,
+                Some(_) => passes.idle += 1,
+                None => {}
+            }
+            before = passed;
+        }
+        if taken <= STEPS_LOOKED_AT && (stuck || waiting) {
+            let passed = state.executing(u32::MAX, if waiting { &busy } else { &[] });
+            if taken == 0 {
+                self.note_refusals(&state, edition, &passed, &mut passes)?;
+            }
+            passes.last_two += u64::from(passed.len() >= 2);
+            passes.last_many += u64::from(passed.len() >= 65);
+            passes.most = passed.len().max(passes.most);
+        }
+        self.counts.passed(by_dispatch, passes);
+        Ok(said)
+    }
+
+    /// Notes why vertices were passed over, where they are not too many to ask. Each is refused.
+    fn note_refusals(&self, state: &State, edition: Edition, passed: &[u32], passes: &mut Passes) -> Result<(), Difference> {
+        if passed.len() > MOST_ASKED {
+            return Ok(());
+        }
+        // Refused steps change nothing.
+        let mut state = state.clone();
+        for &vertex in passed {
+            let said = on_paper(Call::Step(vertex), Some(edition), &self.program, &mut state, &mut [], &mut []);
+            *match (refusal_of(said), self.edge_or_transfer(&state, vertex)) {
+                (Some(refusal::CLOSES_CYCLE), Some(Asked::Edge)) => &mut passes.cycles,
+                (Some(refusal::CLOSES_CYCLE), Some(Asked::ForcedEdge)) => &mut passes.force_cycles,
+                (Some(refusal::CLOSES_CYCLE), _) => &mut passes.transfer_cycles,
+                (Some(refusal::NO_EDGE_ROW), _) => &mut passes.full,
+                (Some(_), _) => &mut passes.others,
+                (None, _) => return Err(self.disagreement(&format!("vertex {vertex} can step, and was passed over"))),
+            } += 1;
+        }
+        Ok(())
+    }
+
+    /// Whether a vertex that executes, on a program that loads, is at a newEdge or a transfer in the edition that is named.
+    fn edge_or_transfer(&self, state: &State, vertex: u32) -> Option<Asked> {
+        let row = state.made().nth(vertex as usize).filter(|row| row[STATUS] == VERTEX_EXECUTING)?;
+        let first = *self.program.get(row[PLACE] as usize)?;
+        let edition = edition_of(self.edition)?;
+        asked_at(first, edition).iter().find(|(phase, _)| *phase == row[PHASE]).map(|&(_, asked)| asked)
     }
 
     /// Whether an edge that was taken where so many were held is one of these. It is appended exactly where it is not, except from a

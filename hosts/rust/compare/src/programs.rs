@@ -181,6 +181,20 @@ pub fn asyncs_with_a_job(times: u32) -> Vec<u8> {
     [[ASYNC, JOB, 5, 0].repeat(times as usize), vec![0]].concat()
 }
 
+/// So many futures with nothing in them, then forces of any of these, asyncs, finishes, forks and jobs, one after the other.
+pub fn one_of_each(draw: &mut Draw, futures: u32) -> Vec<u8> {
+    let mut program = [FUTURE, 0].repeat(futures as usize);
+    for _ in 0..draw.between(1, 3) {
+        for number in [0, draw.below(futures)] {
+            program.push(FORCE);
+            program.extend(number_bytes(number));
+        }
+        program.extend([ASYNC, JOB, 5, 0, FINISH, JOB, 6, 0, FORK, 0, JOB, 7, 0, JOB, 8, JOB, 9, JOB, 10]);
+    }
+    program.push(0);
+    program
+}
+
 /// So many forks with nothing in them, one after the other.
 pub fn empty_forks(forks: usize) -> Vec<u8> {
     [[FORK, 0, 0].repeat(forks), vec![0]].concat()

@@ -9,7 +9,7 @@ use keshtiwol::{
 
 use crate::counts::Counts;
 use crate::draw::Draw;
-use crate::pair::{edition_of, Call, Difference, Pair, Said, State};
+use crate::pair::{asked_at, edition_of, Asked, Call, Difference, Pair, Said, State};
 use crate::programs::{self, Size};
 
 type Outcome = Result<(), Difference>;
@@ -18,7 +18,7 @@ type Kind = fn(&mut Scene) -> Outcome;
 /// Plays the scenario of a seed: what was called and said, or the first difference.
 pub fn play(seed: u64) -> Result<Counts, Difference> {
     let mut draw = Draw::new(seed);
-    let kinds: [(&str, u32, Kind); 15] = [
+    let kinds: [(&str, u32, Kind); 16] = [
         ("a bare machine", 3, Scene::bare),
         ("random tables", 3, Scene::random_tables),
         ("a schedule", 4, Scene::schedule),
@@ -34,6 +34,7 @@ pub fn play(seed: u64) -> Result<Counts, Difference> {
         ("callers that wait", 4, Scene::callers_that_wait),
         ("orders of jobs", 4, Scene::orders),
         ("jobs handed out", 5, Scene::dispatches),
+        ("many refused", 8, Scene::many_refused),
     ];
     let (name, _, kind) = kinds[draw.weighted(&kinds.map(|kind| kind.1))];
     let size = [Size::Small, Size::Middle, Size::Large][draw.weighted(&[80, 14, 6])];
@@ -371,6 +372,161 @@ impl Scene {
             _ => self.draw.below(24),
         };
         Call::Dispatch { budget: self.draw.pick(&[0, 1, 2, 5, 20, 200, 8192, u32::MAX]), words }
+    }
+
+    /// The same with this budget.
+    fn any_dispatch_of(&mut self, budget: u32) -> Call {
+        match self.any_dispatch() {
+            Call::Dispatch { words, .. } => Call::Dispatch { budget, words },
+            other => other,
+        }
+    }
+
+    /// Runs and dispatches on tables where many vertices execute at a newEdge or a transfer, with few ends for their edges, so that most
+    /// are refused, some take an edge that is held already, and steps that are taken close or open the way for others.
+    fn many_refused(&mut self) -> Outcome {
+        // With more vertices each step takes longer.
+        let (vertices, tables, budgets): (u32, u32, &[u32]) = match self.draw.weighted(&[240, 100, 2]) {
+            0 => (self.draw.between(8, 40), 6, &[0, 1, 1, 2, 5, 5, STEP_LIMIT]),
+            1 => (self.draw.between(64, 200), 6, &[0, 1, 1, 2, 5, 5, 200]),
+            _ => (ROWS as u32, 1, &[0, 1, 2]),
+        };
+        let sound = self.loaded_or_new(vertices)?;
+        for _ in 0..self.draw.between(1, tables) {
+            let mut state = sound.clone();
+            self.crowd(&mut state);
+            self.pair.set(state);
+            self.pair.set_busy(Vec::new());
+            for _ in 0..self.draw.between(2, 6) {
+                let budget = self.draw.pick(budgets);
+                let call = match self.draw.below(10) {
+                    0..4 => Call::Run(budget),
+                    4..8 => self.any_dispatch_of(budget),
+                    8 => Call::Step(self.able_or_name()),
+                    _ => Call::Lowest,
+                };
+                match call {
+                    Call::Run(_) | Call::Dispatch { .. } => self.pair.pass_over(call)?,
+                    _ => self.call(call)?,
+                };
+                if self.draw.one_in(10) {
+                    self.alter();
+                }
+            }
+        }
+        Ok(())
+    }
+
+    /// Tables with about so many vertices made, for a program with items of every kind: as a loading and a run left them, or with all new.
+    fn loaded_or_new(&mut self, vertices: u32) -> Result<State, Difference> {
+        if vertices < ROWS as u32 && self.draw.one_in(3) {
+            // A future makes two vertices, in five steps.
+            self.pair.program = programs::one_of_each(&mut self.draw, vertices / 2);
+            self.load_again()?;
+            let budget = self.draw.between(2 * vertices, 4 * vertices);
+            self.pair.call(Call::Run(budget))?;
+            return Ok(self.pair.state().clone());
+        }
+        let futures = self.draw.between(1, 6);
+        self.pair.program = programs::one_of_each(&mut self.draw, futures);
+        let (rows, edge_rows) = (vertices + self.draw.below(4), vertices / 2 + self.draw.below(vertices));
+        let mut words = vec![0; VERTEX_WORDS * rows as usize];
+        words.chunks_exact_mut(VERTEX_WORDS).take(vertices as usize).for_each(|row| row[STATUS] = VERTEX_NEW);
+        let tally = Tally { made: vertices, held: 0, steps: self.draw.below(100) };
+        Ok(State { vertices: words, edges: vec![0; EDGE_WORDS * edge_rows as usize], tally })
+    }
+
+    /// Has most vertices made execute at a newEdge or a transfer. Few vertices are the ends of what they ask for and of most edges held:
+    /// new ones with hardly an edge out, others that wait, and others that may stop or yield.
+    fn crowd(&mut self, state: &mut State) {
+        let (draw, program, made) = (&mut self.draw, &self.pair.program, state.tally.made);
+        let (mut asking, mut others) = (Vec::new(), Vec::new());
+        // Steps that may open the way for others: a stop, the last of the future that the program begins with, and yields.
+        let mut leaving = vec![(program.len() as u32 - 1, 0), (0, 4)];
+        for (at, _) in programs::starts(program) {
+            if program[at] == programs::FORK && self.edition == Edition::Second {
+                leaving.push((at as u32, 6));
+            }
+            asking.extend(asked_at(program[at], self.edition).iter().map(|&(phase, asked)| (at as u32, phase, asked)));
+            others.push(at as u32);
+        }
+        // Either nearly all ask for the same edge, which closes a cycle until a vertex stops that is among the last, or for anything.
+        let firm = made > 200 || draw.one_in(3);
+        let (count, late) = (draw.between(4, 9), firm || draw.one_in(2));
+        let last = |draw: &mut Draw| made - 1 - draw.below(made / 8 + 1);
+        let ends: Vec<u32> = (0..count).map(|at| if late && at >= 2 * count / 3 { last(draw) } else { draw.below(made) }).collect();
+        let (new, ring) = ends.split_at(ends.len() / 3);
+        let (waiting, stopping) = ring.split_at(ends.len() / 3);
+        let targets = if draw.one_in(3) { ring } else { waiting };
+        let ring_rows = if firm || draw.one_in(2) { ring.len() } else { 0 };
+        let (source, target) = if firm { (ring[ring.len() - 2], ring[0]) } else { (draw.pick(&ends), draw.pick(waiting)) };
+        let kinds: Vec<_> = asking.iter().copied().filter(|&(_, _, asked)| !firm || asked != Asked::Transfer).collect();
+        let usual = draw.pick(&kinds);
+        // One in so many asks for something else, and has other ends, which are any vertices once in so many times; and from some vertex on
+        // one in so many does something else.
+        let (unlike, strays) = match firm {
+            true if made > 200 || draw.one_in(2) => (u32::MAX, 400),
+            true => (20, 60),
+            false => (draw.pick(&[1, 3, 20]), draw.pick(&[1, 1, 60])),
+        };
+        let far = draw.pick(&[3, 16, 16]);
+        let others_from = if firm { made - made / 8 } else { draw.pick(&[0, made / 2, made - made / 8]) };
+        let other = draw.pick(&[2, 5, 20]);
+        for (vertex, row) in (0..made).zip(state.vertices.chunks_exact_mut(VERTEX_WORDS)) {
+            let stray = draw.one_in(strays);
+            let near = |draw: &mut Draw, usual: u32, ends: &[u32]| match draw.below(far) {
+                _ if !stray => usual,
+                0 => vertex,
+                1 => draw.below(made),
+                _ => draw.pick(ends),
+            };
+            let (place, phase, asked) = if draw.one_in(unlike) { draw.pick(&asking) } else { usual };
+            let target = match asked {
+                Asked::Transfer => near(draw, new[0], new),
+                _ if stray && draw.one_in(4) => vertex,
+                _ => near(draw, target, targets),
+            };
+            let sources = [near(draw, source, &ends), near(draw, source, &ends)];
+            row[SCOPE] = target;
+            row[MADE..FUTURE].copy_from_slice(&match program[place as usize] {
+                programs::ASYNC | programs::FORK => [sources[0], sources[1], target],
+                _ => [target, sources[0], sources[1]],
+            });
+            row[FUTURE] = if stray && draw.one_in(20) { future_word(draw, vertex, made) } else { near(draw, source, &ends).max(1) };
+            (row[STATUS], row[PLACE], row[PHASE]) = match vertex {
+                _ if new.contains(&vertex) => (VERTEX_NEW, draw.pick(&others), 0),
+                _ if waiting.contains(&vertex) => (draw.pick(&[VERTEX_NEW, VERTEX_NEW, VERTEX_RELEASED]), draw.pick(&others), 0),
+                _ if stopping.contains(&vertex) => {
+                    let (place, phase) = if draw.one_in(2) { draw.pick(&leaving) } else { (draw.pick(&others), 0) };
+                    (VERTEX_EXECUTING, place, phase)
+                }
+                _ if vertex >= others_from && draw.one_in(other) => (1 + draw.below(4), draw.pick(&others), 0),
+                _ => (VERTEX_EXECUTING, place, phase),
+            };
+        }
+        let rows = (state.edges.len() / EDGE_WORDS).min(ROWS);
+        let held = match draw.below(3) {
+            0 => (ring_rows + draw.index(2 * ends.len())).min(rows),
+            1 => rows.saturating_sub(draw.index(4)),
+            _ => draw.index(rows + 1),
+        };
+        state.tally.held = held as u32;
+        for (at, row) in state.edges.chunks_exact_mut(EDGE_WORDS).take(held).enumerate() {
+            if at < ring_rows {
+                (row[SOURCE], row[TARGET]) = (ring[at], ring[(at + 1) % ring_rows]);
+                continue;
+            }
+            let source = if draw.one_in(2) { draw.below(made) } else { draw.pick(&ends) };
+            row[SOURCE] = if new.contains(&source) { draw.pick(stopping) } else { source };
+            row[TARGET] = if draw.one_in(6) { draw.below(made) } else { draw.pick(&ends) };
+        }
+        if !firm && self.draw.one_in(3) {
+            self.shape_edges(state);
+        }
+        if self.draw.one_in(4) {
+            self.fill(state);
+        }
+        self.count_edges(state);
     }
 
     /// Programs that loading refuses, mostly; then lent to tables that a sound program led to.

@@ -1,11 +1,11 @@
 //! A short comparison that yet sees every word, every refusal and programs at the limits.
 
-use compare::counts::{Callers, Crossings, Dispatches, Forces, Gaps, InCounts, Orders, Repeats, Starts, REFUSALS, WORDS};
+use compare::counts::{Callers, Crossings, Dispatches, Forces, Gaps, InCounts, Orders, Passes, Repeats, Starts, REFUSALS, WORDS};
 use keshtiwol::{Edition, Machine};
 
 #[test]
 fn no_difference() {
-    let (counts, _) = match compare::compare(800_000, 1) {
+    let (counts, _) = match compare::compare(1_000_000, 1) {
         Ok(done) => done,
         Err(failure) => panic!("seed {}: {}", failure.seed, failure.difference.0),
     };
@@ -63,6 +63,14 @@ fn no_difference() {
     let orders = counts.orders();
     let Orders { whole, cut, most } = orders;
     assert!(whole > 250 && cut > 500 && most > 300, "orders of jobs that were asked for: {orders:?}");
+    for (by, passes) in ["runs", "dispatches"].iter().zip(counts.passes()) {
+        let Passes { two, many, last_two, last_many, most, cycles, force_cycles, transfer_cycles, full, .. } = passes;
+        let Passes { appended, idle, transfers, opened, .. } = passes;
+        assert!(two > 2000 && many > 50 && last_two > 500 && last_many > 50 && most > 150, "what {by} passed over: {passes:?}");
+        let refused = [cycles, force_cycles, transfer_cycles, full];
+        assert!(refused.iter().all(|&times| times > 50), "what {by} passed over: {passes:?}");
+        assert!([appended, idle, transfers, opened].iter().all(|&times| times > 50), "what {by} passed over: {passes:?}");
+    }
     for (call, times) in counts.unsound_beside_the_tally() {
         assert!(times > 50, "12 for a status or an edge: {call}, {times} times");
     }
