@@ -1,5 +1,5 @@
 /* A receiver on four threads: it retunes, filters and decodes four channels side by side, and logs what it heard. For yours, change `program`
- * and `run_job`; the workers can stay. gcc -pthread -Iinclude hosts/c/receiver.c target/staticlib/libkeshtiwol.a, or installed -lkeshtiwol */
+ * and `run_job`; the workers can stay. gcc -pthread -Iinclude hosts/c/receiver.c crates/keshtiwol/out/libkeshtiwol.a, or installed -lkeshtiwol */
 #include <pthread.h>
 #include <stdio.h>
 #include <stdlib.h>

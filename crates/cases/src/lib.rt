@@ -7,7 +7,8 @@ pub mod draw;
 ghost use Rattle.std.specs.Prelude.{◌≡◌};
 ghost use Rattle.cases.specs.Sums.{table_sum};
 
-use libc::STDOUT_FILENO;
+// The number of standard output.
+pub const STDOUT_FILENO: i32 = 1;
 
 pub fn text(bytes: &[u8]) {
     io::write_all(STDOUT_FILENO, bytes);

@@ -6,7 +6,7 @@ use mathlib.Core.Logic.{⊎_elim, ◌↔◌}
 use mathlib.Core.List.{List, [], ◌∷◌}
 use mathlib.Core.Option.{Option, none, some, Option-elim}
 use native.Mathlib.Omega.{arith}
-use lib.ListN.{length}
+use lib.ListN.{length, get_or, drop}
 use Rattle.graph.specs.Tables.{Lent}
 use Rattle.graph.specs.Sound.{sound}
 use Rattle.graph.specs.Internal.Search.{Hops, here}
@@ -19,13 +19,27 @@ use Rattle.graph.proofs.LowestLaws.{order?}
 use Rattle.chains.proofs.HopLaws.{NoneLower, distance_least, distance_some, next_lowest, next_none, chain_hops, chain_of, hops_stays, stays_hops}
 
 -- ORDER
+-- the first word of a list
+abbrev first_word : List ℕ → ℕ
+first_word l = get_or l 0 0
+
 -- of two lists neither of which stands after the other, each is the other
+same_place_at : {l l' m m' : List ℕ} → NotAfter l l' → NotAfter m m' → m ≡ l' → m' ≡ l → l ≡ l'
+same_place_at both_end q e f = sym f ∙ ends q e
+  where
+    ends : {m m' : List ℕ} → NotAfter m m' → m ≡ [] → m' ≡ []
+    ends both_end e = refl
+    ends (lower p) e = absurd cc
+    ends (same p) e = absurd cc
+same_place_at (lower p) both_end e f = absurd cc
+same_place_at (lower p) (lower q) e f = absurd (omega (arith, ap first_word e, ap first_word f))
+same_place_at (lower p) (same q) e f = absurd (omega (arith, ap first_word e, ap first_word f))
+same_place_at (same p) both_end e f = absurd cc
+same_place_at (same p) (lower q) e f = absurd (omega (arith, ap first_word e, ap first_word f))
+same_place_at (same {x = x} p) (same q) e f = ap (λ (r : List ℕ). x ∷ r) (same_place_at p q (ap (drop 1) e) (ap (drop 1) f))
+
 pub same_place : {l l' : List ℕ} → NotAfter l l' → NotAfter l' l → l ≡ l'
-same_place both_end both_end = refl
-same_place (lower p) (lower q) = absurd (omega arith)
-same_place (lower p) (same q) = absurd (omega arith)
-same_place (same p) (lower q) = absurd (omega arith)
-same_place (same {x = x} p) (same q) = ap (λ (r : List ℕ). x ∷ r) (same_place p q)
+same_place p q = same_place_at p q refl refl
 
 -- a chain begins with its first vertex, so of two chains the one with the lower first vertex comes first
 by_first : {E : ℕ → ℕ → Bool} {a b c d : ℕ} {l l' : List ℕ} → a < c → Chain E a b l → Chain E c d l' → NotAfter l l'

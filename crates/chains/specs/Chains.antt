@@ -1,6 +1,6 @@
 -- "write into a lent list the shortest chain of held edges that leads from target back to source, vertex by vertex"
 use Rattle.std.specs.Prelude.{ℕ, zero, suc, ◌≡◌, Bool, true, List, [], ◌∷◌, eqb}
-use Rattle.std.proofs.Math.Option.{Option, none, some, Option·elim}
+use Rattle.std.proofs.Math.Option.{Option, none, some, Option-elim}
 use Rattle.graph.specs.Tests.{both, any, lowest_below}
 use Rattle.graph.specs.Tables.{Lent}
 use Rattle.graph.specs.Paths.{holds}
@@ -32,7 +32,7 @@ next_vertex s d a b = lowest_below (λ x. both (held_edge s a x) (leads_in s d x
 -- of the chains of d edges from a to b the first
 unfoldable pub first_chain : Lent → ℕ → ℕ → ℕ → List ℕ
 first_chain s zero a b = a ∷ []
-first_chain s (suc d) a b = a ∷ Option·elim (next_vertex s d a b) [] (λ x. first_chain s d x b)
+first_chain s (suc d) a b = a ∷ Option-elim (next_vertex s d a b) [] (λ x. first_chain s d x b)
 
 -- the first of as many edges as the distance says, if it says a number
 unfoldable pub of_length : Option ℕ → Lent → ℕ → ℕ → Option (List ℕ)

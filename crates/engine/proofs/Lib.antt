@@ -8,7 +8,6 @@
 --     PromiseLaws    a loading, and then a list of steps
 --     CandidateLaws  which vertices can step
 --     LowestLaws     looking for the lowest of them, and for the lowest that is not busy
---     Results        what the cores return, for the law of thin entries (crate graph, proofs/Thin)
 pub mod LoadedLaws
 pub mod DueLaws
 pub mod NextLaws
@@ -18,4 +17,3 @@ pub mod StepIs
 pub mod PromiseLaws
 pub mod CandidateLaws
 pub mod LowestLaws
-pub mod Results

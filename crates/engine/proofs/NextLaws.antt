@@ -420,6 +420,19 @@ yielding_beyond v σ m left right past {p} {φ} {a} {b} {c} {l} h0 h1 h2 h3 h4 h
     told Second L v σ (own p φ a b c l) m (Stands.fork left right past)
     (λ g. beyond v σ m g 0 (fork_row Second) (spots left right past L) p φ a b c l (at_least_7 (at_least_4 h0 h1 h2 h3) h4 h5 h6))
 
+-- all of them
+pub ruleset yielding = (
+  yielding_0,
+  yielding_1,
+  yielding_2,
+  yielding_3,
+  yielding_4,
+  yielding_5,
+  yielding_6,
+  yielding_beyond,
+  refl,
+)
+
 -- a future
 pub future_0 :
     (L v σ m body past : ℕ) {p φ a b c l : ℕ} {w : Own} {d : Due} → φ ≡ 0 → w ≡ with_phase (φ + 1) (with_made 0 m (own p φ a b c l))

@@ -6,7 +6,7 @@ use mathlib.Core.Bool.{Bool, true, cond}
 use native.Mathlib.Omega.{arith}
 use Rattle.graph.specs.declared.Command.{Command}
 use Rattle.graph.specs.declared.Command.TheVariants.{NewTd, NewEdge, Release, Transfer, Start, Stop, Yield}
-use Rattle.graph.specs.Tables.{Lent, NEW, RELEASED, EXECUTING, FINISHED, edge_rows, status, set_status}
+use Rattle.graph.specs.Tables.{Lent, NEW, RELEASED, EXECUTING, FINISHED, edge_rows, set_status}
 use Rattle.graph.specs.Rules.{X, NEWTD, RELEASE, START, STOP, NEWEDGE, TRANSFER, YIELD, Rule, is_finished, added, ◌∪◌}
 use Rattle.graph.specs.Commands.{with_status, with_vertex, with_edge, with_moved, stopped}
 use Rattle.graph.specs.InCounts.{CountTrue, ReadsTrue}

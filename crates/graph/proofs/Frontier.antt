@@ -98,15 +98,15 @@ module _ {e : List ℕ} {n to v d head c : ℕ} {m q : List ℕ} {tail : ℕ} (f
 
   -- where each row with a target less than b edges away has a marked source, each path of up to b edges begins at a marked vertex
   module _ (b : ℕ) (all : (i k : ℕ) → i < n → k < b → Away to m (target e i) k → IsMarked m (source e i)) where
-    edge_marked : (x y : ℕ) {k : ℕ} → holds e n x y ≡ true → Hops (holds e n) k y to → k < b → IsMarked m x
-    edge_marked x y h here lt = let (i, l, from, into) = held_row e n x y h in rw from at (all i 0 l lt (inl (into, refl)))
-    edge_marked x y h (hop {k = k} {b = z} g p) lt =
+    edge_marked : (x y : ℕ) {k : ℕ} → Hops (holds e n) k y to → holds e n x y ≡ true → k < b → IsMarked m x
+    edge_marked x y here h lt = let (i, l, from, into) = held_row e n x y h in rw from at (all i 0 l lt (inl (into, refl)))
+    edge_marked x y (hop {k = k} {b = z} g p) h lt =
         let (i, l, from, into) = held_row e n x y h in
-        let marked = edge_marked y z g p (omega arith) in
+        let marked = edge_marked y z p g (omega arith) in
         rw from at (all i (get_or m y 0) l (omega (arith, f.least y k marked (hop g p))) (inr (marked, rw into refl)))
 
     path_marked : {k x : ℕ} → Hops (holds e n) (suc k) x to → suc k ≤ b → IsMarked m x
-    path_marked (hop {a = x} {b = y} h p) le = edge_marked x y h p le
+    path_marked (hop {a = x} {b = y} h p) le = edge_marked x y p h le
 
   -- so it is for d: rows with such targets are neither left nor wait
   near_marked : {k x : ℕ} → Hops (holds e n) (suc k) x to → suc k ≤ d → IsMarked m x

@@ -27,8 +27,6 @@
 --     RowLinks     the edge rows linked by their targets
 --     Frontier     the path search, turn by turn
 --     CallLaws     a call's outcome from its refusal
---     Thin         the law of the thin entries, whose tally is lent too, and its parts
---     Results      what the cores return, for that law
 pub mod TestLaws
 pub mod LowestLaws
 pub mod PathLaws
@@ -55,5 +53,3 @@ pub mod EdgeLoops
 pub mod RowLinks
 pub mod Frontier
 pub mod CallLaws
-pub mod Thin
-pub mod Results

@@ -3,9 +3,13 @@
 use crate::{LINE_BYTES, Line, first_line, next_line};
 use engine::next::STEP_LIMIT;
 use graph::rows::{EDGE_TABLE, VERTEX_TABLE};
-use libc::{STDIN_FILENO, STDOUT_FILENO};
 use program::Edition;
 use program::format::PROGRAM_BYTES;
+
+// The numbers of standard input and standard output.
+const STDIN_FILENO: i32 = 0;
+
+const STDOUT_FILENO: i32 = 1;
 
 // Lists the program that standard input holds. One byte more is read than a program may have, so that a longer input is refused.
 pub fn list_input(edition: Edition) {

@@ -4,17 +4,17 @@
 --     shuts_barred             who is shut behind a look cannot step
 --     late_look, looked        the steps are used up; or the first open vertex that can step was looked for
 use Prim.Native.Nat.{ℕ, ◌<◌, ◌≤◌}
-use mathlib.Core.Path.{◌≡◌, refl, sym, ◌∙◌, ap}
+use mathlib.Core.Path.{◌≡◌, refl, sym}
 use mathlib.Core.Bool.{Bool, true, false, not}
-use mathlib.Core.Logic.{◌⊎◌, inl, inr, ⊎_elim}
+use mathlib.Core.Logic.{⊎_elim}
 use mathlib.Core.List.{List}
 use mathlib.Core.Option.{Option, none, some}
 use native.Mathlib.Omega.{arith}
 use lib.Dec.{ltb}
-use borrow.Author.Tests.{eqb-false, lt-ltb, le-ltb, ltb-true, ltb-false, not-false}
+use borrow.Author.Tests.{eqb-false, ltb-true, ltb-false, not-false}
 use Rattle.graph.specs.Tables.{Lent, EXECUTING, edge_rows, status}
 use Rattle.graph.specs.Sound.{sound}
-use Rattle.graph.proofs.TestLaws.{true-false, decide, both_true, both_left, both_right, both-false_left, both-false_right, either-false_left, either-false_right}
+use Rattle.graph.proofs.TestLaws.{both_true, both_left, both_right, both-false_left, both-false_right, either-false_left, either-false_right}
 use Rattle.graph.proofs.LowestLaws.{found_is, none_is}
 use Rattle.index.specs.declared.Course.{Course}
 use Rattle.index.specs.Underway.{state_of, Ready, may_step}
@@ -26,7 +26,6 @@ use Rattle.engine.specs.Internal.Underway.{may_start}
 use Rattle.engine.proofs.CandidateLaws.{both_fails, barred}
 use Rattle.engine.proofs.LowestLaws.{can_now, NoneNow, late_free}
 use Rattle.looks.specs.Looking.{is_free, is_open, FirstOpen, CanOn, Shuts, Barred, found, Looks}
-use Rattle.looks.proofs.OpenLaws.{shuts_same}
 
 -- who may not step cannot
 idle_stays :

@@ -10,15 +10,14 @@
 use Prim.Native.Nat.{ℕ, ◌+◌, ◌-◌, ◌<◌, ◌≤◌}
 use mathlib.Core.Path.{◌≡◌, refl, sym, ◌∙◌, ap, subst}
 use mathlib.Core.Bool.{Bool, true, false, not}
-use mathlib.Core.Logic.{◌⊎◌, inl, inr, ⊎_elim}
+use mathlib.Core.Logic.{inl, inr, ⊎_elim}
 use mathlib.Core.List.{List}
 use native.Mathlib.Numerals.{add-one}
 use native.Mathlib.Omega.{arith}
 use lib.Dec.{eqb, ltb}
 use lib.ListN.{length, get_or, set, replicate, length-set, length-replicate, get_or-replicate, get_or-eq_default}
 use lib.Seq.{get_or-set_same, get_or-set_other}
-use borrow.Author.Tests.{ltb-true, ltb-false, not-true, not-false}
-use Rattle.graph.specs.Tests.{both}
+use borrow.Author.Tests.{ltb-true, ltb-false}
 use Rattle.graph.proofs.TestLaws.{true-false, decide, equal?, not_so, below_suc, both_true, both_left, both_right, both-false_right}
 use Rattle.graph.proofs.LowestLaws.{order?}
 use Rattle.index.specs.declared.Course.{Course}

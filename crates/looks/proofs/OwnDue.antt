@@ -7,7 +7,7 @@
 --     hinges_nothing, hinges_barred, hinges_given   what its step hinges on
 --     refused_cannot, foretold_not                  it is refused
 --     hinged_pair                                   what a command hinges on
-use Prim.Native.Nat.{ℕ, ◌+◌, ◌*◌, ◌<◌, ◌≤◌}
+use Prim.Native.Nat.{ℕ, ◌*◌, ◌<◌, ◌≤◌}
 use mathlib.Core.Path.{◌≡◌, refl, sym, ◌∙◌, ap, subst}
 use mathlib.Core.Bool.{Bool, true, false, cond}
 use mathlib.Core.List.{List, []}
@@ -17,14 +17,10 @@ use native.Mathlib.Omega.{arith}
 use lib.Dec.{eqb}
 use lib.ListN.{length, replicate, length-replicate}
 use borrow.Author.Tests.{eq-eqb, eqb-true}
-use Rattle.graph.specs.Tests.{both, either}
 use Rattle.graph.specs.Tables.{Lent, RELEASED, EXECUTING, vertex_words, edge_words, usable_limit, vertex_rows, edge_rows, status, in_count}
-use Rattle.graph.specs.Sound.{sound}
-use Rattle.graph.specs.Answers as of_graph
-use Rattle.graph.specs.Commands.{command}
 use Rattle.graph.specs.Internal.Checks.{is_start}
 use Rattle.graph.specs.declared.Command as single
-use Rattle.graph.proofs.TestLaws.{true-false, both_true, both_left, both_right, either_cases}
+use Rattle.graph.proofs.TestLaws.{both_true, both_left, both_right, either_cases}
 use Rattle.graph.proofs.SoundLaws.{sound_fits}
 use Rattle.graph.proofs.SoundChecks.{sound_rows}
 use Rattle.index.specs.declared.Course.{Course}

@@ -7,7 +7,7 @@
 --     shut_told_lem, shut_not          a turn of shutting
 --     told_shuts, shuts_told       who is shut so cannot step
 use Prim.Native.Nat.{ℕ, zero, suc, ◌+◌, ◌<◌, ◌≤◌}
-use mathlib.Core.Path.{◌≡◌, refl, sym, ◌∙◌, ap, subst}
+use mathlib.Core.Path.{◌≡◌, refl, sym, ◌∙◌, subst}
 use mathlib.Core.Bool.{Bool, true, false, not, cond}
 use mathlib.Core.Logic.{◌⊎◌, inl, inr, ⊎_elim}
 use mathlib.Core.List.{List}
@@ -17,8 +17,7 @@ use lib.Dec.{eqb}
 use lib.ListN.{length, get_or, set, take, length-set, length-take}
 use lib.Seq.{get_or-set_same, get_or-set_other, get_or-take}
 use borrow.Author.Tests.{eqb-true, eqb-false, not-true}
-use Rattle.graph.specs.Tests.{both, either}
-use Rattle.graph.proofs.TestLaws.{true-false, decide, below_suc, both_left, both_right, either_cases}
+use Rattle.graph.proofs.TestLaws.{below_suc, both_left, both_right, either_cases}
 use Rattle.index.specs.declared.Course.{Course}
 use Rattle.program.specs.declared.Edition.{Edition}
 use Rattle.reachability.specs.Pairs.{Told, Usable, RowsOf, pair_limit, not_held, joined}

@@ -41,6 +41,7 @@ alone o n e p q h = ⊎_elim (λ (_, none). none) (λ none. none) h
 -- only the last has any ahead
 fork_pre : (p q : ℕ) → Pre (located forked) p q → q ≡ 7
 unfolding Job InS Pre located locate size number_size encode encode_number group_bytes
+fork_pre p q (inl (i, inr h)) = elim h [ ]
 fork_pre p q (inl (i, inl e)) = e
 fork_pre p q (inr (inl h)) = absurd (alone 1 1 3 p q h)
 fork_pre p q (inr (inr (inl h))) = absurd (alone 4 2 6 p q h)

@@ -13,7 +13,7 @@ use mathlib.Core.Logic.{inl, inr, ◌↔◌}
 use mathlib.Core.List.{List, [], ◌∷◌, ◌++◌}
 use native.Mathlib.Omega.{arith}
 use Rattle.program.specs.Trees.{Kind, jobs, asyncs, finishes, forks, futures, forces}
-use Rattle.program.specs.Located.{Code, job_at, async_at, finish_at, fork_at, future_at, force_at}
+use Rattle.program.specs.Located.{Code, job_at, async_at, finish_at, fork_at, future_at, force_at, end_byte_at}
 use Rattle.machine.specs.Ahead.{Behind, job_behind, async_behind, finish_behind, fork_behind, future_behind, force_behind, HoldsBody}
 use Rattle.machine.specs.Ahead.{async_holds, finish_holds, fork_holds_left, fork_holds_right, future_holds, From, start, on, Way}
 use Rattle.machine.specs.Ahead.{ReadsBody, own, force_reads, ReadWay, Within, whole, behind, inside, AFinish, this, further, Closed}
@@ -141,6 +141,7 @@ way_itself o n r e = subst (λ (x : ℕ). Way (job_at o n r) x []) (sym e) Way.j
 -- a job that is there has a way
 pub job_way : (c : Code) (p : ℕ) → Job c p → Ways c p
 unfolding Job
+job_way (end_byte_at _) p j = elim j [ ]
 job_way (job_at o n r) p (inl e) = (_, [], start, way_itself o n r e)
 job_way (job_at o n r) p (inr j) = ways_behind job_behind (job_way r p j)
 job_way (async_at o b r) p (inl j) = ways_down async_holds (job_way b p j)
@@ -157,6 +158,7 @@ job_way (force_at o n b r) p j = ways_behind force_behind (job_way r p j)
 -- one that a finish around the code waits for has one with no future on it
 ina_way : (c : Code) (p : ℕ) → InA c p → FreeWays c p
 unfolding InA Other
+ina_way (end_byte_at _) p i = elim i [ ]
 ina_way (job_at o n r) p (inl e) = (_, [], start, own_way (way_itself o n r e), nil_none futures)
 ina_way (job_at o n r) p (inr i) = free_behind job_behind (ina_way r p i)
 ina_way (async_at o b r) p (inl i) = free_down (own async_holds) tt (ina_way b p i)
@@ -173,6 +175,7 @@ ina_way (force_at o n b r) p (inr i) = free_behind force_behind (ina_way r p i)
 -- and a closed one, where it is waited for
 ins_way : (c : Code) (p : ℕ) → InS c p → ClosedWays c p
 unfolding InS
+ins_way (end_byte_at _) p j = elim j [ ]
 ins_way (job_at o n r) p (inl e) = (_, [], start, own_way (way_itself o n r e), closed_nil)
 ins_way (job_at o n r) p (inr j) = closed_behind job_behind (ins_way r p j)
 ins_way (async_at o b r) p j = closed_behind async_behind (ins_way r p j)
@@ -304,6 +307,7 @@ by_fork h (c', ks, f, w, k) e j = by_first (forks ∷ ks) (ReadWay.down (own h) 
 -- what is ahead by recursion is ahead by a closed way
 pre_by_way : (m : Code) (p q : ℕ) → Pre m p q → ByWay m p q
 unfolding Pre
+pre_by_way (end_byte_at _) p q h = elim h [ ]
 pre_by_way (job_at o n r) p q (inl (e, j)) =
     by_first [] (own_way (way_itself o n r e)) closed_nil job_behind (job_way r q j)
 pre_by_way (job_at o n r) p q (inr h) = by_behind job_behind (pre_by_way r p q h)

@@ -22,7 +22,7 @@ use mathlib.Core.Logic.{◌⊎◌, inl, inr, ⊎_elim}
 use mathlib.Core.List.{List, [], ◌∷◌, ◌++◌}
 use native.Mathlib.Omega.{arith}
 use Rattle.program.specs.Trees.{Body, Kind, finishes}
-use Rattle.program.specs.Located.{Code, job_at, async_at, finish_at, fork_at, future_at, force_at, located, start_of, last}
+use Rattle.program.specs.Located.{Code, job_at, async_at, finish_at, fork_at, future_at, force_at, located, start_of, last, end_byte_at}
 use Rattle.program.proofs.LocatedLaws.{Laid, laid_located, laid_le, Inner, job_rest, async_body, async_rest, finish_body, finish_rest}
 use Rattle.program.proofs.LocatedLaws.{fork_left, fork_right, fork_rest, future_body, future_rest, force_rest, Part, part_code, code_range}
 use Rattle.program.proofs.OpenLaws.{Opens}
@@ -105,16 +105,20 @@ item_one {d = d} l (on e f) (on e' f') w w' =
     item_one {d = d} (behind_laid e l) f (subst (λ (x : Code). From x d) (behind_one e' e) f') w w'
 
 -- and from there one way leads to it
-way_one : {c : Code} {p : ℕ} {ks ls : List Kind} → Way c p ks → Laid c → Way c p ls → ks ≡ ls
-way_one Way.job_itself l Way.job_itself = refl
-way_one Way.job_itself l (Way.down h f w) = absurd (job_holds_none h)
-way_one (Way.down h f w) l Way.job_itself = absurd (job_holds_none h)
-way_one {p = p} (Way.down {k = k} {ks = ks} h f w) l (Way.down {b' = d} {k = k'} {ks = ls} h' f' w') =
+way_at : {c : Code} {p q : ℕ} {ks ls : List Kind} → Way c p ks → Laid c → Way c q ls → q ≡ p → ks ≡ ls
+way_at Way.job_itself l Way.job_itself e = refl
+way_at Way.job_itself l (Way.down h f w) e = absurd (job_holds_none h)
+way_at (Way.down h f w) l Way.job_itself e = absurd (job_holds_none h)
+way_at {p = p} (Way.down {k = k} {ks = ks} h f w) l (Way.down {b' = d} {k = k'} {ks = ls} h' f' w'') e =
+    let w' : Way d p ls = subst (λ (x : ℕ). Way d x ls) e w'' in
     let (same_kind, same_body) = held_one p l h' h (from_job p f' (way_job w')) (from_job p f (way_job w)) in
     let lb = held_laid h l in
     let same_item = item_one lb (subst (λ (x : Code). From x d) same_body f') f w' w in
-    let same_below : ks ≡ ls = way_one {ls = ls} w (from_laid f lb) (subst (λ (x : Code). Way x p ls) same_item w') in
+    let same_below : ks ≡ ls = way_at {ls = ls} w (from_laid f lb) (subst (λ (x : Code). Way x p ls) same_item w') refl in
     cc
+
+way_one : {c : Code} {p : ℕ} {ks ls : List Kind} → Way c p ks → Laid c → Way c p ls → ks ≡ ls
+way_one w l w' = way_at w l w' refl
 
 -- a job that is anywhere within is a job
 within_job : {m c : Code} (p : ℕ) → Within m c → Job c p → Job m p
@@ -292,6 +296,7 @@ fork_branches o {b} {c} {r} {p} {q} i j =
 
 stand_of : (m : Code) (p q : ℕ) → Job m p → Job m q → Stand m p q
 unfolding Job
+stand_of (end_byte_at _) p q i j = elim i [ ]
 stand_of (job_at o n r) p q (inl i) (inl j) = one_job (i ∙ sym j)
 stand_of (job_at o n r) p q (inl i) (inr j) = earlier _ [] (job_apart o n i j)
 stand_of (job_at o n r) p q (inr i) (inl j) = later _ [] (job_apart o n j i)
@@ -340,6 +345,7 @@ earlier_first {p = p} {q} h e j = ⊎_elim (λ i. let (ks, a) = held_apart p q h
 -- before.
 pre_earlier : (env : List Code) (m : Code) (p q : ℕ) → Opens env m → Nested env → Pre m p q → Earlier m p q ⊎ JobIn env p
 unfolding Opens Pre Nested JobIn
+pre_earlier env (end_byte_at _) p q h k i = elim i [ ]
 pre_earlier env (job_at o n r) p q h k (inl (e, j)) = inl (_, [], job_apart o n e j)
 pre_earlier env (job_at o n r) p q h k (inr f) = earlier_in_part (λ d. behind job_behind) (pre_earlier env r p q h k f)
 pre_earlier env (async_at o b r) p q h k (inl f) = earlier_in_part (λ d. inside async_holds) (pre_earlier env b p q h.0 k f)

@@ -81,7 +81,7 @@ job_or_not says_yield = inl refl
 
 -- where the move of a job leads
 performed :
-    {S S' : State} {v o : ℕ} {e : Event} → Move S v e S' → e ≡ a_job o
+    {S : State} {v o : ℕ} {e : Event} {S' : State} → Move S v e S' → e ≡ a_job o
     → (n : ℕ) × (r : Code) × (S.control v ≡ busy (job_at o n r) []) × (S' ≡ with_control S (put S.control v (busy r [])))
 unfolding event_of
 performed (begins at into) h = clash cc
@@ -356,7 +356,7 @@ module _ (ed : Edition) (bytes : List ℕ) (t : Body) (s₀ : Lent) (r : reading
       (append_assoc answers (a ∷ []) (answers_along steps))
       (subst (λ (js : List Job). Running ((answers ++ (a ∷ [])) ++ answers_along steps) s' (marks_of d') js)
       (append_assoc running (job_from v a) (jobs_among steps))
-      (steps_running more one' enough'))
+      (steps_running {answers = answers ++ (a ∷ [])} {running = running ++ job_from v a} more one' enough'))
     where
       -- the made vertices have rows among those that were lent at loading
       rows_same : Running answers s (marks_of d) running → s.made ≤ vertex_rows s₀.vertices

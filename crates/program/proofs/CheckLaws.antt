@@ -14,7 +14,7 @@ use borrow.Author.Tests.{eqb-true, eqb-false, eq-eqb, ne_eqb, ltb-true, ltb-fals
 use Rattle.program.specs.declared.Edition.{Edition}
 use Rattle.program.specs.declared.Edition.TheVariants.{First, Second}
 use Rattle.program.specs.Limits.{job_limit, level_limit, vertex_limit}
-use Rattle.program.specs.Trees.{Counts, jobs, asyncs, finishes, forks, futures, forces, end, a_job, a_force, with_first, open_behind, total}
+use Rattle.program.specs.Trees.{Counts, jobs, asyncs, finishes, forks, futures, forces, a_job, a_force, with_first, open_behind, total}
 use Rattle.program.specs.Bytes.{end_byte, job_byte, async_byte, fork_byte, future_byte, force_byte, top_bit, encode_number}
 use Rattle.program.specs.Encodings.{fork_row, row_of, weight, makes, fork_vertices}
 use Rattle.program.specs.Reader.{Read, took, refused, and_then, take_if, number, job_of, force_of, item, body, reading}

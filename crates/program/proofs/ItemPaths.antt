@@ -21,7 +21,7 @@ use Rattle.program.specs.Bytes.{end_byte, job_byte, async_byte, finish_byte, for
 use Rattle.refusal.specs.Refusals.{byte_unknown, level_too_deep, bytes_run_out, no_such_future}
 use Rattle.program.specs.Reader.{Read, took, refused, and_then, take_if, number, kind_of, job_of, force_of, item_of, item, body}
 use Rattle.program.specs.Answers.{item_counts}
-use Rattle.program.specs.Internal.Progress.{plus, Progress, past, stopped, reached, progress, counts_of, NumberProgress, value, reached_number}
+use Rattle.program.specs.Internal.Progress.{plus, Progress, past, reached, progress, counts_of, NumberProgress, value, reached_number}
 use Rattle.program.specs.Internal.Progress.{number_progress, one_of, Few, Ready}
 use Rattle.program.proofs.ReaderLaws.{item_job, item_force, OpensOneBody, of_async, of_finish, of_future, item_one, item_fork, Opener}
 use Rattle.program.proofs.ReaderLaws.{holds_one, holds_two, opener_is, item_deep, item_unknown}

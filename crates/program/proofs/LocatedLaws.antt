@@ -243,13 +243,23 @@ two_locate opened o o' o'' b c r e e' =
 pub laid_locate : (opened : List Code) (o : ℕ) (b : Body) → Laid (locate opened o b)
 unfolding Laid locate
 laid_locate opened o end = tt
-laid_locate opened o (job n r) = (behind_locate opened o _ r, laid_locate _ _ r)
-laid_locate opened o (async b r) = (one_locate opened _ o _ b r (omega arith), laid_locate _ _ b, laid_locate _ _ r)
-laid_locate opened o (finish b r) = (one_locate opened _ o _ b r (omega arith), laid_locate _ _ b, laid_locate _ _ r)
-laid_locate opened o (fork b c r) =
-    (two_locate opened o _ _ b c r (omega arith) (omega arith), laid_locate _ _ b, laid_locate _ _ c, laid_locate _ _ r)
-laid_locate opened o (future b r) = (one_locate opened _ o _ b r (omega arith), laid_locate _ _ b, laid_locate _ _ r)
-laid_locate opened o (force n r) = (behind_locate opened o _ r, laid_locate _ _ r)
+laid_locate opened o (job n r) = (behind_locate opened o _ r, laid_locate opened (suc (o + number_size n)) r)
+laid_locate opened o (async b r) =
+    (one_locate opened _ o _ b r (omega arith), laid_locate opened (suc o) b, laid_locate opened (suc (o + size b)) r)
+laid_locate opened o (finish b r) =
+    (one_locate opened _ o _ b r (omega arith), laid_locate opened (suc o) b, laid_locate opened (suc (o + size b)) r)
+laid_locate opened o (fork b c r) = (
+  two_locate opened o _ _ b c r (omega arith) (omega arith),
+  laid_locate opened (suc o) b,
+  laid_locate opened (suc (o + size b)) c,
+  laid_locate opened (suc (o + size b + size c)) r,
+)
+laid_locate opened o (future b r) = (
+  one_locate opened _ o _ b r (omega arith),
+  laid_locate opened (suc o) b,
+  laid_locate (locate opened (suc o) b ∷ opened) (suc (o + size b)) r,
+)
+laid_locate opened o (force n r) = (behind_locate opened o _ r, laid_locate opened (suc (o + number_size n)) r)
 
 -- so a program is laid
 pub laid_located : (b : Body) → Laid (located b)

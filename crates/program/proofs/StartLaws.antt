@@ -137,7 +137,7 @@ after s (x ∷ xs) = after (cond s (leb top_bit x) (opens_number x)) xs
 after_append : (s : Bool) (xs ys : List ℕ) → after s (xs ++ ys) ≡ after (after s xs) ys
 unfolding after
 after_append s [] ys = refl
-after_append s (x ∷ xs) ys = after_append _ xs ys
+after_append s (x ∷ xs) ys = after_append (cond s (leb top_bit x) (opens_number x)) xs ys
 
 -- the definition's test is the state behind the bytes before
 in_number-after : (xs : List ℕ) (i : ℕ) → i ≤ length xs → in_number xs i ≡ after false (take i xs)

@@ -51,6 +51,7 @@ impl Reader {
     }
 
     // The number at this reader's place, of this value, where its last group stands behind so many others.
+    #[tactic(auto, unfolding(crate::specs::Internal::Progress::number_ended))]
     fn number_ended(self, value: u64, last: u8, others: u32) -> NumberRead
         requires { self.place + others + 1 ≤ program_bytes }
         ensures { reached_number result ≡ number_ended self.place (item_counts self.seen) value last others }

@@ -17,15 +17,14 @@ use borrow.Author.Tests.{lt-ltb, le-ltb, lt-leb, le-leb}
 use Rattle.graph.specs.declared.Tally.{Tally}
 use Rattle.graph.specs.Tests.{every}
 use Rattle.graph.specs.Tables.{Lent, lent, FINISHED, vertex_rows, status}
-use Rattle.graph.proofs.TestLaws.{true-false, decide, not_so, both-false_left}
-use Rattle.graph.proofs.LowestLaws.{none_is, none_holds}
+use Rattle.graph.proofs.TestLaws.{true-false, decide, not_so}
 use Rattle.refusal.specs.Refusals.{unsound_tables, busy_table_too_short}
 use Rattle.program.specs.declared.Edition.{Edition}
 use Rattle.machine.specs.Answers.{StepSaid}
 use Rattle.machine.specs.Stepping.{steppable, step}
 use Rattle.machine.specs.Running.{lowest, all_finished}
 use Rattle.machine.specs.Dispatching.{lowest_free, Desk, desk, marks_of, list_of, handed_of, room, hand_out}
-use Rattle.machine.specs.Dispatching.{Ending, done, full, spent, refused, Outcome, ended, look, look_at, dispatch_on, dispatch}
+use Rattle.machine.specs.Dispatching.{Ending, refused, Outcome, ended, look, look_at, dispatch_on, dispatch}
 use Rattle.machine.specs.Traces.{Dispatched}
 use Rattle.machine.proofs.LookLaws.{finished_none}
 use Rattle.looks.specs.Looking.{found}
@@ -104,7 +103,7 @@ module _ (ed : Edition) (bytes : List ℕ) where
 -- ITS WALK
 -- a dispatch from its start is the dispatch that goes on from where its walk has come to
 came_dispatch :
-    {ed : Edition} {bytes : List ℕ} {s₀ s : Lent} {d₀ d : Desk} {last : Option StepSaid} {taken : ℕ} (budget : ℕ) → Came ed bytes true s₀ d₀ s d last taken
+    {ed : Edition} {bytes : List ℕ} {s₀ : Lent} {d₀ : Desk} {s : Lent} {d : Desk} {last : Option StepSaid} {taken : ℕ} (budget : ℕ) → Came ed bytes true s₀ d₀ s d last taken
     → dispatch_on ed bytes (taken + budget) s₀ d₀ 0 ≡ dispatch_on ed bytes budget s d taken
 came_dispatch {ed} {bytes} {s₀} {d₀ = d₀} budget begun =
     ap (λ (n : ℕ). dispatch_on ed bytes n s₀ d₀ 0) (let z : 0 + budget ≡ budget = omega arith in z)

@@ -7,24 +7,18 @@
 --     Looked, look_begins                     looking at the open vertices one after the other
 --     left_tables, turned_over                a step is refused
 --     taken_next, none_next                   it is accepted; all vertices are looked at
-use Prim.Native.Nat.{ℕ, ◌+◌, ◌*◌, ◌-◌, ◌<◌, ◌≤◌, max}
+use Prim.Native.Nat.{ℕ, ◌+◌, ◌<◌, ◌≤◌, max}
 use mathlib.Core.Path.{◌≡◌, refl, sym, ◌∙◌, ap, subst}
 use mathlib.Core.Bool.{Bool, true, false, not}
 use mathlib.Core.Logic.{◌⊎◌, inl, inr, ⊎_elim}
 use mathlib.Core.List.{List}
 use mathlib.Core.Option.{none, some}
-use native.Mathlib.Numerals.{add-one}
 use native.Mathlib.Omega.{arith}
-use lib.Dec.{eqb, ltb}
-use lib.ListN.{length, get_or, set, replicate, length-set, length-replicate, get_or-replicate, get_or-eq_default}
-use lib.Seq.{get_or-set_same, get_or-set_other}
-use borrow.Author.Tests.{eqb-false, ltb-true, ltb-false, not-true, not-false}
-use Rattle.graph.specs.Tests.{both}
-use Rattle.graph.specs.Tables.{Lent, EXECUTING, vertex_words, edge_words, usable_limit, edge_rows, status}
-use Rattle.graph.specs.Sound.{sound}
-use Rattle.graph.proofs.TestLaws.{true-false, decide, equal?, not_so, below_suc, both_true, both_left, both_right, both-false_left, both-false_right}
-use Rattle.graph.proofs.TestLaws.{either-false_left, either-false_right}
-use Rattle.graph.proofs.SoundChecks.{sound_rows}
+use lib.Dec.{ltb}
+use lib.ListN.{length, set, length-replicate}
+use borrow.Author.Tests.{ltb-true, ltb-false, not-true, not-false}
+use Rattle.graph.specs.Tables.{Lent, usable_limit, edge_rows}
+use Rattle.graph.proofs.TestLaws.{true-false, decide, not_so, both_true, both_left, both_right}
 use Rattle.graph.proofs.LowestLaws.{order?, found_is, none_is}
 use Rattle.index.specs.declared.Course.{Course}
 use Rattle.index.specs.Underway.{state_of, Ready, may_step}
@@ -35,15 +29,12 @@ use Rattle.machine.specs.Dispatching.{is_busy, lowest_free}
 use Rattle.walks.specs.declared.Candidates.{Candidates}
 use Rattle.walks.specs.declared.Moved.{Moved}
 use Rattle.engine.specs.Answers.{said}
-use Rattle.engine.specs.Internal.Underway.{may_start}
 use Rattle.looks.specs.Looking.{is_free, is_open, Barred, FirstOpen, CannotOn, Shuts}
 use Rattle.looks.proofs.OpenLaws.{shut_here, none_shut, shuts_one, shuts_both, still_open}
 use Rattle.looks.proofs.OwnDue.{made_rows}
 use Rattle.looks.proofs.LookLaws.{unopen, shuts_barred}
 use Rattle.walks.specs.Internal.Walking.{StepsOn, OpensNobody, ShutAsTold, Covers, StillCovers}
 use Rattle.walks.specs.Internal.Walking.{Settles, Reopens, Took}
-use Rattle.engine.proofs.DueLaws.{both_skip}
-use Rattle.engine.proofs.CandidateLaws.{both_fails, barred}
 use Rattle.engine.proofs.LowestLaws.{can_now, NoneNow}
 
 -- CANDIDATES

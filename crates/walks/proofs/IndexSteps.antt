@@ -6,19 +6,17 @@
 --     stored_ready             row and count behind a command that is taken
 --     due_on, steps_on         what is due there, and a step that does it
 --     started_on               a released vertex that may step is started
-use Prim.Native.Nat.{ℕ, ◌+◌, ◌*◌, ◌<◌, ◌≤◌}
+use Prim.Native.Nat.{ℕ, ◌+◌, ◌*◌, ◌<◌}
 use mathlib.Core.Path.{◌≡◌, refl, sym, ◌∙◌, ap, subst}
 use mathlib.Core.Bool.{Bool, true, false, not}
 use mathlib.Core.List.{List, []}
-use mathlib.Core.Logic.{◌⊎◌, inl, inr, ⊎_elim}
-use mathlib.Core.Option.{Option, none, some}
+use mathlib.Core.Logic.{inl, ⊎_elim}
 use native.Mathlib.Omega.{arith}
 use lib.Dec.{eqb}
-use lib.ListN.{length, replicate, length-replicate}
 use lib.Seq.{get_or-set_other}
-use borrow.Author.Tests.{eq-eqb, eqb-true, not-true, not-false}
+use borrow.Author.Tests.{eq-eqb, not-true, not-false}
 use Rattle.graph.specs.Tests.{both, either}
-use Rattle.graph.specs.Tables.{Lent, lent, RELEASED, EXECUTING, vertex_words, status_word, in_count_word, edge_words, usable_limit, vertex_rows, edge_rows}
+use Rattle.graph.specs.Tables.{Lent, lent, RELEASED, EXECUTING, vertex_words, status_word, in_count_word, vertex_rows, edge_rows}
 use Rattle.graph.specs.Tables.{status, in_count, set_status}
 use Rattle.graph.specs.Sound.{sound}
 use Rattle.graph.specs.Answers as of_graph
@@ -27,8 +25,8 @@ use Rattle.graph.specs.Internal.Checks.{is_start}
 use Rattle.graph.specs.declared.Command as single
 use Rattle.graph.specs.declared.Command.TheVariants.{Start}
 use Rattle.graph.specs.declared.Done as graph_done
-use Rattle.graph.proofs.TestLaws.{true-false, equal?, both_left, both_right, either_cases}
-use Rattle.graph.proofs.SoundLaws.{sound_fits, sound_tally}
+use Rattle.graph.proofs.TestLaws.{true-false, equal?}
+use Rattle.graph.proofs.SoundLaws.{sound_tally}
 use Rattle.graph.proofs.TakenLaws.{leaves, not_refused, after_is}
 use Rattle.graph.proofs.Demand2.{refused_keeps}
 use Rattle.index.specs.declared.Course.{Course}
@@ -37,7 +35,6 @@ use Rattle.index.specs.Layout.{Indexed}
 use Rattle.index.specs.Table.{live_rows, table_of}
 use Rattle.index.specs.Underway.{state_of, Ready, caller_of, Executes, may_step, Widens, Changes}
 use Rattle.program.specs.declared.Edition.{Edition}
-use Rattle.program.specs.Encodings.{Spot, Command, perform, new_td, new_edge, transfer, release, yield, Row}
 use Rattle.machine.specs.Answers.{StepSaid, accepted, one_step, said_as}
 use Rattle.machine.specs.Stepping as machine
 use Rattle.machine.specs.Stepping.{step_limit, phase, all_stand, Task, item, ends, nothing, own_of, Due, refusal_due, job_due, command_due, due_if}

@@ -6,8 +6,6 @@
 --     WalkLaws       steps of the lowest vertex that is not busy, one after the other
 --     RunLaws        what a run makes of them
 --     DispatchLaws   what a dispatch makes of them
---     Results        what the cores return, for the laws of thin entries (crate graph, proofs/Thin)
---     Lending        such a law, for an entry that lends two lists more: program, tables, tally, two values of plain types, and the lists
 pub mod IndexSteps
 pub mod FreeLaws
 pub mod ShutLaws
@@ -15,5 +13,3 @@ pub mod RenewLaws
 pub mod WalkLaws
 pub mod RunLaws
 pub mod DispatchLaws
-pub mod Results
-pub mod Lending

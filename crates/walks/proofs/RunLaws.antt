@@ -48,13 +48,13 @@ ends_not is p q = rw is (ap at_rest (sym q ∙ p))
 
 -- a walk that hands nothing out leaves marks and list
 walked_desk :
-    {ed : Edition} {bytes : List ℕ} {s₀ s : Lent} {d₀ d : Desk} {last : Option StepSaid} {taken : ℕ} → Came ed bytes false s₀ d₀ s d last taken → d ≡ d₀
+    {ed : Edition} {bytes : List ℕ} {s₀ : Lent} {d₀ : Desk} {s : Lent} {d : Desk} {last : Option StepSaid} {taken : ℕ} → Came ed bytes false s₀ d₀ s d last taken → d ≡ d₀
 walked_desk begun = refl
 walked_desk (further c left v low) = walked_desk c
 
 -- a run from its start is the run that goes on from where a walk in which nobody is busy has come to
 came_run :
-    {ed : Edition} {bytes : List ℕ} {s₀ s : Lent} {d₀ d : Desk} {last : Option StepSaid} {taken : ℕ} (left : ℕ) → ((v : ℕ) → is_busy (marks_of d₀) v ≡ false)
+    {ed : Edition} {bytes : List ℕ} {s₀ : Lent} {d₀ : Desk} {s : Lent} {d : Desk} {last : Option StepSaid} {taken : ℕ} (left : ℕ) → ((v : ℕ) → is_busy (marks_of d₀) v ≡ false)
     → Came ed bytes false s₀ d₀ s d last taken → run_on ed bytes (taken + left) s₀ none 0 ≡ run_on ed bytes left s last taken
 came_run {ed} {bytes} {s₀} left idle begun =
     ap (λ (n : ℕ). run_on ed bytes n s₀ none 0) (let z : 0 + left ≡ left = omega arith in z)

@@ -13,7 +13,6 @@ use lib.Seq.{get_or-set_same, get_or-set_other}
 use borrow.Author.Tests.{eqb-true, eqb-false, leb-true, leb-false}
 use Rattle.graph.specs.Tests.{both}
 use Rattle.graph.specs.Tables.{Lent, lent, usable_limit, vertex_rows, edge_rows}
-use Rattle.graph.specs.Sound.{sound}
 use Rattle.graph.proofs.TestLaws.{true-false, both_true, both_left, both_right, both-false_left}
 use Rattle.graph.proofs.LowestLaws.{none_is, none_holds}
 use Rattle.index.specs.declared.Course.{Course}

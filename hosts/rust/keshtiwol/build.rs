@@ -1,12 +1,12 @@
 //! Links the engine's archive, libkeshtiwol.a, from the folder in KESHTIWOL_LIB (an absolute path) or else from the repository's
-//! target/staticlib.
+//! crates/keshtiwol/out.
 
 use std::{env, path::PathBuf};
 
 fn main() {
     let folder = match env::var_os("KESHTIWOL_LIB") {
         Some(folder) => absolute(PathBuf::from(folder)),
-        None => PathBuf::from(env::var_os("CARGO_MANIFEST_DIR").unwrap()).join("../../../target/staticlib"),
+        None => PathBuf::from(env::var_os("CARGO_MANIFEST_DIR").unwrap()).join("../../../crates/keshtiwol/out"),
     };
     let archive = folder.join("libkeshtiwol.a");
     if !archive.exists() {

@@ -296,7 +296,7 @@ new_over :
 new_over f n v x y beyond lt u le =
     put_other (put f n y) v x u (λ q. absurd (omega arith)) ∙ put_other f n y u (λ q. absurd (omega arith)) ∙ beyond u (omega arith)
 
-beyond_kept : {S S' : State} {v : ℕ} {e : Event} → Beyond S → Move S v e S' → Beyond S'
+beyond_kept : {S : State} {v : ℕ} {e : Event} {S' : State} → Beyond S → Move S v e S' → Beyond S'
 beyond_kept {S} {v = v} h (begins q bare) u le = put-over S.control v _ u (λ o. clash cc) (h u le)
 beyond_kept {S} {v = v} h (performs q) u le = put-over S.control v _ u (λ o. clash cc) (h u le)
 beyond_kept {S} {v = v} h (stops q) u le = put-over S.control v _ u (λ o. clash cc) (h u le)

@@ -68,7 +68,7 @@ setting_done S v (free m) = refl
 setting_done S v yield = refl
 
 -- and so does every move
-pub setting_kept : {S S' : State} {v : ℕ} {e : Event} → Move S v e S' → S'.setting ≡ S.setting
+pub setting_kept : {S : State} {v : ℕ} {e : Event} {S' : State} → Move S v e S' → S'.setting ≡ S.setting
 setting_kept (begins q none) = refl
 setting_kept (performs q) = refl
 setting_kept (stops q) = refl
@@ -87,7 +87,7 @@ more_left Γ c ms n q = shaped ms (omega (arith, ap (λ l. length l) q, length-d
     shaped (m ∷ ms) lt = unfold MoreToMake in omega (arith, lt, length-append ms (n ∷ []))
 
 -- every move keeps it
-pub unsplit_kept : {S S' : State} {v : ℕ} {e : Event} → Move S v e S' → Unsplit S → Unsplit S'
+pub unsplit_kept : {S : State} {v : ℕ} {e : Event} {S' : State} → Move S v e S' → Unsplit S → Unsplit S'
 unfolding UnsplitAt MoreToMake
 unsplit_kept {S} {v} (begins {c = c} q none) h = put_all (UnsplitAt S.setting) S.control v (busy c []) h tt
 unsplit_kept {S} {v} (performs {r = r} q) h = put_all (UnsplitAt S.setting) S.control v (busy r []) h tt

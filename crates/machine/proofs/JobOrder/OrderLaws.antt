@@ -34,6 +34,7 @@ use Rattle.machine.proofs.JobOrder.Order.{Job, InA, InS, Pre}
 -- whoever waits for some of the code is in a finish that waits for it
 pub ins_ina : (c : Code) (p : ℕ) → InS c p → InA c p
 unfolding InA InS
+ins_ina (end_byte_at _) p i = elim i [ ]
 ins_ina (job_at o n r) p (inl e) = inl e
 ins_ina (job_at o n r) p (inr i) = inr (ins_ina r p i)
 ins_ina (async_at o b r) p i = inr (ins_ina r p i)
@@ -49,6 +50,7 @@ ins_ina (force_at o n b r) p (inr i) = inr (ins_ina r p i)
 -- the later one of two that are ordered is a job of the code
 pub pre_job : (c : Code) (p q : ℕ) → Pre c p q → Job c q
 unfolding Job Pre
+pre_job (end_byte_at _) p q h = elim h [ ]
 pre_job (job_at o n r) p q (inl (e, j)) = inr j
 pre_job (job_at o n r) p q (inr h) = inr (pre_job r p q h)
 pre_job (async_at o b r) p q (inl h) = inl (pre_job b p q h)
@@ -93,6 +95,7 @@ ins_item c p i = ina_item c p (ins_ina c p i)
 -- the jobs of laid code stand from its start on and before its end
 pub job_range : (c : Code) (p : ℕ) → Laid c → Job c p → (start_of c ≤ p) × (p < last c)
 unfolding Job Laid start_of last
+job_range (end_byte_at _) p _ j = elim j [ ]
 job_range (job_at o n r) p (l, k) (inl e) = (omega arith, omega (arith, l.starts, l.rest))
 job_range (job_at o n r) p (l, k) (inr j) = let (s, e) = job_range r p k j in (omega (arith, l.starts, s), e)
 job_range (async_at o b r) p (l, kb, kr) (inl j) =
@@ -166,6 +169,7 @@ right_before o b c r p q (l, kb, kc, kr) i j = codes_apart c r p q kc kr (omega 
 -- a job that others are ahead of stands behind the start
 pre_later : (c : Code) (p q : ℕ) → Laid c → Pre c p q → start_of c < q
 unfolding Pre Laid start_of
+pre_later (end_byte_at _) p q l h = elim h [ ]
 pre_later (job_at o n r) p q l (inl (e, j)) = job_before o n r q l j
 pre_later (job_at o n r) p q (l, k) (inr h) = omega (arith, l.starts, pre_later r p q k h)
 pre_later (async_at o b r) p q (l, kb, kr) (inl h) = omega (arith, l.starts, pre_later b p q kb h)
@@ -226,6 +230,7 @@ in_part i (n, r, part) = (n, r, inside i part)
 -- a job of code is a part of it
 job_part : (c : Code) (p : ℕ) → Job c p → (n : ℕ) × (r : Code) × Part c (job_at p n r)
 unfolding Job
+job_part (end_byte_at _) p j = elim j [ ]
 job_part (job_at o n r) p (inl e) = (n, r, subst (λ (x : ℕ). Part (job_at o n r) (job_at x n r)) (sym e) itself)
 job_part (job_at o n r) p (inr j) = in_part job_rest (job_part r p j)
 job_part (async_at o b r) p (inl j) = in_part async_body (job_part b p j)
@@ -271,6 +276,7 @@ open_nth (d ∷ env) (suc n) p h e f = open_nth env n p h.1 e (λ env' o k g. f 
 -- what is waited for is a job of the code, or one of an open future's body
 pub ina_job : (env : List Code) (c : Code) (p : ℕ) → Opens env c → Nested env → InA c p → Job c p ⊎ JobIn env p
 unfolding Opens Job InA Nested JobIn
+ina_job env (end_byte_at _) p h k i = elim i [ ]
 ina_job env (job_at o n r) p h k (inl e) = inl (inl e)
 ina_job env (job_at o n r) p h k (inr i) = ⊎_elim (λ j. inl (inr j)) inr (ina_job env r p h k i)
 ina_job env (async_at o b r) p h k (inl i) = ⊎_elim (λ j. inl (inl j)) inr (ina_job env b p h.0 k i)

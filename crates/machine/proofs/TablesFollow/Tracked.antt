@@ -60,6 +60,7 @@ ran_snoc o [] a = omega arith
 ran_snoc o (b ∷ answers) a = let h = ran_snoc o answers a in omega (arith, h)
 
 answered_snoc : {a b : StepSaid} (answers : List StepSaid) → Answered a (answers ++ (b ∷ [])) → Answered a answers ⊎ (a ≡ b)
+answered_snoc {a = a} {b = b} [] (later i) = elim i [ ]
 answered_snoc [] first = inr refl
 answered_snoc (c ∷ answers) first = inl first
 answered_snoc {a} {b} (c ∷ answers) (later i) = more (answered_snoc answers i)

@@ -45,7 +45,7 @@
 //! changed nothing. The engine keeps nothing between calls, and different tables may be used from different threads at once.
 //!
 //! The engine itself is the archive `libkeshtiwol.a`, linked from the folder in `KESHTIWOL_LIB` (an absolute path) or else from the
-//! repository's `target/staticlib`, where `rt staticlib keshtiwol` leaves it.
+//! repository's `crates/keshtiwol/out`, where `rt lib` in `crates/keshtiwol` leaves it.
 
 mod machine;
 mod raw;

@@ -1,0 +1,28 @@
+-- The tests are the definition's, in the same order: `search chain` answers by those passed.
+use Rattle.graph.specs.Commands.{caller_refusal}
+use Rattle.graph.proofs.CallLaws.{chain}
+use Rattle.graph.proofs.refusals.caller_refusal.Goals as goal
+
+pub returns-then-made-caller : goal.returns-then-made-caller
+unfolding caller_refusal
+returns-then-made-caller c = search chain
+
+pub returns-then-made-a : goal.returns-then-made-a
+unfolding caller_refusal
+returns-then-made-a c = search chain
+
+pub returns-then-made-b : goal.returns-then-made-b
+unfolding caller_refusal
+returns-then-made-b c = search chain
+
+pub bounds-vertices-caller : goal.bounds-vertices-caller
+unfolding caller_refusal
+bounds-vertices-caller c = search chain
+
+pub returns-then-vertices-caller-ne-EXECUTING : goal.returns-then-vertices-caller-ne-EXECUTING
+unfolding caller_refusal
+returns-then-vertices-caller-ne-EXECUTING c = search chain depth 12
+
+pub returns : goal.returns
+unfolding caller_refusal
+returns c = search chain depth 12

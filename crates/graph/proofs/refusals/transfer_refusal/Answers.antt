@@ -1,0 +1,48 @@
+-- The tests are the definition's, in the same order: `search chain` answers by those passed.
+use borrow.Author.Rules.{rules}
+use Prim.Native.Nat.{ℕ}
+use mathlib.Core.Path.{◌≡◌, ◌∙◌}
+use mathlib.Core.Bool.{Bool}
+use mathlib.Core.List.{List}
+use Rattle.graph.specs.Paths.{leads_out_of, reaches}
+use Rattle.graph.specs.Commands.{transfer_refusal, target_reaches}
+use Rattle.graph.proofs.CycleLaws.{target_reaches_lem}
+use Rattle.graph.proofs.CallLaws.{answered, path_on}
+use Rattle.graph.proofs.CallLaws.{chain}
+use Rattle.graph.proofs.refusals.transfer_refusal.Goals as goal
+
+-- the definition asks the caller's targets, the code asks the caller
+answered_targets : (e : List ℕ) (n t t' : ℕ) {r x : Bool} → r ≡ reaches e n t t' → r ≡ x → target_reaches e n t t' ≡ x
+answered_targets e n t t' p q = target_reaches_lem e n t t' ∙ answered p q
+
+pub returns-then-first-ne-ACCEPTED : goal.returns-then-first-ne-ACCEPTED
+unfolding transfer_refusal leads_out_of
+returns-then-first-ne-ACCEPTED c = search chain
+
+pub bounds-vertices-vertex : goal.bounds-vertices-vertex
+unfolding transfer_refusal leads_out_of
+bounds-vertices-vertex c = search chain
+
+pub returns-then-vertices-vertex-ne-NEW : goal.returns-then-vertices-vertex-ne-NEW
+unfolding transfer_refusal leads_out_of
+returns-then-vertices-vertex-ne-NEW c = search chain
+
+pub leads-requires : goal.leads-requires
+unfolding transfer_refusal leads_out_of
+leads-requires c = (search chain, search rules)
+
+pub returns-then-leads : goal.returns-then-leads
+unfolding transfer_refusal leads_out_of
+returns-then-leads c = search chain
+
+pub reaches-requires : goal.reaches-requires
+unfolding transfer_refusal leads_out_of
+reaches-requires c = path_on _ _ _ _ _ _ c.caller_refusal-first.ensures c.if-first-ne-ACCEPTED.false
+
+pub returns-then-reaches : goal.returns-then-reaches
+unfolding transfer_refusal leads_out_of
+returns-then-reaches c = search (chain, answered_targets) depth 12
+
+pub returns : goal.returns
+unfolding transfer_refusal leads_out_of
+returns c = search (chain, answered_targets) depth 12

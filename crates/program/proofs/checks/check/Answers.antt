@@ -1,0 +1,101 @@
+use Rattle.std.proofs.Common.{arith, refl, sym, ap, ◌∙◌, length, length-set, get_or}
+use mathlib.Core.Bool.{false≢true}
+use mathlib.Core.Logic.{inl, inr}
+use Rattle.program.proofs.CheckLaws.{table_is, table_small, checking_first, checked_out, checked_unknown, checked_deep}
+use Rattle.program.proofs.CheckLaws.{checked_number, checked_main_end, checked_first_end, checked_end, checked_opener, checked_past}
+use Rattle.program.proofs.CheckLaws.{checked_short, outside_refused}
+use Rattle.program.proofs.checks.check.Goals as goal
+
+pub returns-then-program-eq0 : goal.returns-then-program-eq0
+returns-then-program-eq0 c = (outside_refused _ _ (inl c.if-program-eq0.true), refl, λ e. absurd (false≢true e))
+
+pub returns-then-program-gt-PROGRAM_BYTES : goal.returns-then-program-gt-PROGRAM_BYTES
+returns-then-program-gt-PROGRAM_BYTES c =
+    (outside_refused _ _ (inr c.if-program-gt-PROGRAM_BYTES.true), refl, λ e. absurd (false≢true e))
+
+pub loop-place-init : goal.loop-place-init
+loop-place-init c =
+    checking_first _ _ _ (omega arith, omega arith) c.requires
+    (table_small c.fork_vertices.result (omega (arith, c.fork_vertices.ensures.1)))
+
+pub returns-then-depth-eq0 : goal.returns-then-depth-eq0
+returns-then-depth-eq0 c =
+    checked_main_end c.loop-place.invariant _ c.loop-place-test.true c.if-first-eq-END.true c.if-depth-eq0.true c.mark_place.ensures
+    _ (table_is _ _ c.fork_vertices.ensures.0)
+
+pub loop-place-preserved-then-openers-depth-eq-FORK : goal.loop-place-preserved-then-openers-depth-eq-FORK
+loop-place-preserved-then-openers-depth-eq-FORK c =
+    checked_first_end c.loop-place.invariant _ c.loop-place-test.true c.if-first-eq-END.true c.if-depth-eq0.false
+    c.if-openers-depth-eq-FORK.true c.mark_place.ensures
+
+pub loop-place-preserved-else-openers-depth-eq-FORK : goal.loop-place-preserved-else-openers-depth-eq-FORK
+loop-place-preserved-else-openers-depth-eq-FORK c =
+    checked_end c.loop-place.invariant _ c.loop-place-test.true c.if-first-eq-END.true c.if-depth-eq0.false
+    c.if-openers-depth-eq-FORK.false c.mark_place.ensures
+
+-- behind a short job
+pub loop-place-preserved-then-is_short_job : goal.loop-place-preserved-then-is_short_job
+loop-place-preserved-then-is_short_job c =
+    checked_short c.loop-place.invariant _ c.fork_vertices.result (c.is_short_job.ensures c.if-is_short_job.true) refl
+    c.mark_place.ensures
+
+pub returns-then-first-gt-FORCE : goal.returns-then-first-gt-FORCE
+returns-then-first-gt-FORCE c = (
+  checked_unknown c.loop-place.invariant c.loop-place-test.true c.if-first-gt-FORCE.true _ (table_is _ _ c.fork_vertices.ensures.0),
+  ap length c.mark_place.ensures ∙ length-set c.loop-place.marks c.loop-place.place 1 ∙ c.loop-place.invariant.long,
+  λ e. absurd (false≢true e),
+)
+
+pub overflow_add-made : goal.overflow_add-made
+overflow_add-made c =
+    omega (
+      arith,
+      c.loop-place.invariant.n_few,
+      c.loop-place.invariant.small (get_or c.args.program.now c.loop-place.place 0),
+    )
+
+pub returns-then-place-eq0 : goal.returns-then-place-eq0
+returns-then-place-eq0 c = (
+  checked_number c.loop-place.invariant _ _ c.loop-place-test.true (sym c.opens_number.ensures ∙ c.if-opens_number.true)
+      c.number_bound.ensures c.past_number-place.ensures c.if-place-eq0.true _ (table_is _ _ c.fork_vertices.ensures.0),
+  ap length c.mark_place.ensures ∙ length-set c.loop-place.marks c.loop-place.place 1 ∙ c.loop-place.invariant.long,
+  λ e. absurd (false≢true e),
+)
+
+-- behind a number
+pub loop-place-smaller-else-place-eq0 : goal.loop-place-smaller-else-place-eq0
+loop-place-smaller-else-place-eq0 c =
+    let passed =
+    checked_past c.loop-place.invariant c.mark_place.new.marks c.past_number-place.result _ c.loop-place-test.true
+    (sym c.opens_number.ensures ∙ c.if-opens_number.true) c.number_bound.ensures c.past_number-place.ensures
+    c.if-place-eq0.false c.mark_place.ensures in
+    omega (arith, passed.1, passed.0.within)
+
+pub loop-place-preserved-else-place-eq0 : goal.loop-place-preserved-else-place-eq0
+loop-place-preserved-else-place-eq0 c =
+    (checked_past c.loop-place.invariant c.mark_place.new.marks c.past_number-place.result _ c.loop-place-test.true
+    (sym c.opens_number.ensures ∙ c.if-opens_number.true) c.number_bound.ensures c.past_number-place.ensures
+    c.if-place-eq0.false c.mark_place.ensures).0
+
+pub returns-then-depth : goal.returns-then-depth
+returns-then-depth c = (
+  checked_deep c.loop-place.invariant c.loop-place-test.true c.if-first-eq-END.false c.if-first-gt-FORCE.false
+      (sym c.opens_number.ensures ∙ c.if-opens_number.false) c.if-depth.true _ (table_is _ _ c.fork_vertices.ensures.0),
+  ap length c.mark_place.ensures ∙ length-set c.loop-place.marks c.loop-place.place 1 ∙ c.loop-place.invariant.long,
+  λ e. absurd (false≢true e),
+)
+
+pub opened_behind-requires : goal.opened_behind-requires
+opened_behind-requires c = omega (arith, c.loop-place.invariant.few)
+
+pub loop-place-preserved : goal.loop-place-preserved
+loop-place-preserved c =
+    checked_opener c.loop-place.invariant _ _ c.loop-place-test.true c.if-first-eq-END.false c.if-first-gt-FORCE.false
+    (sym c.opens_number.ensures ∙ c.if-opens_number.false) c.if-depth.false c.opened_behind.ensures c.mark_place.ensures
+
+pub returns : goal.returns
+returns c = (
+  checked_out c.loop-place.invariant c.loop-place-test.false _ (table_is _ _ c.fork_vertices.ensures.0),
+  c.loop-place.invariant.long,
+  λ e. absurd (false≢true e),
+)
