@@ -95,13 +95,13 @@ module _ (e : List ℕ) (i to : ℕ) (m near : List ℕ) (h : Nearest e i to m n
             (holds_at e (suc i) i (omega arith), nearer)))
             (λ other.
             let kept = there a other in
-            let (edge, NearBy) = h.found a (subst (λ (y : ℕ). y < search_limit) kept below) usable in
-            subst (λ (y : ℕ). (holds e (suc i) a y ≡ true) × (is_nearer m to a y ≡ true)) (sym kept) (holds_more e i a _ edge, NearBy))
+            let (edge, near_by) = h.found a (subst (λ (y : ℕ). y < search_limit) kept below) usable in
+            subst (λ (y : ℕ). (holds e (suc i) a y ≡ true) × (is_nearer m to a y ≡ true)) (sym kept) (holds_more e i a _ edge, near_by))
             (equal? a (source e i));
         lowest =
-            λ a x edge NearBy.
+            λ a x edge near_by.
             ⊎_elim
-            (λ old. let was = h.lowest a x old NearBy in falls a x was)
+            (λ old. let was = h.lowest a x old near_by in falls a x was)
             (λ new. subst (λ (y : ℕ). get_or put y 0 ≤ x) (sym new.0) (omega (arith, here, new.1)))
             (holds_less e i a x edge);
       })

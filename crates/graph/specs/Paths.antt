@@ -28,7 +28,7 @@ edges_into e n t = how_many (λ i. eqb (target e i) t) n
 unfoldable pub leads_out_of : List ℕ → ℕ → ℕ → Bool
 leads_out_of e n t = any (λ i. eqb (source e i) t) n
 
--- A path of held edges leads from a to b: `reaches-decides` in proofs/PathLaws.antt shows that this is so exactly if there is
+-- A path of held edges leads from a to b: `reaches_decides` in proofs/PathLaws.antt shows that this is so exactly if there is
 -- a path, `Leads`, on any tables.
 -- Over n + 1 edges a path does without the last of them, or it gets to that one's source and on from its target.
 unfoldable pub reaches : List ℕ → ℕ → ℕ → ℕ → Bool

@@ -2,7 +2,7 @@
 --
 --     free_as_marked, open_as_told         one that may step is free as its mark says, and open as the table of the shut says
 --     NoneOpen, one_more, nearer           none is open from a number on, below another
---     shut_here, shut_other, open-before   one more is shut
+--     shut_here, shut_other, open_before   one more is shut
 --     none_shut                            nobody is shut
 --     shuts_same, shuts_one, shuts_both    whom a look shuts: nobody, one that cannot step, or those of two looks
 --     still_open                           who is open behind a look was so before

@@ -60,8 +60,8 @@ pub record Closed (ks : List Kind) : Type 0 where
 -- "Take the innermost body with both jobs in different items, p in the earlier": c is such a body from p's item on, ks are the kinds on the
 -- way from this item down to p, and q is in an item behind it. "q at its own place and p at its own or in such a reading": W is the way to p,
 -- `Way` or `ReadWay`. There is no need to ask for the innermost: proofs/AheadUnique.antt has it of jobs at their own places that no other body
--- is such a one (`apart-once`), and that a body around it has both jobs in one item (`around-one`); and of a job in a reading, the same of the
--- outermost force that reads it (`apart-read`, `force-once`, `force-around`).
+-- is such a one (`apart_once`), and that a body around it has both jobs in one item (`around_one`); and of a job in a reading, the same of the
+-- outermost force that reads it (`apart_read`, `force_once`, `force_around`).
 pub data Apart (W : Code → ℕ → List Kind → Type 0) (m : Code) (p q : ℕ) (c : Code) (ks : List Kind) : Type 0 where
   apart : (r c' : Code) (ks' : List Kind) → Within m c → W c p ks → Behind c r → From r c' → Way c' q ks' → Apart W m p q c ks
 
@@ -80,8 +80,8 @@ pub data Stand (m : Code) (p q : ℕ) : Type 0 where
   right_left : Branches m q p → Stand m p q
 
 -- "p is ahead of q if each async on the way from that earlier item (itself counted) down to p has a finish above it on that way. No other
--- pairs are ordered; two branches of a fork aren't." Two jobs that are in no such body are in two branches of a fork (`jobs-stand`), and these
--- are not ordered (`branches-unordered`). "Then p is ahead of q if the old rule says so with q at its own place and p at its own or in such a
+-- pairs are ordered; two branches of a fork aren't." Two jobs that are in no such body are in two branches of a fork (`jobs_stand`), and these
+-- are not ordered (`branches_unordered`). "Then p is ahead of q if the old rule says so with q at its own place and p at its own or in such a
 -- reading." (note 5) Readings order no jobs of two branches: in a program each force has the body of a future that is open there (`Opens` of
 -- `program`), and so what is ahead in a reading is in an earlier item at its own place too (`ahead_apart`).
 pub data Ahead (m : Code) (p q : ℕ) : Type 0 where

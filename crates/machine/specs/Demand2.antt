@@ -38,8 +38,8 @@ pub data Unloaded (ed : Edition) (bytes : List ℕ) (s : Lent) : ℕ → ℕ →
       (b : Body) → reading ed bytes ≡ program b → needs.vertices_made ed b ≤ vertex_rows s.vertices
       → edge_rows s.edges < needs.edge_rows_needed ed b → Unloaded ed bytes s too_few_edge_rows 0
 
--- "the first of 2 to 7 by place", and 43 "by place among 2 to 7": these refusals have a place. All others have the place 0, as `load-place`,
--- `step-place` and `run-place` say.
+-- "the first of 2 to 7 by place", and 43 "by place among 2 to 7": these refusals have a place. All others have the place 0, as `load_place`,
+-- `step_place` and `run_place` say.
 abbrev pub HasPlace : ℕ → Type 0
 HasPlace n = ((number_malformed ≤ n) × (n ≤ job_too_large)) ⊎ (n ≡ no_such_future)
 

@@ -84,7 +84,7 @@ pub record DispatchStandsAs (answers : List StepSaid) (s : Lent) (marks list : L
   pub refused_none :
       (n p : ℕ) → o.ending ≡ dispatching.refused n p → (answers ≡ []) × (o.after ≡ s) × (o.handed_out ≡ desk marks list 0)
 
--- what a call answers, step by step, and what it leaves; `run-stands` and `dispatch-stands` in proofs/Calls.antt say what these two answer
+-- what a call answers, step by step, and what it leaves; `run_stands` and `dispatch_stands` in proofs/Calls.antt say what these two answer
 unfoldable pub call_answers : Edition → List ℕ → Lent → Call → List StepSaid
 call_answers ed bytes s (a_step v) = (step ed bytes s v).answer ∷ []
 call_answers ed bytes s (a_run budget) = cond (steppable s) (run_answers ed bytes budget s) []

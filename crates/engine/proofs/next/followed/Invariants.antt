@@ -1,4 +1,4 @@
--- After i turns i words are followed: a turn is `hopped-more`, and each return a law too.
+-- After i turns i words are followed: a turn is `hopped_more`, and each return a law too.
 use Prim.Native.Nat.{◌≤◌}
 use Rattle.engine.proofs.FollowLaws.{Hopped}
 use Rattle.engine.proofs.next.followed.Given as goal

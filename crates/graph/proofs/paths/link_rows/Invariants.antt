@@ -1,4 +1,4 @@
--- `link_rows` meets its contract. After i turns the first i rows are linked: a turn is `link-more`.
+-- `link_rows` meets its contract. After i turns the first i rows are linked: a turn is `link_more`.
 use Prim.Native.Nat.{◌≤◌}
 use mathlib.Core.Path.{◌≡◌}
 use lib.ListN.{length}

@@ -1,4 +1,4 @@
--- Each test tells one half of `tallyFits`.
+-- Each test tells one half of `tally_fits`.
 use native.Mathlib.Omega.{arith}
 use Rattle.graph.proofs.SoundChecks.{tally_fits_lem, made_over, held_over}
 use Rattle.graph.proofs.sound.tally_fits.Goals as goal

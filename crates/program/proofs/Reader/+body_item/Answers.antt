@@ -6,7 +6,7 @@ use Rattle.program.specs.declared.Reader.{Reader}
 use Rattle.program.specs.Internal.Progress.{Ready}
 use Rattle.program.specs.Answers.{item_counts}
 use Rattle.program.proofs.BodyLoop.{along_none, along_ready, along_falls, along_end, along_out, along_stopped, along_room, along_more}
-use Rattle.program.proofs.ItemPaths.{path_out, path_low, path_high, path_deep, opened_falls, opened_ready, opened_few, path_job, path_force}
+use Rattle.program.proofs.ItemPaths.{path_out, path_low, path_high, opened_falls, opened_ready, opened_few, path_job, path_force}
 use Rattle.program.proofs.ItemPaths.{path_stopped, path_one, Opened, first_held, first_few, second_at, second_open, second_ready}
 use Rattle.program.proofs.ItemPaths.{path_second_stopped, second_few, path_two, only_fork}
 use Rattle.program.proofs.Reader.+body_item.Goals as goal
@@ -118,12 +118,6 @@ item-returns-then-first-gt-FUTURE t c =
     let at = opens c.args.inside.level _ _ _ _ c.if-bytes-eq0.false c.requires c.moved-behind_first.ensures in
     c.refused-then-first-gt-FUTURE.ensures ∙ path_high at c.if-first-gt-FUTURE.true c.if-first-eq-FORCE.false
 
-pub item-returns-then-inside-ge-LEVEL_LIMIT : goal.item-returns-then-inside-ge-LEVEL_LIMIT
-item-returns-then-inside-ge-LEVEL_LIMIT t c =
-    let at = opens c.args.inside.level _ _ _ _ c.if-bytes-eq0.false c.requires c.moved-behind_first.ensures in
-    c.refused-then-inside-ge-LEVEL_LIMIT.ensures
-    ∙ path_deep at c.if-first-lt-ASYNC.false c.if-first-gt-FUTURE.false c.if-inside-ge-LEVEL_LIMIT.true
-
 pub item-body-held-requires : goal.item-body-held-requires
 item-body-held-requires t c =
     let at = opens c.args.inside.level _ _ _ _ c.if-bytes-eq0.false c.requires c.moved-behind_first.ensures in (
@@ -141,7 +135,7 @@ pub item-returns-then-first-eq-ASYNC : goal.item-returns-then-first-eq-ASYNC
 item-returns-then-first-eq-ASYNC t c =
     let at = opens c.args.inside.level _ _ _ _ c.if-bytes-eq0.false c.requires c.moved-behind_first.ensures in
     path_one at async_byte c.if-first-lt-ASYNC.false c.if-first-gt-FUTURE.false c.if-first-eq-ASYNC.true (λ e. absurd (omega arith))
-    c.if-inside-ge-LEVEL_LIMIT.false c.in-Past.is c.body-held.ensures c.counting.ensures
+    (omega arith) c.in-Past.is c.body-held.ensures c.counting.ensures
 
 pub item-counting-requires-then-first-eq-FINISH : goal.item-counting-requires-then-first-eq-FINISH
 item-counting-requires-then-first-eq-FINISH t c =
@@ -153,7 +147,7 @@ pub item-returns-then-first-eq-FINISH : goal.item-returns-then-first-eq-FINISH
 item-returns-then-first-eq-FINISH t c =
     let at = opens c.args.inside.level _ _ _ _ c.if-bytes-eq0.false c.requires c.moved-behind_first.ensures in
     path_one at finish_byte c.if-first-lt-ASYNC.false c.if-first-gt-FUTURE.false c.if-first-eq-FINISH.true (λ e. absurd (omega arith))
-    c.if-inside-ge-LEVEL_LIMIT.false c.in-Past.is c.body-held.ensures c.counting-then-first-eq-FINISH.ensures
+    (omega arith) c.in-Past.is c.body-held.ensures c.counting-then-first-eq-FINISH.ensures
 
 pub item-counting-requires-then-first-eq-FUTURE : goal.item-counting-requires-then-first-eq-FUTURE
 item-counting-requires-then-first-eq-FUTURE t c =
@@ -165,7 +159,7 @@ pub item-returns-then-first-eq-FUTURE : goal.item-returns-then-first-eq-FUTURE
 item-returns-then-first-eq-FUTURE t c =
     let at = opens c.args.inside.level _ _ _ _ c.if-bytes-eq0.false c.requires c.moved-behind_first.ensures in
     path_one at future_byte c.if-first-lt-ASYNC.false c.if-first-gt-FUTURE.false c.if-first-eq-FUTURE.true (λ e. absurd (omega arith))
-    c.if-inside-ge-LEVEL_LIMIT.false c.in-Past.is c.body-held.ensures c.counting-then-first-eq-FUTURE.ensures
+    (omega arith) c.in-Past.is c.body-held.ensures c.counting-then-first-eq-FUTURE.ensures
 
 pub item-overflow_sub-from : goal.item-overflow_sub-from
 item-overflow_sub-from t c =
@@ -203,7 +197,7 @@ item-counting-requires-in-Past-second t c =
 pub item-returns-in-Refused : goal.item-returns-in-Refused
 item-returns-in-Refused t c =
     let at = opens c.args.inside.level _ _ _ _ c.if-bytes-eq0.false c.requires c.moved-behind_first.ensures in
-    path_stopped at _ c.if-first-lt-ASYNC.false c.if-first-gt-FUTURE.false c.if-inside-ge-LEVEL_LIMIT.false c.in-Refused.is
+    path_stopped at _ c.if-first-lt-ASYNC.false c.if-first-gt-FUTURE.false (omega arith) c.in-Refused.is
     c.body-held.ensures
 
 pub item-returns-in-Refused-second : goal.item-returns-in-Refused-second
@@ -213,7 +207,7 @@ item-returns-in-Refused-second t c =
     path_second_stopped at _ first
     (only_fork _ c.if-first-lt-ASYNC.false c.if-first-gt-FUTURE.false c.if-first-eq-ASYNC.false c.if-first-eq-FINISH.false
     c.if-first-eq-FUTURE.false)
-    c.if-inside-ge-LEVEL_LIMIT.false c.in-Refused-second.is c.body-second.ensures
+    (omega arith) c.in-Refused-second.is c.body-second.ensures
 
 pub item-returns-in-Past-second : goal.item-returns-in-Past-second
 item-returns-in-Past-second t c =
@@ -222,4 +216,4 @@ item-returns-in-Past-second t c =
     path_two at first
     (only_fork _ c.if-first-lt-ASYNC.false c.if-first-gt-FUTURE.false c.if-first-eq-ASYNC.false c.if-first-eq-FINISH.false
     c.if-first-eq-FUTURE.false)
-    c.if-inside-ge-LEVEL_LIMIT.false c.in-Past-second.is c.body-second.ensures c.counting-in-Past-second.ensures
+    (omega arith) c.in-Past-second.is c.body-second.ensures c.counting-in-Past-second.ensures
