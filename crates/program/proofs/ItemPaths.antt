@@ -236,16 +236,15 @@ unfolding progress
 refused_here n place s xs t p = ap (Progress.stopped n) (omega arith) ∙ ap (progress counts_of (place + length xs) s) (sym p)
 
 -- an item whose bodies are too deep
-pub too_deep :
+pub path_deep :
     (level opened : ℕ) (xs : List ℕ) (r : Reader) → 0 < length xs → async_byte ≤ get_or xs 0 0 → get_or xs 0 0 ≤ future_byte → level_limit ≤ level
-    → progress counts_of (r.place + length xs) (item_counts r.seen) (item body level opened xs) ≡ Progress.stopped level_too_deep r.place
-too_deep level opened xs r some ge le deep =
+    → Progress.stopped level_too_deep r.place ≡ progress counts_of (r.place + length xs) (item_counts r.seen) (item body level opened xs)
+path_deep level opened xs r some ge le deep =
     let split : xs ≡ get_or xs 0 0 ∷ drop 1 xs = drop-cons xs 0 0 some in
-    sym
-    (refused_here level_too_deep r.place (item_counts r.seen) xs (item body level opened xs)
+    refused_here level_too_deep r.place (item_counts r.seen) xs (item body level opened xs)
     (ap (item body level opened) split
     ∙ item_deep level opened (get_or xs 0 0) (drop 1 xs) ge le deep
-    ∙ ap (refused level_too_deep) (sym split)))
+    ∙ ap (refused level_too_deep) (sym split))
 
 -- its bodies' reader is handed less than the whole
 pub opened_falls : (xs : List ℕ) (k t : ℕ) → 0 < k → (length xs ≡ 0 → ⊥) → 2 * length xs ≡ t → 2 * length (slice xs k) + 1 < t
@@ -284,10 +283,6 @@ module _ {level opened : ℕ} {xs : List ℕ} {r o : Reader} (at : Opened level 
 
   pub path_high : future_byte < get_or xs 0 0 → (get_or xs 0 0 ≡ force_byte → ⊥) → Comes (Progress.stopped byte_unknown r.place)
   path_high lt other = stop_here byte_unknown (item_unknown level opened (get_or xs 0 0) (drop 1 xs) (omega arith))
-
-  -- the same, of a reader that stands at it
-  pub path_deep : async_byte ≤ get_or xs 0 0 → get_or xs 0 0 ≤ future_byte → level_limit ≤ level → Comes (Progress.stopped level_too_deep r.place)
-  path_deep ge le deep = sym (too_deep level opened xs r (omega (arith, at.some)) ge le deep)
 
   -- the reader behind the first byte is ready
   opened_left : Ready o (drop 1 xs)

@@ -46,7 +46,7 @@ impl Reader {
 
     // Reads the item at this reader's place, where `bytes` start.
     #[cycle(body_item)]
-    #[tactic(auto, using(crate::proofs::ItemPaths::too_deep))]
+    #[tactic(auto, using(crate::proofs::ItemPaths::path_deep))]
     fn item(self, bytes: &[u8], inside: Inside) -> Advanced
         requires { Ready self bytes.now × (inside.opened ≤ self.place) }
         ensures { reached result ≡ progress counts_of (self.place + length bytes.now) (item_counts self.seen) (item body inside.level inside.opened bytes.now) }
