@@ -8,6 +8,7 @@ import re
 import subprocess
 import sys
 
+KEYWORDS = set('as break const continue else enum false fn for if impl in let loop match mut pub return self Self struct true use while'.split())
 CODES = r'^\s*(pub(\(crate\))? )?const [A-Z_]+: (u8|u16|u32) = \d+;'
 LINES = {
     '1 enums': r'^(pub(\(crate\))? )?enum ',
@@ -51,8 +52,46 @@ def functions(text):
         yield text.count('\n', 0, found.start()) + 1, found[1], parameters, clauses
 
 
+def shape(text):
+    """Returns the tokens of a body or a type with each name and number replaced by the place where it first stands."""
+    first = {}
+    tokens = re.findall(r'[A-Za-z_0-9]+|[^\sA-Za-z_0-9]', re.sub(r'//.*|b?"[^"]*"', '', text))
+    return tuple(first.setdefault(it, len(first)) if re.match(r'\w', it) and it not in KEYWORDS else it for it in tokens)
+
+
+def bodies(text):
+    """Gives each function's and each type's line, name and text between its braces."""
+    for found in re.finditer(r'\b(fn|struct|enum) (\w+)', text):
+        at = found.end()
+        if found[1] == 'fn':
+            depth = 0
+            while text[at] != '(':
+                at += 1
+            while True:
+                depth += {'(': 1, ')': -1}.get(text[at], 0)
+                at += 1
+                if not depth:
+                    break
+            rest = re.match(r'[^{;]*?\n?(\s*(requires|ensures)[^\n]*\n)*\s*\{', text[at:])
+            if not rest:
+                continue
+            at += rest.end() - 1
+        else:
+            at = text.find('{', at)
+        if at < 0 or text[at] != '{':
+            continue
+        end, depth = at, 0
+        while True:
+            depth += {'{': 1, '}': -1}.get(text[end], 0)
+            end += 1
+            if not depth:
+                break
+        yield text.count('\n', 0, found.start()) + 1, found[1], found[2], text[at:end]
+
+
 def places(commit):
     facts = collections.defaultdict(list)
+    alike = collections.defaultdict(list)
     for name, text in files(commit):
         crate = name.split('/')[1]
         for number, line in enumerate(text.split('\n'), 1):
@@ -60,6 +99,10 @@ def places(commit):
                 for point, pattern in LINES.items():
                     if re.search(pattern, line):
                         yield point, crate, f'{name}:{number}: {line.strip()}'
+        for number, kind, item, body in bodies(text):
+            tokens = shape(body)
+            if len(tokens) >= 20:
+                alike[(kind, tokens)].append((crate, f'{name}:{number}: {kind} {item}'))
         for number, function, parameters, clauses in functions(text):
             if len(parameters) >= 7:
                 yield '5 seven parameters or more', crate, f'{name}:{number}: {function} ({len(parameters)})'
@@ -67,6 +110,10 @@ def places(commit):
                 if clause.startswith('requires'):
                     for fact in re.sub(r'^requires \w* ?\{ | \}$', '', clause).split(' × '):
                         facts[re.sub(r'\b(old|new)\b', 'now', fact.strip('() '))].append((crate, f'{name}:{number}: {function}'))
+    for where in alike.values():
+        if len(where) >= 2:
+            for crate, place in where:
+                yield '2 functions and types alike', crate, f'{place} as {", ".join(it for _, it in where if it != place)}'
     for fact, where in facts.items():
         if len(where) >= 3:
             for crate, place in where:
