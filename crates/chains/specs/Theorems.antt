@@ -1,5 +1,5 @@
 -- The theorems of chains, each as the statement that a function of src/laws.rt promises. docs/PROVED.md says what they come to.
-use Rattle.std.specs.Prelude.{◌≡◌, true, ℕ, ◌<◌, ◌≤◌, ◌↔◌, Bool, List, ◌++◌, length, drop}
+use Rattle.std.specs.Prelude.{map, ◌≡◌, true, ℕ, ◌<◌, ◌≤◌, ◌↔◌, Bool, List, ◌++◌, length, drop}
 use Rattle.std.proofs.Math.Option.{none, some}
 use Rattle.refusal.specs.Refusals.{closes_cycle, no_chain}
 use Rattle.graph.specs.declared.Command.TheVariants.{NewEdge, Transfer}
@@ -10,6 +10,7 @@ use Rattle.graph.specs.Commands.{command}
 use Rattle.graph.specs.Demand2.{RefusalDue, NoneDue, NoneBefore, reasons}
 use Rattle.chains.specs.Chains.{held_edge, shortest_chain}
 use Rattle.chains.specs.Showing.{vertices, chain_refused, show_chain}
+use Rattle.chains.specs.Examples.{calls, comes_to, expected}
 use Rattle.chains.specs.Claims.{FirstShortest, NoChain, chain_reasons}
 
 -- the chain of the definition: none is shorter, and of those as long none is before it
@@ -95,3 +96,7 @@ TransferPasses =
     → (list : List ℕ)
     → ((command (Transfer t t') s).answer ≡ CommandSaid.refused closes_cycle 0
     → ⊥) ↔ ((show_chain s t' t list).answer ≡ chain_refused no_chain 0)
+
+-- the calls of the table come to what it says
+abbrev pub ExamplesComeTrue : Type 0
+ExamplesComeTrue = map comes_to calls ≡ map expected calls

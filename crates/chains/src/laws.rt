@@ -1,5 +1,5 @@
 // The theorems of chains, each as what a function promises that does nothing: one in proofs/ that no promise named could go unnoticed.
-ghost use Rattle.chains.specs.Theorems.{ShortestChain, NoneExactly, OnlyOne, ChainRefusedExactly, ChainAcceptedExactly, ChainShown, RefusedKeepsList, NewEdgeShown, NewEdgePasses, TransferShown, TransferPasses};
+ghost use Rattle.chains.specs.Theorems.{ShortestChain, NoneExactly, OnlyOne, ChainRefusedExactly, ChainAcceptedExactly, ChainShown, RefusedKeepsList, NewEdgeShown, NewEdgePasses, TransferShown, TransferPasses, ExamplesComeTrue};
 
 // The chain of the definition is the one of which none is shorter and, of those as long, none is before it in vertex numbers; there is none exactly
 // where no chain leads there.
@@ -24,4 +24,9 @@ pub fn a_chain_is_why_a_cycle_would_close()
     ensures new_edge_passes { NewEdgePasses }
     ensures transfer { TransferShown }
     ensures transfer_passes { TransferPasses }
+{}
+
+// The calls of the table come to what it says.
+pub fn examples_come_true()
+    ensures { ExamplesComeTrue }
 {}

@@ -1,5 +1,5 @@
 -- The theorems of the machine, each as the statement that a function of src/laws.rt promises. docs/PROVED.md says what they come to.
-use Rattle.std.specs.Prelude.{◌≡◌, true, false, ℕ, ◌+◌, ◌⊎◌, ◌↔◌, List, ◌++◌}
+use Rattle.std.specs.Prelude.{◌≡◌, true, false, ℕ, ◌+◌, ◌<◌, ◌⊎◌, ◌↔◌, List, ◌++◌}
 use Rattle.graph.specs.Tables.{Lent}
 use Rattle.graph.specs.Commands.{start}
 use Rattle.graph.specs.Demand2.{EdgeHeld, UsableOnly}
@@ -20,7 +20,8 @@ use Rattle.machine.specs.Reached.{Reached, Call, a_run, StandsAs, DispatchStands
 use Rattle.machine.specs.Traces.{Trace}
 use Rattle.machine.specs.Demand2.{Does, Refused, HasPlace, OnlySuchSteps, OnlyFreeSteps}
 use Rattle.machine.specs.Demand3.{accepted_in, ran_in, Written, Demand3}
-use Rattle.machine.specs.FairOrders.{jobs_of, Fair, schedule, steps_of, AnswersIn, FairOrders, InFairOrder}
+use Rattle.machine.specs.FairOrders.{is_no_job, is_job_at, jobs_of, Fair, schedule, steps_of, AnswersIn, FairOrders, InFairOrder}
+use Rattle.machine.specs.Examples.{table, Each}
 use Rattle.machine.specs.HandedOut.{Job, jobs_among, HandsOut, In, OnlySet, Hosted}
 
 -- demand 3, of whatever was reached from an accepted loading
@@ -231,3 +232,20 @@ TraceInOrder =
     → reading ed bytes ≡ program t
     → Trace ed bytes s₀ (steps_of named) answers s
     → InFairOrder ed bytes t s₀ named answers
+
+-- where jobs are all that can be stepped, one of which all others ahead were answered can be
+abbrev pub NothingWaits : Type 0
+NothingWaits =
+    (ed : Edition) (bytes : List ℕ) (t : Body) (s₀ : Lent) (answers : List StepSaid) (s : Lent)
+    → reading ed bytes ≡ program t
+    → Reached ed bytes s₀ answers s
+    → ((v : ℕ) → v < s.made → is_no_job (step ed bytes s v).answer ≡ false)
+    → (n o : ℕ)
+    → Written t o n
+    → ran_in o answers ≡ 0
+    → ((m p : ℕ) → Written t p m → (p ≡ o → ⊥) → Ahead (located t) p o → ran_in p answers ≡ 1)
+    → (v : ℕ) × (v < s.made) × (is_job_at o (step ed bytes s v).answer ≡ true)
+
+-- the bench examples come to what the table says
+abbrev pub ExamplesComeTrue : Type 0
+ExamplesComeTrue = Each table

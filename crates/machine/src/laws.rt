@@ -1,5 +1,5 @@
 // The theorems of the machine, each as what a function promises that does nothing: one in proofs/ that no promise named could go unnoticed.
-ghost use Rattle.machine.specs.Theorems.{ReachedDemand3, CallsDemand3, TraceDemand3, RefusedLoadKeeps, LoadPlace, LoadUsableOnly, StepDoes, StepRefusedExactly, RefusedStepKeeps, StepNever34, StepPlace, EdgesAreNew, RunRan, RunStands, RunPlace, DispatchRan, DispatchStands, HandedAreJobs, MarksOnlySet, NothingWaitsNeedlessly, ReachedCountsTrue, CallsCountsTrue, TraceCountsTrue, ReachedStart, EveryFairOrder, OnwardAnswers, TraceFair, TraceInOrder};
+ghost use Rattle.machine.specs.Theorems.{ReachedDemand3, CallsDemand3, TraceDemand3, RefusedLoadKeeps, LoadPlace, LoadUsableOnly, StepDoes, StepRefusedExactly, RefusedStepKeeps, StepNever34, StepPlace, EdgesAreNew, RunRan, RunStands, RunPlace, DispatchRan, DispatchStands, HandedAreJobs, MarksOnlySet, NothingWaitsNeedlessly, ReachedCountsTrue, CallsCountsTrue, TraceCountsTrue, ReachedStart, EveryFairOrder, OnwardAnswers, TraceFair, TraceInOrder, NothingWaits, ExamplesComeTrue};
 
 // Demand 3, of whatever was reached from an accepted loading, of every list of calls, and of every trace of an engine.
 pub fn demand_3()
@@ -67,4 +67,14 @@ pub fn every_fair_order_can_happen()
     ensures onward { OnwardAnswers }
     ensures traces { TraceFair }
     ensures steps { TraceInOrder }
+{}
+
+// Where jobs are all that can be stepped, one of which all others ahead were answered can be.
+pub fn nothing_waits()
+    ensures { NothingWaits }
+{}
+
+// The bench examples that are proved come to what the customer says of them.
+pub fn examples_come_true()
+    ensures { ExamplesComeTrue }
 {}
