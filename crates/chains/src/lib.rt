@@ -5,6 +5,7 @@
 #![tactic(auto)]
 
 pub mod entry;
+pub mod laws;
 mod nearest;
 pub mod showing;
 

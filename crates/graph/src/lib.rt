@@ -8,6 +8,7 @@
 pub mod commands;
 mod edges;
 pub mod entry;
+pub mod laws;
 pub mod paths;
 pub mod refusals;
 pub mod rows;

@@ -11,6 +11,7 @@ mod checks;
 pub mod ends;
 pub mod format;
 pub mod items;
+pub mod laws;
 mod numbers;
 pub mod reading;
 mod starts;
