@@ -13,7 +13,7 @@ returns-in_err-ends_refusal c =
     refused_outcome _ _ _ _ _ _ _ c.from_residual.ensures.1 (ends_due _ _ _ _ _ _ c.in_err-ends_refusal.ensures)
 
 pub adds_nothing-requires : goal.adds_nothing-requires
-adds_nothing-requires c = (search rules, source_made _ _ _ _ _ _ c.in_ok-ends_refusal.ensures)
+adds_nothing-requires c = source_made _ _ _ _ _ _ c.in_ok-ends_refusal.ensures
 
 pub returns-then-adds_nothing : goal.returns-then-adds_nothing
 unfolding new_edge new_edge_refusal

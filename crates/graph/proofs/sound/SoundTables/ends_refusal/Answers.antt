@@ -2,15 +2,15 @@
 use Rattle.graph.specs.Commands.{ends_refusal}
 use Rattle.graph.proofs.TestLaws.{either_left, either_right, either-false}
 use Rattle.graph.proofs.CallLaws.{chain, handed_on, caller_due}
-use Rattle.graph.proofs.refusals.ends_refusal.Goals as goal
+use Rattle.graph.proofs.sound.SoundTables.ends_refusal.Goals as goal
 
 pub returns-in_err-caller_refusal : goal.returns-in_err-caller_refusal
 unfolding ends_refusal
 returns-in_err-caller_refusal c = handed_on _ _ c.from_residual.ensures.1 (caller_due _ _ _ _ _ _ c.in_err-caller_refusal.ensures)
 
-pub bounds-vertices-target : goal.bounds-vertices-target
+pub bounds-self-target : goal.bounds-self-target
 unfolding ends_refusal
-bounds-vertices-target c = search (chain, c.in_ok-caller_refusal.ensures)
+bounds-self-target c = search (chain, c.in_ok-caller_refusal.ensures)
 
 pub returns-then-waits : goal.returns-then-waits
 unfolding ends_refusal

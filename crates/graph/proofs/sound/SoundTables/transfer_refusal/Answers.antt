@@ -9,7 +9,7 @@ use Rattle.graph.specs.Commands.{transfer_refusal, target_reaches}
 use Rattle.graph.proofs.CycleLaws.{target_reaches_lem}
 use Rattle.graph.proofs.CallLaws.{answered, path_on, handed_on, caller_due}
 use Rattle.graph.proofs.CallLaws.{chain}
-use Rattle.graph.proofs.refusals.transfer_refusal.Goals as goal
+use Rattle.graph.proofs.sound.SoundTables.transfer_refusal.Goals as goal
 
 -- the definition asks the caller's targets, the code asks the caller
 answered_targets : (e : List ℕ) (n t t' : ℕ) {r x : Bool} → r ≡ reaches e n t t' → r ≡ x → target_reaches e n t t' ≡ x
@@ -19,13 +19,13 @@ pub returns-in_err-caller_refusal : goal.returns-in_err-caller_refusal
 unfolding transfer_refusal leads_out_of
 returns-in_err-caller_refusal c = handed_on _ _ c.from_residual.ensures.1 (caller_due _ _ _ _ _ _ c.in_err-caller_refusal.ensures)
 
-pub bounds-vertices-vertex : goal.bounds-vertices-vertex
+pub bounds-self-vertex : goal.bounds-self-vertex
 unfolding transfer_refusal leads_out_of
-bounds-vertices-vertex c = search (chain, c.in_ok-caller_refusal.ensures)
+bounds-self-vertex c = search (chain, c.in_ok-caller_refusal.ensures)
 
-pub returns-then-vertices-vertex-ne-NEW : goal.returns-then-vertices-vertex-ne-NEW
+pub returns-then-self-vertex-ne-NEW : goal.returns-then-self-vertex-ne-NEW
 unfolding transfer_refusal leads_out_of
-returns-then-vertices-vertex-ne-NEW c = search (chain, c.in_ok-caller_refusal.ensures)
+returns-then-self-vertex-ne-NEW c = search (chain, c.in_ok-caller_refusal.ensures)
 
 pub leads-requires : goal.leads-requires
 unfolding transfer_refusal leads_out_of
