@@ -13,6 +13,7 @@
 -- Nobody has to believe what stands in Internal: contracts of private functions cite it.
 pub mod Tests
 pub mod Tables
+pub mod OfTables
 pub mod Answers
 pub mod Sound
 pub mod Paths
