@@ -13,7 +13,7 @@ pub returns-then-opened-value : goal.returns-then-opened-value
 returns-then-opened-value c =
     rw c.refused.ensures
     (numbered_unopened c.args.self.place (item_counts c.args.self.seen) _ _ c.args.bytes.now _ _ c.in_ok-value.was c.number.ensures
-    c.if-first-eq-FORCE.true c.if-opened-value.true)
+    c.if-first-eq-FORCE.true (omega (arith, c.if-opened-value.true)))
 
 pub counting-requires : goal.counting-requires
 counting-requires c = number_few _ _ _ _ _ c.requires.0 c.in_ok-value.was c.number.ensures
