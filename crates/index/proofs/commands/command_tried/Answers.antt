@@ -1,10 +1,10 @@
--- `command` meets its contract: each case is its command, and a start is not given.
+-- `command_tried` meets its contract: each case is its command, and a start is not given.
 use mathlib.Core.Path.{refl, sym, ◌∙◌, ap}
 use Rattle.graph.specs.Internal.Checks.{is_start}
 use Rattle.graph.proofs.TestLaws.{true-false}
 use Rattle.index.specs.Underway.{caller_of}
 use Rattle.index.proofs.CommandLaws.{caller_case}
-use Rattle.index.proofs.commands.command.Goals as goal
+use Rattle.index.proofs.commands.command_tried.Goals as goal
 
 pub new_td-requires : goal.new_td-requires
 unfolding caller_of
