@@ -2,8 +2,8 @@
 use Prim.Native.Nat.{◌≤◌}
 use Rattle.reachability.specs.Pairs.{pair_limit}
 use Rattle.looks.specs.Looking.{Asking}
-use Rattle.looks.proofs.sift.ask_window.Given as goal
+use Rattle.looks.proofs.look.Look.ask_window.Given as goal
 
 abbrev pub invariant-loop-i : goal.invariant-loop-i
 invariant-loop-i l =
-    (l.i ≤ pair_limit) × Asking l.edition l.program l.vertices l.index l.course l.limit l.base l.starts l.goals l.kinds l.i
+    (l.i ≤ pair_limit) × Asking l.self.edition l.self.program.now l.self.vertices.now l.self.index.now l.self.course l.self.limit l.base l.starts l.goals l.kinds l.i
