@@ -13,23 +13,23 @@ Early l shut = (l.course.tally.steps < step_limit) × (length shut ≡ usable_li
 
 -- it is told whether some vertex that is not busy can step
 abbrev pub Tells : Look → List ℕ → Bool → List ℕ → Type 0
-Tells l = Looks l.edition l.program.now l.vertices.now l.index.now l.busy.now l.course l.limit
+Tells l = Looks l.program.edition l.program.bytes.now l.vertices.now l.index.now l.busy.now l.course l.limit
 
 -- besides whom shut has only such are shut as cannot step
 abbrev pub ShutsHere : Look → List ℕ → List ℕ → Type 0
-ShutsHere l = Shuts l.edition l.program.now l.vertices.now l.index.now l.course l.limit
+ShutsHere l = Shuts l.program.edition l.program.bytes.now l.vertices.now l.index.now l.course l.limit
 
 -- r is the first open vertex from a number on that can step, or the number made where there is none; those before it are shut
 abbrev pub FirstAble : Look → List ℕ → ℕ → ℕ → List ℕ → Type 0
 FirstAble l shut from r shut' =
     ShutsHere l shut shut'
     × FirstOpen l.vertices.now l.busy.now shut' l.course.tally.made from r
-    × (r < l.course.tally.made → CanOn l.edition l.program.now l.vertices.now l.index.now l.course l.limit r)
+    × (r < l.course.tally.made → CanOn l.program.edition l.program.bytes.now l.vertices.now l.index.now l.course l.limit r)
 
 -- what the step of u hinges on
 abbrev pub HingesHere : Look → ℕ → Hinge → Type 0
-HingesHere l = HingesOn l.edition l.program.now l.vertices.now l.index.now l.course l.limit
+HingesHere l = HingesOn l.program.edition l.program.bytes.now l.vertices.now l.index.now l.course l.limit
 
 -- the first n of so many vertices from `base` on were asked
 abbrev pub AskedHere : Look → ℕ → List ℕ → List ℕ → List Kind → ℕ → Type 0
-AskedHere l = Asking l.edition l.program.now l.vertices.now l.index.now l.course l.limit
+AskedHere l = Asking l.program.edition l.program.bytes.now l.vertices.now l.index.now l.course l.limit

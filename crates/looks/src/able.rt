@@ -61,18 +61,18 @@ impl<'a> Look<'a> {
     // A vertex that may step, as far as its own row tells, can step: it is released, or what is due would be accepted.
     fn can_step(&self, vertex: u32) -> bool
         requires { (self.now.course.tally.steps < step_limit) × (vertex < self.now.course.tally.made) × (may_step self.now.vertices.now vertex ≡ true) }
-        ensures { (e : List ℕ) → edge_rows e ≡ self.now.limit → result ≡ can_step self.now.edition self.now.program.now (state_of self.now.vertices.now self.now.index.now self.now.course e) vertex }
+        ensures { (e : List ℕ) → edge_rows e ≡ self.now.limit → result ≡ can_step self.now.program.edition self.now.program.bytes.now (state_of self.now.vertices.now self.now.index.now self.now.course e) vertex }
     {
         if self.vertices[VERTEX_WORDS * (vertex as usize) + STATUS] == RELEASED {
             return true;
         }
         let made = self.course.tally.made;
         match ended_due(
-            self.program,
-            self.ends,
+            self.program.bytes,
+            self.program.ends,
             self.vertices,
             made,
-            self.edition,
+            self.program.edition,
             vertex,
         ) {
             Due::Refused(_) => false,

@@ -7,18 +7,24 @@ ghost use Rattle.program.specs.Located.{MarksEnds};
 use index::Course;
 use program::Edition;
 
-// A program and the ends of its bodies, the vertices, an index of their edges for a table of `limit` rows on its course, and the marks of who is busy.
+// A program with the ends of its bodies.
 #[derive(Clone, Copy)]
-pub struct Look<'a> {
-    pub program: &'a [u8],
+pub struct MarkedProgram<'a> {
+    pub bytes: &'a [u8],
     pub ends: &'a [u16],
     pub edition: Edition,
+    pub ghost marks_ends: { MarksEnds edition bytes.now ends.now },
+    pub ghost ends_long: { length ends.now ≡ program_bytes },
+}
+
+// A program, the vertices, an index of their edges for a table of `limit` rows, on its course, and the marks of who is busy.
+#[derive(Clone, Copy)]
+pub struct Look<'a> {
+    pub program: MarkedProgram<'a>,
     pub vertices: &'a [u32],
     pub index: &'a [u32],
     pub limit: u32,
     pub course: Course,
     pub busy: &'a [u32],
-    pub ghost marks_ends: { MarksEnds edition program.now ends.now },
-    pub ghost ends_long: { length ends.now ≡ program_bytes },
     pub ghost ready: { Ready vertices.now index.now course limit },
 }

@@ -102,12 +102,12 @@ impl<'a> Look<'a> {
             return hinging_on(Kind::Nothing);
         }
         match leaping_due(
-            self.program,
-            self.ends,
+            self.program.bytes,
+            self.program.ends,
             self.vertices,
             leaps,
             made,
-            self.edition,
+            self.program.edition,
             vertex,
         ) {
             Due::Refused(_) => hinging_on(Kind::Barred),

@@ -13,7 +13,7 @@ returns-then-self-vertex-eq-RELEASED c =
 pub would_take-requires : goal.would_take-requires
 would_take-requires c =
     let own =
-    own_given c.args.self.now.edition c.args.self.now.program.now c.args.self.now.vertices.now c.args.self.now.course c.args.vertex
+    own_given c.args.self.now.program.edition c.args.self.now.program.bytes.now c.args.self.now.vertices.now c.args.self.now.course c.args.vertex
     c.ended_due.ensures c.in-Command.is (c.requires.1, executing_one _ _ c.requires.2 c.if-self-vertex-eq-RELEASED.false)
     in
     (c.args.self.now.ready, own.0, own.1)
@@ -46,4 +46,4 @@ pub bounds-self-vertex : goal.bounds-self-vertex
 bounds-self-vertex c = omega (arith, (made_rows _ _ _ _ c.args.self.now.ready).0, c.requires.1)
 
 pub ended_due-requires : goal.ended_due-requires
-ended_due-requires c = (c.args.self.now.marks_ends, c.args.self.now.ends_long, c.requires.1, (made_rows _ _ _ _ c.args.self.now.ready).0)
+ended_due-requires c = (c.args.self.now.program.marks_ends, c.args.self.now.program.ends_long, c.requires.1, (made_rows _ _ _ _ c.args.self.now.ready).0)

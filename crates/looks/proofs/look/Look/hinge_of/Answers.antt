@@ -6,7 +6,7 @@ use Rattle.looks.proofs.look.Look.hinge_of.Goals as goal
 pub hinge_by-requires : goal.hinge_by-requires
 hinge_by-requires c =
     let own =
-    own_given c.args.self.now.edition c.args.self.now.program.now c.args.self.now.vertices.now c.args.self.now.course c.args.vertex
+    own_given c.args.self.now.program.edition c.args.self.now.program.bytes.now c.args.self.now.vertices.now c.args.self.now.course c.args.vertex
     c.leaping_due.ensures c.in-Command.is (c.if-made-vertex.false, c.if-self-vertex-ne-EXECUTING.false)
     in
     (own.0, own.1)
@@ -31,4 +31,4 @@ bounds-self-vertex c = omega (arith, (made_rows _ _ _ _ c.args.self.now.ready).0
 
 pub leaping_due-requires : goal.leaping_due-requires
 leaping_due-requires c =
-    (c.args.self.now.marks_ends, c.args.self.now.ends_long, c.if-made-vertex.false, (made_rows _ _ _ _ c.args.self.now.ready).0, c.requires.leaps)
+    (c.args.self.now.program.marks_ends, c.args.self.now.program.ends_long, c.if-made-vertex.false, (made_rows _ _ _ _ c.args.self.now.ready).0, c.requires.leaps)
