@@ -1,6 +1,6 @@
 use native.Mathlib.Omega.{arith}
 use Rattle.looks.proofs.SiftLaws.{asking_more}
-use Rattle.looks.proofs.sift.ask_window.Goals as goal
+use Rattle.looks.proofs.look.Look.ask_window.Goals as goal
 
 pub loop-i-preserved : goal.loop-i-preserved
 loop-i-preserved c =
