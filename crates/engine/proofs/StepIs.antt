@@ -30,7 +30,7 @@ use Rattle.graph.proofs.TakenLaws as of_taken
 use Rattle.graph.proofs.Demand2.{refused_keeps, words_stay}
 use Rattle.program.specs.declared.Edition.{Edition}
 use Rattle.program.specs.declared.Edition.TheVariants.{First}
-use Rattle.machine.specs.Answers.{StepSaid, one_step, said_as}
+use Rattle.machine.specs.Answers.{StepSaid, accepted, one_step, said_as}
 use Rattle.machine.specs.Stepping as machine
 use Rattle.machine.specs.Stepping.{step_limit, start_due, own_of, Due, due, stored, with_own, do_due}
 use Rattle.machine.specs.Traces.{Stepped}
@@ -86,6 +86,20 @@ module _ (v e : List ℕ) (t : Tally) (k : ℕ) (c : Command) (w : Own) (d : cod
   pub command_ready : IsDue (lent v e t) k (due_of d) → Ready (lent v e t) k (either (is_start c) (sound (lent v e t)))
   unfolding ReadyFor
   command_ready h = subst (λ (x : Due). ReadyFor (lent v e t) k x) (ap due_of is) (ready_is h)
+
+-- as a step says it, a command is refused where it is
+said_accepted : (x : of_graph.CommandSaid) → accepted (said_as x) ≡ of_graph.accepted x
+said_accepted of_graph.start = refl
+said_accepted (of_graph.new v) = refl
+said_accepted (of_graph.edge a b) = refl
+said_accepted (of_graph.release v) = refl
+said_accepted (of_graph.transfer v) = refl
+said_accepted of_graph.stop = refl
+said_accepted of_graph.yield = refl
+said_accepted (of_graph.refused n p) = refl
+
+pub refused_told : {a : StepSaid} (x : of_graph.CommandSaid) {b : Bool} → b ≡ not (accepted a) → a ≡ said_as x → b ≡ not (of_graph.accepted x)
+refused_told x p q = p ∙ ap (λ (y : StepSaid). not (accepted y)) q ∙ ap not (said_accepted x)
 
 -- a command that left this
 module _ (v e : List ℕ) (t : Tally) (k : ℕ) (c : Command) (v' e' : List ℕ) (done : Done)
