@@ -7,12 +7,3 @@
 pub mod entry;
 mod nearest;
 pub mod showing;
-
-use refusal::Refusal;
-
-// What is answered: how many vertices the chain has, or the refusal.
-#[derive(Clone, Copy)]
-pub enum Answer {
-    Chain(u32),
-    Refused(Refusal),
-}

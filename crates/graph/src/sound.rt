@@ -13,22 +13,14 @@ use crate::rows::{
 pub fn tally_fits(vertices: &[u32], edges: &[u32], made: u32, held: u32) -> bool
     ensures { result ≡ tally_fits vertices.now edges.now made held }
 {
-    if vertex_rows(vertices) < made as usize {
-        return false;
-    }
-    if edge_rows(edges) < held as usize {
-        return false;
-    }
-    true
+    made as usize <= vertex_rows(vertices) && held as usize <= edge_rows(edges)
 }
 
+#[tactic(auto, using(crate::proofs::TestLaws::in_range), unfolding(crate::specs::Tests::both))]
 pub(crate) fn is_status(status: u32) -> bool
     ensures { result ≡ both (leb NEW status) (leb status FINISHED) }
 {
-    if status < NEW {
-        return false;
-    }
-    status <= FINISHED
+    matches!(status, NEW..=FINISHED)
 }
 
 // Each made vertex has one of the four statuses. Here and in `edges_made` no row ends the loop: such a loop is compiled to look at several rows
@@ -61,13 +53,8 @@ pub(crate) fn edges_made(edges: &[u32], made: u32, held: usize) -> bool
 pub fn is_sound(vertices: &[u32], edges: &[u32], tally: Tally) -> bool
     ensures { result ≡ sound (lent vertices.now edges.now tally) }
 {
-    let made = tally.made;
-    let held = tally.held;
-    if !tally_fits(vertices, edges, made, held) {
-        return false;
-    }
-    if !statuses_known(vertices, made as usize) {
-        return false;
-    }
-    edges_made(edges, made, held as usize)
+    let Tally { made, held, .. } = tally;
+    tally_fits(vertices, edges, made, held)
+        && statuses_known(vertices, made as usize)
+        && edges_made(edges, made, held as usize)
 }

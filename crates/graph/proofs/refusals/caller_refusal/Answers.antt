@@ -5,15 +5,12 @@ use Rattle.graph.proofs.refusals.caller_refusal.Goals as goal
 
 pub returns-then-made-caller : goal.returns-then-made-caller
 unfolding caller_refusal
-returns-then-made-caller c = search chain
-
-pub returns-then-made-a : goal.returns-then-made-a
-unfolding caller_refusal
-returns-then-made-a c = search chain
-
-pub returns-then-made-b : goal.returns-then-made-b
-unfolding caller_refusal
-returns-then-made-b c = search chain
+returns-then-made-caller c =
+    elim c.then-made-caller.branch [
+      | goal.then-made-caller-via-then-made-caller w ↦ search chain
+      | goal.then-made-caller-via-else-made-caller+then-made-a w ↦ search chain
+      | goal.then-made-caller-via-else-made-caller+else-made-a+then-made-b w ↦ search chain
+    ]
 
 pub bounds-vertices-caller : goal.bounds-vertices-caller
 unfolding caller_refusal

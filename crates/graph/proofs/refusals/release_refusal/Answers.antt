@@ -1,20 +1,20 @@
 -- The tests are the definition's, in the same order: `search chain` answers by those passed.
 use Rattle.graph.specs.Commands.{release_refusal}
-use Rattle.graph.proofs.CallLaws.{chain}
+use Rattle.graph.proofs.CallLaws.{chain, handed_on, caller_due}
 use Rattle.graph.proofs.refusals.release_refusal.Goals as goal
 
-pub returns-then-first-ne-ACCEPTED : goal.returns-then-first-ne-ACCEPTED
+pub returns-in_err-caller_refusal : goal.returns-in_err-caller_refusal
 unfolding release_refusal
-returns-then-first-ne-ACCEPTED c = search chain
+returns-in_err-caller_refusal c = handed_on _ _ c.from_residual.ensures.1 (caller_due _ _ _ _ _ _ c.in_err-caller_refusal.ensures)
 
 pub bounds-vertices-vertex : goal.bounds-vertices-vertex
 unfolding release_refusal
-bounds-vertices-vertex c = search chain
+bounds-vertices-vertex c = search (chain, c.in_ok-caller_refusal.ensures)
 
 pub returns-then-vertices-vertex-ne-NEW : goal.returns-then-vertices-vertex-ne-NEW
 unfolding release_refusal
-returns-then-vertices-vertex-ne-NEW c = search chain
+returns-then-vertices-vertex-ne-NEW c = search (chain, c.in_ok-caller_refusal.ensures)
 
 pub returns : goal.returns
 unfolding release_refusal
-returns c = search chain
+returns c = search (chain, c.in_ok-caller_refusal.ensures)

@@ -7,7 +7,7 @@ use mathlib.Core.List.{List}
 use Rattle.graph.specs.Paths.{leads_out_of, reaches}
 use Rattle.graph.specs.Commands.{transfer_refusal, target_reaches}
 use Rattle.graph.proofs.CycleLaws.{target_reaches_lem}
-use Rattle.graph.proofs.CallLaws.{answered, path_on}
+use Rattle.graph.proofs.CallLaws.{answered, path_on, handed_on, caller_due}
 use Rattle.graph.proofs.CallLaws.{chain}
 use Rattle.graph.proofs.refusals.transfer_refusal.Goals as goal
 
@@ -15,17 +15,17 @@ use Rattle.graph.proofs.refusals.transfer_refusal.Goals as goal
 answered_targets : (e : List ℕ) (n t t' : ℕ) {r x : Bool} → r ≡ reaches e n t t' → r ≡ x → target_reaches e n t t' ≡ x
 answered_targets e n t t' p q = target_reaches_lem e n t t' ∙ answered p q
 
-pub returns-then-first-ne-ACCEPTED : goal.returns-then-first-ne-ACCEPTED
+pub returns-in_err-caller_refusal : goal.returns-in_err-caller_refusal
 unfolding transfer_refusal leads_out_of
-returns-then-first-ne-ACCEPTED c = search chain
+returns-in_err-caller_refusal c = handed_on _ _ c.from_residual.ensures.1 (caller_due _ _ _ _ _ _ c.in_err-caller_refusal.ensures)
 
 pub bounds-vertices-vertex : goal.bounds-vertices-vertex
 unfolding transfer_refusal leads_out_of
-bounds-vertices-vertex c = search chain
+bounds-vertices-vertex c = search (chain, c.in_ok-caller_refusal.ensures)
 
 pub returns-then-vertices-vertex-ne-NEW : goal.returns-then-vertices-vertex-ne-NEW
 unfolding transfer_refusal leads_out_of
-returns-then-vertices-vertex-ne-NEW c = search chain
+returns-then-vertices-vertex-ne-NEW c = search (chain, c.in_ok-caller_refusal.ensures)
 
 pub leads-requires : goal.leads-requires
 unfolding transfer_refusal leads_out_of
@@ -33,16 +33,15 @@ leads-requires c = (search chain, search rules)
 
 pub returns-then-leads : goal.returns-then-leads
 unfolding transfer_refusal leads_out_of
-returns-then-leads c = search chain
+returns-then-leads c = search (chain, c.in_ok-caller_refusal.ensures)
 
 pub reaches-requires : goal.reaches-requires
-unfolding transfer_refusal leads_out_of
-reaches-requires c = path_on _ _ _ _ _ _ c.caller_refusal-first.ensures c.if-first-ne-ACCEPTED.false
+reaches-requires c = path_on _ _ _ _ _ _ c.in_ok-caller_refusal.ensures
 
 pub returns-then-reaches : goal.returns-then-reaches
 unfolding transfer_refusal leads_out_of
-returns-then-reaches c = search (chain, answered_targets) depth 12
+returns-then-reaches c = search (chain, answered_targets, c.in_ok-caller_refusal.ensures) depth 12
 
 pub returns : goal.returns
 unfolding transfer_refusal leads_out_of
-returns c = search (chain, answered_targets) depth 12
+returns c = search (chain, answered_targets, c.in_ok-caller_refusal.ensures) depth 12

@@ -3,7 +3,7 @@ use mathlib.Core.Path.{refl}
 use Rattle.graph.specs.Internal.Checks.{is_start}
 use Rattle.graph.specs.Commands.{command}
 use Rattle.graph.proofs.CallLaws.{command_case, sound_given}
-use Rattle.graph.proofs.commands.command_checked.Goals as goal
+use Rattle.graph.proofs.commands.checked.Goals as goal
 
 pub new_td-requires : goal.new_td-requires
 unfolding is_start
@@ -47,7 +47,7 @@ returns-in-Transfer c = command_case _ c.in-Transfer.is c.transfer.ensures
 
 pub returns-in-Start : goal.returns-in-Start
 unfolding command
-returns-in-Start c = command_case _ c.in-Start.is c.start.ensures
+returns-in-Start c = command_case _ c.in-Start.is c.start_vertex.ensures
 
 pub returns-in-Stop : goal.returns-in-Stop
 unfolding command
