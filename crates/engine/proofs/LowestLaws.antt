@@ -10,7 +10,7 @@ use native.Mathlib.Numerals.{add-one}
 use native.Mathlib.Omega.{arith}
 use lib.Dec.{eqb, ltb}
 use lib.ListN.{get_or, replicate, length-replicate, get_or-replicate, get_or-eq_default}
-use borrow.Author.Tests.{eq-eqb, ne_eqb, ltb-true, ltb-false}
+use borrow.Author.Tests.{ltb-true, ltb-false}
 use Rattle.graph.specs.declared.Command.{Command}
 use Rattle.graph.specs.Tests.{both, lowest_below}
 use Rattle.graph.specs.Tables.{Lent}
@@ -25,17 +25,24 @@ use Rattle.machine.specs.Running.{can_step, lowest, chosen, choice, choice_refus
 use Rattle.machine.specs.Dispatching.{is_busy, lowest_free}
 use Rattle.machine.proofs.StepDemand2.{can_ready}
 use Rattle.std.specs.Prelude as of_code
-use Rattle.std.specs.Prelude.{Ok, Some, None}
+use Rattle.std.specs.Prelude.{Result, Ok, Err, is_ok, ⊤, Some, None}
+use Rattle.refusal.specs.declared.Reason.{Reason}
+use Rattle.refusal.specs.Reasons.{number, due_number}
+use Rattle.refusal.proofs.ReasonLaws.{number_positive}
 use Rattle.engine.specs.declared.Due as of_engine
 use Rattle.engine.specs.Answers.{due_of, vertex_of, choice_of}
 use Rattle.engine.specs.Internal.Underway.{takes}
 
 -- COMMANDS
--- a command is accepted exactly where its refusal is 0
-pub told : (s : Lent) {r n : ℕ} (said : CommandSaid) (after : Lent) → accepted said ≡ true → r ≡ n → eqb r 0 ≡ accepted (decided s n said after).answer
+-- a command is accepted exactly where no refusal is due
+pub told :
+    (s : Lent) (r : Result ⊤ Reason) {n : ℕ} (said : CommandSaid) (after : Lent) → accepted said ≡ true → due_number r ≡ n
+    → is_ok r ≡ accepted (decided s n said after).answer
 unfolding decided
-told s {r = r} {n = zero} said after q p = eq-eqb r 0 p ∙ sym q
-told s {r = r} {n = suc n} said after q p = ne_eqb r 0 (λ e. omega arith)
+told s (Ok u) {n = zero} said after q p = sym q
+told s (Ok u) {n = suc n} said after q p = absurd (omega arith)
+told s (Err e) {n = zero} said after q p = let above : 0 < number e = number_positive e in absurd (omega arith)
+told s (Err e) {n = suc n} said after q p = refl
 
 -- by its case
 pub told_case : (s : Lent) {given c : Command} {b : Bool} → given ≡ c → b ≡ accepted (command c s).answer → b ≡ accepted (command given s).answer

@@ -1,6 +1,6 @@
 -- What is due at a step of an executing vertex, by the kind of the item at its place and its phase: one law for each return of src/next.rt.
 -- The definition reads the tables; `from` says the same of the vertex's words alone, and computes where the phase is a numeral.
-use Prim.Native.Nat.{ℕ, zero, suc, ◌+◌, ◌<◌, ◌≤◌}
+use Prim.Native.Nat.{ℕ, zero, suc, ◌+◌, ◌≤◌}
 use mathlib.Core.Path.{◌≡◌, refl, sym, ◌∙◌, ap}
 use mathlib.Core.Bool.{Bool, true}
 use mathlib.Core.List.{List, [], ◌∷◌}
@@ -23,7 +23,7 @@ use Rattle.refusal.specs.Refusals.{nothing_starts}
 use Rattle.machine.specs.Stepping.{phase, scope, latest, open_future, further, followed, or_zero, named, is_vertex, stands, all_stand}
 use Rattle.machine.specs.Stepping.{Task, item, ends, nothing, spots, task, nth, Own, own, own_of, with_made, with_kept, with_phase, own_past_item}
 use Rattle.machine.specs.Stepping.{moved_on, Due, refusal_due, job_due, command_due, due_if, filled_in, next_of, next_at}
-use Rattle.engine.specs.Internal.Underway.{NextAt, AlikeAt, AlikeIn, outwards, FollowsTo, ForceEdge, idle_own}
+use Rattle.engine.specs.Internal.Underway.{NextAt, AlikeAt, outwards, FollowsTo, ForceEdge, idle_own}
 use Rattle.engine.specs.Internal.Underway.{EndNext, JobNext, AsyncNext, ForkNext}
 
 -- what a name stands for, by the vertex, its scope and own words; f is the vertex that a force names

@@ -28,6 +28,8 @@ use Rattle.graph.specs.Answers.{Outcome}
 use Rattle.graph.proofs.TakenLaws.{not_refused, after_is}
 use Rattle.graph.proofs.TakenLaws as of_taken
 use Rattle.graph.proofs.Demand2.{refused_keeps, words_stay}
+use Rattle.refusal.specs.declared.Reason.{Reason}
+use Rattle.refusal.specs.Reasons.{number}
 use Rattle.program.specs.declared.Edition.{Edition}
 use Rattle.program.specs.declared.Edition.TheVariants.{First}
 use Rattle.machine.specs.Answers.{StepSaid, accepted, one_step, said_as}
@@ -65,8 +67,8 @@ ready_is : {s : Lent} {v : ℕ} {d : Due} → IsDue s v d → ReadyFor s v d
 ready_is {s} {v} {d} (is_due ed bytes same) = subst (λ (x : Due). ReadyFor s v x) (sym same) (ready_due ed bytes s v)
 
 -- a refusal is due
-pub refused_path : (s : Lent) (k n : ℕ) (d : code.Due) → d ≡ of_due.Refused n → DoesDue s k (due_of d) (StepSaid.refused n 0) s
-refused_path s k n d is ed bytes same = stepped ed bytes s k (sym same ∙ ap due_of is) refl refl
+pub refused_path : (s : Lent) (k : ℕ) (r : Reason) (d : code.Due) → d ≡ of_due.Refused r → DoesDue s k (due_of d) (StepSaid.refused (number r) 0) s
+refused_path s k r d is ed bytes same = stepped ed bytes s k (sym same ∙ ap due_of is) refl refl
 
 -- a job is due
 module _ (v e : List ℕ) (t : Tally) (k n p : ℕ) (w : Own) (d : code.Due) (is : d ≡ of_due.Job n p w) where

@@ -16,7 +16,7 @@ ghost use Rattle.machine.specs.Answers.{accepted, said_as};
 ghost use Rattle.engine.specs.Answers.{said};
 
 use graph::{Command, Tally};
-use refusal::Refusal;
+use refusal::{Reason, Refusal};
 
 // The result of loading: whether it is refused, and the tally afterwards.
 #[derive(Clone, Copy)]
@@ -88,7 +88,7 @@ pub struct Own {
 // calculus. With the last two comes what the vertex's own words are afterwards.
 #[derive(Clone, Copy)]
 pub enum Due {
-    Refused(u32),
+    Refused(Reason),
     Job { number: u32, offset: u32, own: Own },
     Command { command: Command, own: Own },
 }

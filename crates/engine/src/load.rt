@@ -11,9 +11,9 @@ use crate::LoadDone;
 use graph::Tally;
 use graph::commands::open_by_value;
 use graph::rows::{IN_COUNT, PLACE, RELEASED, SCOPE, STATUS, VERTEX_WORDS, edge_rows, vertex_rows};
+use program::Edition;
 use program::reading::read;
-use program::{Edition, ProgramRead};
-use refusal::{Refusal, TOO_FEW_EDGE_ROWS, TOO_FEW_VERTEX_ROWS};
+use refusal::{Reason, Refusal};
 
 // Loads a program, with the tally by value: clears the usable rows and the tally, then sets vertices 0 and 1 and the edge between them.
 pub fn load_by_value(
@@ -52,21 +52,12 @@ fn load_refusal(
 ) -> Result<(), Refusal>
     ensures { (t : Tally) → loading_said result ≡ (load edition program.now (lent vertices.now edges.now t)).answer }
 {
-    let items = match read(program, edition) {
-        ProgramRead::Program(items) => items,
-        ProgramRead::Refused(refusal) => return Err(refusal),
-    };
+    let items = read(program, edition)?;
     if (vertex_rows(vertices) as u64) < program::reading::vertices(items, edition) {
-        return Err(Refusal {
-            number: TOO_FEW_VERTEX_ROWS,
-            place: 0,
-        });
+        return Err(Reason::TooFewVertexRows.into());
     }
     if (edge_rows(edges) as u64) < program::reading::edge_rows(items) {
-        return Err(Refusal {
-            number: TOO_FEW_EDGE_ROWS,
-            place: 0,
-        });
+        return Err(Reason::TooFewEdgeRows.into());
     }
     Ok(())
 }

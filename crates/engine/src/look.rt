@@ -1,5 +1,5 @@
 // Looking for the lowest vertex whose step would be accepted. Nothing is stored here.
-ghost use Rattle.std.specs.Prelude.{◌≡◌, true, eqb, length, ◌+◌, ◌*◌, ◌<◌, ◌≤◌};
+ghost use Rattle.std.specs.Prelude.{◌≡◌, true, is_ok, length, ◌+◌, ◌*◌, ◌<◌, ◌≤◌};
 ghost use Rattle.graph.specs.Tables.{lent, vertex_words};
 ghost use Rattle.graph.specs.Sound.{sound};
 ghost use Rattle.graph.specs.Commands.{command};
@@ -14,15 +14,15 @@ ghost use Rattle.engine.specs.Internal.Underway.{may_start, takes};
 use crate::Due;
 use crate::next::{ended_due, is_steppable};
 use graph::refusals::{
-    ACCEPTED, new_edge_refusal, new_td_refusal, release_refusal, start_refusal, stop_refusal,
-    transfer_refusal, yield_refusal,
+    new_edge_refusal, new_td_refusal, release_refusal, start_refusal, stop_or_yield_refusal,
+    transfer_refusal,
 };
 use graph::rows::{EXECUTING, IN_COUNT, RELEASED, STATUS, VERTEX_WORDS};
 use graph::{Command, Tally};
 use program::Edition;
 use program::ends::mark_ends;
 use program::format::PROGRAM_BYTES;
-use refusal::{Refusal, UNSOUND_TABLES};
+use refusal::{Reason, Refusal};
 
 // The lowest vertex whose step would be accepted.
 pub fn lowest_vertex(
@@ -35,10 +35,7 @@ pub fn lowest_vertex(
     ensures { choice_of result ≡ choice edition program.now (lent vertices.now edges.now tally) }
 {
     if !is_steppable(vertices, edges, tally) {
-        return Err(Refusal {
-            number: UNSOUND_TABLES,
-            place: 0,
-        });
+        return Err(Reason::UnsoundTables.into());
     }
     let mut ends = [0u16; PROGRAM_BYTES];
     mark_ends(program, edition, &mut ends);
@@ -108,14 +105,14 @@ fn would_take(vertices: &[u32], edges: &[u32], tally: Tally, next: Due) -> bool
     match next {
         Due::Refused(_) => false,
         Due::Job { .. } => true,
-        Due::Command { command, .. } => refusal(vertices, edges, tally, command) == ACCEPTED,
+        Due::Command { command, .. } => refusal(vertices, edges, tally, command).is_ok(),
     }
 }
 
-// The refusal of a single command, or `ACCEPTED`.
-fn refusal(vertices: &[u32], edges: &[u32], tally: Tally, given: Command) -> u32
+// The refusal of a single command, if one is due.
+fn refusal(vertices: &[u32], edges: &[u32], tally: Tally, given: Command) -> Result<(), Reason>
     requires { sound (lent vertices.now edges.now tally) ≡ true }
-    ensures { eqb result 0 ≡ of_graph.accepted (command given (lent vertices.now edges.now tally)).answer }
+    ensures { is_ok result ≡ of_graph.accepted (command given (lent vertices.now edges.now tally)).answer }
 {
     match given {
         Command::NewTd { caller, .. } => new_td_refusal(vertices, edges, tally, caller),
@@ -131,7 +128,8 @@ fn refusal(vertices: &[u32], edges: &[u32], tally: Tally, given: Command) -> u32
             transfer_refusal(vertices, edges, tally, caller, vertex)
         }
         Command::Start { vertex } => start_refusal(vertices, edges, tally, vertex),
-        Command::Stop { caller } => stop_refusal(vertices, edges, tally, caller),
-        Command::Yield { caller } => yield_refusal(vertices, edges, tally, caller),
+        Command::Stop { caller } | Command::Yield { caller } => {
+            stop_or_yield_refusal(vertices, edges, tally, caller)
+        }
     }
 }

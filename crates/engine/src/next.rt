@@ -20,7 +20,7 @@ use graph::sound::{is_sound, tally_fits};
 use graph::{Command, Tally};
 use program::items::{item_at, item_for_looks};
 use program::{Edition, ItemRead};
-use refusal::{NO_SUCH_VERTEX, NOTHING_STARTS, UNSOUND_TABLES, VERTEX_IS_FINISHED, VERTEX_IS_NEW};
+use refusal::Reason;
 
 // The words of the vertices that the item at hand made.
 pub const FIRST: usize = MADE;
@@ -45,17 +45,17 @@ pub(crate) fn next_due(
     ensures { due_of result ≡ due edition program.now (lent vertices.now edges.now tally) vertex }
 {
     if !is_steppable(vertices, edges, tally) {
-        return Due::Refused(UNSOUND_TABLES);
+        return Due::Refused(Reason::UnsoundTables);
     }
     if tally.made <= vertex {
-        return Due::Refused(NO_SUCH_VERTEX);
+        return Due::Refused(Reason::NoSuchVertex);
     }
     let at = VERTEX_WORDS * (vertex as usize);
     if vertices[at + STATUS] == NEW {
-        return Due::Refused(VERTEX_IS_NEW);
+        return Due::Refused(Reason::VertexIsNew);
     }
     if vertices[at + STATUS] == FINISHED {
-        return Due::Refused(VERTEX_IS_FINISHED);
+        return Due::Refused(Reason::VertexIsFinished);
     }
     let own = own_words(vertices, vertex as usize);
     by_item(
@@ -71,7 +71,7 @@ pub(crate) fn next_due(
 }
 
 // A start is due: only the tally and the vertex's own row are looked at.
-#[tactic(auto, using(crate::proofs::DueLaws::dues, graph::proofs::SoundChecks::fits_rows), unfolding(machine::specs::Stepping::start_due))]
+#[tactic(auto, using(crate::proofs::DueLaws::dues, graph::proofs::SoundChecks::fits_rows, graph::proofs::SoundChecks::sound_rows), unfolding(machine::specs::Stepping::start_due))]
 pub(crate) fn start_due(vertices: &[u32], edges: &[u32], tally: Tally, vertex: u32) -> bool
     ensures { result ≡ start_due (lent vertices.now edges.now tally) vertex }
 {
@@ -145,7 +145,7 @@ pub(crate) fn by_item(
     ensures { Next edition program.now vertices.now vertex scope (own_words own) made (due_of result) }
 {
     match item {
-        ItemRead::Refused(_) => Due::Refused(NOTHING_STARTS),
+        ItemRead::Refused(_) => Due::Refused(Reason::NothingStarts),
         ItemRead::End { .. } => end_next(vertex, own),
         ItemRead::Job { number, past } => job_next(vertex, own, number, past.place),
         ItemRead::Async { body, past } => async_next(vertex, scope, own, made, body, past.place),
@@ -207,7 +207,7 @@ pub fn end_next(vertex: u32, own: Own) -> Due
     ensures { EndNext vertex (own_words own) (due_of result) }
 {
     if own.phase != 0 {
-        return Due::Refused(NOTHING_STARTS);
+        return Due::Refused(Reason::NothingStarts);
     }
     Due::Command {
         command: Command::Stop { caller: vertex },
@@ -221,7 +221,7 @@ pub fn job_next(vertex: u32, own: Own, number: u32, past: u32) -> Due
     ensures { JobNext vertex (own_words own) number past (due_of result) }
 {
     if own.phase != 0 {
-        return Due::Refused(NOTHING_STARTS);
+        return Due::Refused(Reason::NothingStarts);
     }
     Due::Job {
         number,
@@ -239,7 +239,7 @@ pub fn async_next(vertex: u32, scope: u32, own: Own, made: u32, body: u32, past:
         0 => new_td(vertex, body, scope, keeping(own, 0, made)),
         1 => new_edge(vertex, own.first, scope, onward(own)),
         2 => release(vertex, own.first, idle(past, own.latest)),
-        _ => Due::Refused(NOTHING_STARTS),
+        _ => Due::Refused(Reason::NothingStarts),
     }
 }
 
@@ -264,7 +264,7 @@ pub fn finish_next(
         3 => transfer(vertex, own.first, onward(own)),
         4 => release(vertex, own.first, onward(own)),
         5 => release(vertex, own.second, idle(last, own.latest)),
-        _ => Due::Refused(NOTHING_STARTS),
+        _ => Due::Refused(Reason::NothingStarts),
     }
 }
 
@@ -293,7 +293,7 @@ pub fn fork_next(
         6 => release(vertex, own.third, onward(own)),
         7 => release(vertex, own.first, onward(own)),
         8 => release(vertex, own.second, idle(last, own.latest)),
-        _ => Due::Refused(NOTHING_STARTS),
+        _ => Due::Refused(Reason::NothingStarts),
     }
 }
 
@@ -320,7 +320,7 @@ pub fn yielding_fork_next(
         4 => release(vertex, first, onward(own)),
         5 => release(vertex, second, onward(own)),
         6 => yield_caller(vertex, idle(past, own.latest)),
-        _ => Due::Refused(NOTHING_STARTS),
+        _ => Due::Refused(Reason::NothingStarts),
     }
 }
 
@@ -344,7 +344,7 @@ pub fn future_next(
         2 => new_edge(vertex, own.second, own.first, onward(own)),
         3 => release(vertex, own.first, onward(own)),
         4 => release(vertex, own.second, idle(past, own.first)),
-        _ => Due::Refused(NOTHING_STARTS),
+        _ => Due::Refused(Reason::NothingStarts),
     }
 }
 
@@ -369,7 +369,7 @@ pub fn force_next(
         1 => force_edge(vertex, own, followed(vertices, made, own.latest, number)),
         2 => transfer(vertex, own.first, onward(own)),
         3 => release(vertex, own.first, idle(last, own.latest)),
-        _ => Due::Refused(NOTHING_STARTS),
+        _ => Due::Refused(Reason::NothingStarts),
     }
 }
 
@@ -381,7 +381,7 @@ pub(crate) fn force_edge(vertex: u32, own: Own, future: Option<u32>) -> Due
 {
     match future {
         Some(forced) => new_edge(vertex, forced, own.first, onward(own)),
-        None => Due::Refused(NOTHING_STARTS),
+        None => Due::Refused(Reason::NothingStarts),
     }
 }
 

@@ -12,7 +12,6 @@ use graph::Tally;
 use graph::commands::{command_checked, start};
 use graph::rows::{FUTURE, PHASE, PLACE, VERTEX_WORDS};
 use program::Edition;
-use refusal::Refusal;
 
 // One step of `vertex`, with the tally by value.
 pub fn step_by_value(
@@ -63,8 +62,8 @@ pub(crate) fn do_due(
     ensures { DoesDue (lent vertices.old edges.old tally) vertex (due_of next) (said result.answer) (lent vertices.new edges.new result.tally) }
 {
     match next {
-        Due::Refused(number) => Done {
-            answer: Answer::Refused(Refusal { number, place: 0 }),
+        Due::Refused(reason) => Done {
+            answer: Answer::Refused(reason.into()),
             tally,
         },
         Due::Job {

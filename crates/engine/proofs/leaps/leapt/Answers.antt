@@ -1,5 +1,4 @@
 -- By sixty-four, then by eight, then by one.
-use mathlib.Core.Path.{sym}
 use Rattle.engine.proofs.LeapLaws.{leapt_none, leapt_all}
 use Rattle.engine.proofs.leaps.leapt.Goals as goal
 

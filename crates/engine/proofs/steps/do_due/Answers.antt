@@ -44,7 +44,7 @@ counted-requires-in-Command c =
 
 -- a refusal
 pub returns-in-Refused : goal.returns-in-Refused
-returns-in-Refused c = refused_path _ _ _ _ c.in-Refused.is
+returns-in-Refused c = rw c.into.ensures (refused_path _ _ _ _ c.in-Refused.is)
 
 -- a job
 pub returns-in-Job : goal.returns-in-Job
