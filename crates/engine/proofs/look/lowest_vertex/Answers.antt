@@ -4,10 +4,7 @@ use Rattle.engine.proofs.LowestLaws.{choice_turned, choice_looks}
 use Rattle.engine.proofs.look.lowest_vertex.Goals as goal
 
 pub returns-then-not-is_steppable : goal.returns-then-not-is_steppable
-returns-then-not-is_steppable c = choice_turned _ _ _ (sym c.if-not-is_steppable.ensures) c.refused.ensures
+returns-then-not-is_steppable c = rw c.into.ensures (choice_turned _ _ _ (sym c.if-not-is_steppable.ensures))
 
 pub returns : goal.returns
-returns c =
-    choice_looks _ _ _
-    (sym c.if-not-is_steppable.ensures)
-    c.lowest_able.ensures
+returns c = choice_looks _ _ _ _ (sym c.if-not-is_steppable.ensures) c.lowest_able.ensures
