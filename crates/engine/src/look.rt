@@ -1,23 +1,21 @@
 // Looking for the lowest vertex whose step would be accepted. Nothing is stored here.
 ghost use Rattle.std.specs.Prelude.{◌≡◌, true, is_ok, length, ◌+◌, ◌*◌, ◌<◌, ◌≤◌};
 ghost use Rattle.graph.specs.Tables.{lent, vertex_words};
-ghost use Rattle.graph.specs.Sound.{sound};
+ghost use Rattle.graph.specs.OfTables.{lent_of};
 ghost use Rattle.graph.specs.Commands.{command};
 ghost use Rattle.graph.specs.Answers as of_graph;
 ghost use Rattle.program.specs.Limits.{program_bytes};
 ghost use Rattle.program.specs.Located.{MarksEnds};
-ghost use Rattle.machine.specs.Stepping.{step_limit, steppable};
+ghost use Rattle.machine.specs.Stepping.{step_limit};
 ghost use Rattle.machine.specs.Running.{can_step, lowest, choice};
 ghost use Rattle.engine.specs.Answers.{due_of, choice_of, vertex_of};
 ghost use Rattle.engine.specs.Internal.Underway.{may_start, takes};
 
 use crate::Due;
 use crate::next::{ended_due, is_steppable};
-use graph::refusals::{
-    new_edge_refusal, new_td_refusal, release_refusal, start_refusal, stop_or_yield_refusal,
-    transfer_refusal,
-};
+use graph::refusals::start_refusal;
 use graph::rows::{EXECUTING, IN_COUNT, RELEASED, STATUS, VERTEX_WORDS};
+use graph::sound::SoundTables;
 use graph::{Command, Tally};
 use program::Edition;
 use program::ends::mark_ends;
@@ -37,25 +35,23 @@ pub fn lowest_vertex(
     if !is_steppable(vertices, edges, tally) {
         return Err(Reason::UnsoundTables.into());
     }
+    let tables = SoundTables {
+        vertices,
+        edges,
+        tally,
+    };
     let mut ends = [0u16; PROGRAM_BYTES];
     mark_ends(program, edition, &mut ends);
-    Ok(lowest_able(program, &ends, vertices, edges, tally, edition))
+    Ok(lowest_able(program, &ends, &tables, edition))
 }
 
 // The lowest vertex that can step, on tables that take steps, in a program whose ends these are.
-fn lowest_able(
-    program: &[u8],
-    ends: &[u16],
-    vertices: &[u32],
-    edges: &[u32],
-    tally: Tally,
-    edition: Edition,
-) -> Option<u32>
-    requires { MarksEnds edition program.now ends.now × (length ends.now ≡ program_bytes) × (steppable (lent vertices.now edges.now tally) ≡ true) }
-    ensures { vertex_of result ≡ lowest edition program.now (lent vertices.now edges.now tally) }
+fn lowest_able(program: &[u8], ends: &[u16], tables: &SoundTables, edition: Edition) -> Option<u32>
+    requires { MarksEnds edition program.now ends.now × (length ends.now ≡ program_bytes) × (tables.now.tally.steps < step_limit) }
+    ensures { vertex_of result ≡ lowest edition program.now (lent_of tables.now) }
 {
-    for v in 0..tally.made {
-        if can_step(program, ends, vertices, edges, tally, edition, v) {
+    for v in 0..tables.tally.made {
+        if can_step(program, ends, tables, edition, v) {
             return Some(v);
         }
     }
@@ -66,24 +62,21 @@ fn lowest_able(
 fn can_step(
     program: &[u8],
     ends: &[u16],
-    vertices: &[u32],
-    edges: &[u32],
-    tally: Tally,
+    tables: &SoundTables,
     edition: Edition,
     vertex: u32,
 ) -> bool
-    requires { MarksEnds edition program.now ends.now × (length ends.now ≡ program_bytes) × (sound (lent vertices.now edges.now tally) ≡ true) × (tally.steps < step_limit) × (vertex < tally.made) }
-    ensures { result ≡ can_step edition program.now (lent vertices.now edges.now tally) vertex }
+    requires { MarksEnds edition program.now ends.now × (length ends.now ≡ program_bytes) × (tables.now.tally.steps < step_limit) × (vertex < tables.now.tally.made) }
+    ensures { result ≡ can_step edition program.now (lent_of tables.now) vertex }
 {
+    let vertices = tables.vertices;
     if may_start(vertices, vertex as usize) {
         return true;
     }
     vertices[VERTEX_WORDS * (vertex as usize) + STATUS] == EXECUTING
         && would_take(
-            vertices,
-            edges,
-            tally,
-            ended_due(program, ends, vertices, tally.made, edition, vertex),
+            tables,
+            ended_due(program, ends, vertices, tables.tally.made, edition, vertex),
         )
 }
 
@@ -98,38 +91,34 @@ pub(crate) fn may_start(vertices: &[u32], vertex: usize) -> bool
 }
 
 // What is due would be accepted.
-fn would_take(vertices: &[u32], edges: &[u32], tally: Tally, next: Due) -> bool
-    requires { sound (lent vertices.now edges.now tally) ≡ true }
-    ensures { result ≡ takes (lent vertices.now edges.now tally) (due_of next) }
+fn would_take(tables: &SoundTables, next: Due) -> bool
+    ensures { result ≡ takes (lent_of tables.now) (due_of next) }
 {
     match next {
         Due::Refused(_) => false,
         Due::Job { .. } => true,
-        Due::Command { command, .. } => refusal(vertices, edges, tally, command).is_ok(),
+        Due::Command { command, .. } => refusal(tables, command).is_ok(),
     }
 }
 
 // The refusal of a single command, if one is due.
-fn refusal(vertices: &[u32], edges: &[u32], tally: Tally, given: Command) -> Result<(), Reason>
-    requires { sound (lent vertices.now edges.now tally) ≡ true }
-    ensures { is_ok result ≡ of_graph.accepted (command given (lent vertices.now edges.now tally)).answer }
+fn refusal(tables: &SoundTables, given: Command) -> Result<(), Reason>
+    ensures { is_ok result ≡ of_graph.accepted (command given (lent_of tables.now)).answer }
 {
     match given {
-        Command::NewTd { caller, .. } => new_td_refusal(vertices, edges, tally, caller),
+        Command::NewTd { caller, .. } => tables.new_td_refusal(caller),
         Command::NewEdge {
             caller,
             source,
             target,
-        } => new_edge_refusal(vertices, edges, tally, caller, source, target),
-        Command::Release { caller, vertex } => {
-            release_refusal(vertices, edges, tally, caller, vertex)
+        } => tables.new_edge_refusal(caller, source, target),
+        Command::Release { caller, vertex } => tables.release_refusal(caller, vertex),
+        Command::Transfer { caller, vertex } => tables.transfer_refusal(caller, vertex),
+        Command::Start { vertex } => {
+            start_refusal(tables.vertices, tables.edges, tables.tally, vertex)
         }
-        Command::Transfer { caller, vertex } => {
-            transfer_refusal(vertices, edges, tally, caller, vertex)
-        }
-        Command::Start { vertex } => start_refusal(vertices, edges, tally, vertex),
         Command::Stop { caller } | Command::Yield { caller } => {
-            stop_or_yield_refusal(vertices, edges, tally, caller)
+            tables.stop_or_yield_refusal(caller)
         }
     }
 }
