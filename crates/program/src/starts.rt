@@ -32,14 +32,12 @@ fn in_number(program: &[u8], place: usize) -> bool
     requires { Encoding program.now × (place ≤ length program.now) }
     ensures { result ≡ in_number program.now place }
 {
-    let mut before = place;
     let mut turned = false;
-    while 0 < before {
-        let byte = program[before - 1];
+    for before in (0..place).rev() {
+        let byte = program[before];
         if !opens_number(byte) {
             return turned != (TOP_BIT <= byte);
         }
-        before -= 1;
         turned = !turned;
     }
     turned
