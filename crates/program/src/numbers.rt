@@ -39,17 +39,17 @@ impl Reader {
     {
         let mut value: u64 = 0;
         let mut weight: u64 = 1;
-        for (i, &group) in bytes.iter().enumerate().take(NUMBER_BYTES) {
+        for i in 0..NUMBER_BYTES {
+            let Some(&group) = bytes.get(i) else {
+                return Err(self.moved(i as u32).refused(Reason::BytesRunOut));
+            };
             if group < TOP_BIT {
                 return self.number_ended(value + weight * group as u64, group, i as u32);
             }
             value += weight * (group - TOP_BIT) as u64;
             weight *= TOP_BIT as u64;
         }
-        if NUMBER_BYTES <= bytes.len() {
-            return Err(self.refused(Reason::NumberMalformed));
-        }
-        Err(self.moved(bytes.len() as u32).refused(Reason::BytesRunOut))
+        Err(self.refused(Reason::NumberMalformed))
     }
 
     // The number at this reader's place, of this value, where its last group stands behind so many others.
