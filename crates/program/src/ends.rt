@@ -42,6 +42,7 @@ fn fill_ends(program: &[u8], ends: &mut [u16])
 
 // The end from a place on, by the byte that starts there. `after` is the end from the next place on where something starts: there stands what
 // follows a job or a force, and the first body of an item that has one or two.
+#[tactic(auto, unfolding(crate::specs::Internal::Progress::end_by, crate::specs::Internal::Progress::opens_number))]
 fn end_from(first: u8, place: usize, after: u16, ends: &[u16]) -> u16
     requires { (place < program_bytes) × LooksWithin first after ends.now }
     ensures { result ≡ end_by first place after ends.now }

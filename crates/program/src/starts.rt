@@ -20,6 +20,7 @@ pub(crate) fn starts_at(program: &[u8], edition: Edition, place: u32) -> bool
 }
 
 // The byte is a job's first or a force's, unless it is itself one of a number.
+#[tactic(auto, unfolding(crate::specs::Internal::Progress::opens_number))]
 pub(crate) fn opens_number(byte: u8) -> bool
     ensures { result ≡ opens_number byte }
 {
