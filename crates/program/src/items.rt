@@ -124,16 +124,15 @@ fn body_size(bytes: &[u8]) -> usize
     let mut from = 0;
     while bytes[from] != END {
         let first = bytes[from];
+        from += 1;
         if first == JOB || first == FORCE {
-            from = from + 1 + number_end(&bytes[from + 1..]);
-            continue;
+            from += number_end(&bytes[from..]);
+        } else {
+            from += body_size(&bytes[from..]);
+            if first == FORK {
+                from += body_size(&bytes[from..]);
+            }
         }
-        let behind = from + 1 + body_size(&bytes[from + 1..]);
-        if first != FORK {
-            from = behind;
-            continue;
-        }
-        from = behind + body_size(&bytes[behind..]);
     }
     from + 1
 }
