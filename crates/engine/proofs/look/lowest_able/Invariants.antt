@@ -5,4 +5,4 @@ use Rattle.engine.proofs.LowestLaws.{NoneCan}
 use Rattle.engine.proofs.look.lowest_able.Given as goal
 
 abbrev pub invariant-loop-v : goal.invariant-loop-v
-invariant-loop-v l = (l.v ≤ l.tables.tally.made) × NoneCan l.edition l.program (lent_of l.tables) l.v
+invariant-loop-v l = (l.v ≤ l.tables.tally.made) × NoneCan l.program.edition l.program.bytes.now (lent_of l.tables) l.v

@@ -2,7 +2,7 @@
 use native.Mathlib.Omega.{arith}
 use mathlib.Core.Path.{refl}
 use Rattle.engine.proofs.DueLaws.{next_nothing, next_read, item_length, of_edition}
-use Rattle.engine.proofs.next.by_item.Goals as goal
+use Rattle.engine.proofs.next.Executing.by_item.Goals as goal
 
 pub returns-in-Refused : goal.returns-in-Refused
 returns-in-Refused c = next_nothing _ _ _ _ _ _ _ c.requires.0 c.in-Refused.is
