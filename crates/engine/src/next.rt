@@ -128,14 +128,9 @@ pub struct Executing {
 }
 
 impl Executing {
-    // By what stands there.
-    pub(crate) fn by_item(
-        self,
-        program: &[u8],
-        item: ItemRead,
-        vertices: &[u32],
-        edition: Edition,
-    ) -> Due
+    // By what stands there. It is compiled into its callers, the loop of a walk among them: there what is due is never written to memory.
+    #[inline(always)]
+    pub fn by_item(self, program: &[u8], item: ItemRead, vertices: &[u32], edition: Edition) -> Due
         requires { (stands item ≡ item_at edition program.now self.own.place) × (vertex_words * self.made ≤ length vertices.now) }
         ensures { Next edition program.now vertices.now self.vertex self.scope (own_words self.own) self.made (due_of result) }
     {
