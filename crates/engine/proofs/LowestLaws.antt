@@ -1,12 +1,11 @@
 -- Looking for the lowest vertex that can step, turn by turn: whether a command would be accepted, and what the look finds. Where some vertices
 -- are busy, the lowest that is not.
-use Prim.Native.Nat.{ℕ, zero, suc, ◌+◌, ◌<◌, ◌≤◌}
-use mathlib.Core.Path.{◌≡◌, refl, sym, ◌∙◌, ap, subst}
+use Prim.Native.Nat.{ℕ, zero, suc, ◌<◌, ◌≤◌}
+use mathlib.Core.Path.{◌≡◌, refl, sym, ◌∙◌, ap}
 use mathlib.Core.Bool.{Bool, true, false, not}
 use mathlib.Core.Logic.{⊎_elim}
 use mathlib.Core.List.{List}
 use mathlib.Core.Option.{Option, none, some}
-use native.Mathlib.Numerals.{add-one}
 use native.Mathlib.Omega.{arith}
 use lib.Dec.{eqb, ltb}
 use lib.ListN.{get_or, replicate, length-replicate, get_or-replicate, get_or-eq_default}
@@ -16,7 +15,7 @@ use Rattle.graph.specs.Tests.{both, lowest_below}
 use Rattle.graph.specs.Tables.{Lent}
 use Rattle.graph.specs.Answers.{CommandSaid, accepted, decided}
 use Rattle.graph.specs.Commands.{command}
-use Rattle.graph.proofs.TestLaws.{decide, not_so, below_suc, both-false_left}
+use Rattle.graph.proofs.TestLaws.{decide, not_so, both-false_left}
 use Rattle.graph.proofs.LowestLaws.{found_is, none_is, found_holds, found_lowest, found_below, none_holds}
 use Rattle.refusal.specs.Refusals.{unsound_tables}
 use Rattle.program.specs.declared.Edition.{Edition}
