@@ -63,7 +63,7 @@ fn hopped(leaps: &[u32], made: u32, from: usize, vertex: u32, turns: u32) -> u32
     ensures { (result < made) × LeadsTo made leaps.now from vertex turns result }
 {
     let mut at = vertex;
-    for i in 0..turns {
+    for _ in 0..turns {
         at = leaps[from + (at as usize)];
     }
     at

@@ -54,12 +54,7 @@ fn lowest_able(program: &MarkedProgram, tables: &SoundTables) -> Option<u32>
     requires { tables.now.tally.steps < step_limit }
     ensures { vertex_of result ≡ lowest program.now.edition program.now.bytes.now (lent_of tables.now) }
 {
-    for v in 0..tables.tally.made {
-        if can_step(program, tables, v) {
-            return Some(v);
-        }
-    }
-    None
+    (0..tables.tally.made).find(|&v| can_step(program, tables, v))
 }
 
 // A vertex can step: it may start, or it executes and what is due would be accepted.

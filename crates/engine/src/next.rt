@@ -348,7 +348,7 @@ fn followed(vertices: &[u32], made: u32, latest: u32, number: u32) -> Option<u32
     ensures { FollowsTo vertices.now made latest number (vertex_of result) }
 {
     let mut future = open_future(made, latest)?;
-    for i in 0..number {
+    for _ in 0..number {
         future = open_future(made, vertices[VERTEX_WORDS * (future as usize) + FUTURE])?;
     }
     Some(future)

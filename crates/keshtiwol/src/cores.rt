@@ -76,7 +76,7 @@ pub(crate) fn command_by_numbers(
 }
 
 // The command that these numbers ask for. Start's vertex, stop's and yield's are the caller; what a command does not name is not looked at.
-#[tactic(auto, using(crate::proofs::ReplyLaws::asked), unfolding(crate::specs::Numbers::command_of))]
+#[tactic(auto, unfolding(crate::specs::Numbers::command_of))]
 fn asked(command: u32, caller: u32, first: u32, second: u32) -> Option<Command>
     ensures { asked_of result ≡ command_of command caller first second }
 {
@@ -107,7 +107,7 @@ fn asked(command: u32, caller: u32, first: u32, second: u32) -> Option<Command>
 }
 
 // The edition with this number.
-#[tactic(auto, using(crate::proofs::ReplyLaws::asked), unfolding(crate::specs::Numbers::edition_of))]
+#[tactic(auto, unfolding(crate::specs::Numbers::edition_of))]
 fn asked_edition(edition: u32) -> Option<Edition>
     ensures { asked_of result ≡ edition_of edition }
 {

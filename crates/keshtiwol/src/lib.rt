@@ -55,6 +55,7 @@ pub struct Done<A> {
 }
 
 // The version of this library, as one number.
+#[tactic(auto, unfolding(crate::specs::Numbers::version))]
 #[unsafe(no_mangle)]
 pub extern "C" fn keshtiwol_version() -> u32
     ensures { result ≡ version }
