@@ -21,6 +21,7 @@ use crate::sound::{is_status, tally_fits};
 use refusal::Reason;
 
 // 20 and 30 of a command of `caller` that names `a` and `b` besides.
+#[tactic(auto, using(crate::proofs::CallLaws::chain), unfolding(crate::specs::Commands::caller_refusal))]
 fn caller_refusal(
     vertices: &[u32],
     edges: &[u32],
@@ -43,6 +44,7 @@ fn caller_refusal(
 }
 
 // newTd: 20, 30, 31.
+#[tactic(auto, using(crate::proofs::CallLaws::chain), unfolding(crate::specs::Commands::new_td_refusal))]
 pub fn new_td_refusal(
     vertices: &[u32],
     edges: &[u32],
@@ -109,6 +111,7 @@ pub(crate) fn adds_nothing(
 }
 
 // The refusals of an edge that is to be appended: 35, 32.
+#[tactic(auto, using(crate::proofs::CallLaws::chain), unfolding(crate::specs::Commands::append_refusal))]
 pub(crate) fn append_refusal(
     edges: &[u32],
     held: usize,
@@ -147,6 +150,7 @@ pub fn new_edge_refusal(
 }
 
 // release: 20, 30, 36.
+#[tactic(auto, using(crate::proofs::CallLaws::chain), unfolding(crate::specs::Commands::release_refusal))]
 pub fn release_refusal(
     vertices: &[u32],
     edges: &[u32],
@@ -190,6 +194,7 @@ pub fn transfer_refusal(
 }
 
 // start, on any tables: 12 by the tally, 20, 12 by the vertex's status, 22, 39, 23, 21.
+#[tactic(auto, using(crate::proofs::CallLaws::chain), unfolding(crate::specs::Commands::start_refusal, crate::specs::Sound::status_known))]
 pub fn start_refusal(
     vertices: &[u32],
     edges: &[u32],
@@ -225,6 +230,7 @@ pub fn start_refusal(
 }
 
 // stop and yield, which refuse alike: 20, 30.
+#[tactic(auto, using(crate::proofs::CallLaws::chain), unfolding(crate::specs::Commands::stop_refusal, crate::specs::Commands::yield_refusal))]
 pub fn stop_or_yield_refusal(
     vertices: &[u32],
     edges: &[u32],
