@@ -60,6 +60,7 @@ pub fn open_by_value(vertices: &mut [u32], edges: &mut [u32], tally: Tally) -> O
 }
 
 // Makes the next vertex, new, with the place and scope handed in, the caller's latest open future, and its other words 0.
+#[tactic(auto, using(crate::proofs::CallLaws::calls), unfolding(crate::specs::Commands::new_td, crate::specs::Commands::with_vertex))]
 fn new_td(
     vertices: &mut [u32],
     edges: &[u32],
@@ -85,6 +86,7 @@ fn new_td(
 }
 
 // Adds the edge from `source` to `target`. Out of a finished vertex, or held already, it adds nothing and is accepted.
+#[tactic(auto, using(crate::proofs::CallLaws::calls), unfolding(crate::specs::Commands::new_edge, crate::specs::Commands::new_edge_refusal, crate::specs::Commands::with_edge))]
 fn new_edge(
     vertices: &mut [u32],
     edges: &mut [u32],
@@ -117,6 +119,7 @@ fn new_edge(
 }
 
 // Turns a new vertex released.
+#[tactic(auto, using(crate::proofs::CallLaws::calls), unfolding(crate::specs::Commands::release))]
 fn release(
     vertices: &mut [u32],
     edges: &[u32],
@@ -136,6 +139,7 @@ fn release(
 }
 
 // Gives each edge out of `caller` the source `vertex`, which is new and has no edge out.
+#[tactic(auto, using(crate::proofs::CallLaws::calls), unfolding(crate::specs::Commands::transfer, crate::specs::Commands::with_moved))]
 fn transfer(
     vertices: &[u32],
     edges: &mut [u32],
@@ -155,6 +159,7 @@ fn transfer(
 }
 
 // Turns a released vertex with no edge into it executing. It looks for 12 itself.
+#[tactic(auto, using(crate::proofs::CallLaws::calls), unfolding(crate::specs::Commands::start))]
 fn start_vertex(
     vertices: &mut [u32],
     edges: &[u32],
@@ -172,6 +177,7 @@ fn start_vertex(
 }
 
 // Finishes `caller` and drops its edges out.
+#[tactic(auto, using(crate::proofs::CallLaws::calls), unfolding(crate::specs::Commands::stop, crate::specs::Commands::stopped))]
 fn stop(vertices: &mut [u32], edges: &mut [u32], tally: Tally, caller: u32) -> Result<Done, Reason>
     requires { sound (lent vertices.old edges.old tally) ≡ true }
     ensures { tried result tally vertices.new edges.new ≡ stop (lent vertices.old edges.old tally) caller }

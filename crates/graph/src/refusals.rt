@@ -62,6 +62,7 @@ pub fn new_td_refusal(
 }
 
 // A vertex of this status may get an edge in, whoever calls.
+#[tactic(auto, using(crate::proofs::TestLaws::shortcuts))]
 fn waits(status: u32) -> bool
     ensures { result ≡ either (eqb status NEW) (eqb status RELEASED) }
 {
@@ -69,6 +70,7 @@ fn waits(status: u32) -> bool
 }
 
 // An edge from `source` to `target` would close a cycle.
+#[tactic(auto, using(crate::proofs::TestLaws::shortcuts))]
 fn closes_cycle(edges: &[u32], held: usize, source: u32, target: u32) -> bool
     requires { Searchable edges.now held target source }
     ensures { result ≡ either (eqb source target) (reaches edges.now held target source) }
@@ -77,6 +79,7 @@ fn closes_cycle(edges: &[u32], held: usize, source: u32, target: u32) -> bool
 }
 
 // newEdge's refusals that its caller and its ends cause: 20, 30, 33, which spares the caller.
+#[tactic(auto, using(crate::proofs::CallLaws::chain), unfolding(crate::specs::Commands::ends_refusal))]
 pub(crate) fn ends_refusal(
     vertices: &[u32],
     edges: &[u32],
@@ -96,6 +99,7 @@ pub(crate) fn ends_refusal(
 }
 
 // An edge from `source` to `target` adds nothing: its source is finished, or it is held already.
+#[tactic(auto, using(crate::proofs::CallLaws::chain), unfolding(crate::specs::Commands::adds_nothing))]
 pub(crate) fn adds_nothing(
     vertices: &[u32],
     edges: &[u32],
@@ -131,6 +135,7 @@ pub(crate) fn append_refusal(
 }
 
 // newEdge: 20, 30, 33, then none for an edge that adds nothing, 35, 32.
+#[tactic(auto, using(crate::proofs::CallLaws::chain), unfolding(crate::specs::Commands::new_edge_refusal))]
 pub fn new_edge_refusal(
     vertices: &[u32],
     edges: &[u32],
@@ -169,6 +174,7 @@ pub fn release_refusal(
 }
 
 // transfer: 20, 30, 37, 38, 35.
+#[tactic(auto, using(crate::proofs::CallLaws::chain), unfolding(crate::specs::Commands::transfer_refusal, crate::specs::Paths::leads_out_of))]
 pub fn transfer_refusal(
     vertices: &[u32],
     edges: &[u32],

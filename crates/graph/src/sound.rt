@@ -10,6 +10,7 @@ use crate::rows::{
 };
 
 // The tally against the usable rows.
+#[tactic(auto, using(crate::proofs::TestLaws::shortcuts), unfolding(crate::specs::Sound::tally_fits))]
 pub fn tally_fits(vertices: &[u32], edges: &[u32], made: u32, held: u32) -> bool
     ensures { result ≡ tally_fits vertices.now edges.now made held }
 {
@@ -50,6 +51,7 @@ pub(crate) fn edges_made(edges: &[u32], made: u32, held: usize) -> bool
 }
 
 // Refusal 12 is due where this is false.
+#[tactic(auto, using(crate::proofs::SoundChecks::looks), unfolding(crate::specs::Sound::sound))]
 pub fn is_sound(vertices: &[u32], edges: &[u32], tally: Tally) -> bool
     ensures { result ≡ sound (lent vertices.now edges.now tally) }
 {
