@@ -320,8 +320,12 @@ command_case s p h = h ∙ ap (λ (x : Command). command x s) (sym p)
 pub sound_given : {given c : Command} (s : Lent) → given ≡ c → is_start c ≡ false → either (is_start given) (sound s) ≡ true → sound s ≡ true
 sound_given s p q h = either_skip _ (ap is_start p ∙ q) ∙ h
 
+pub ruleset cases = (command_case, sound_given, refl)
+
 -- a command other than start that is refused at the door
 pub unsound_outcome :
     {o : Outcome CommandSaid} (v e : List ℕ) (t : Tally) (c : Command) → is_start c ≡ false → sound (lent v e t) ≡ false
     → o ≡ record { answer = CommandSaid.refused unsound_tables 0; after = lent v e t } → o ≡ command c (lent v e t)
 unsound_outcome v e t c q p h = h ∙ sym (unsound c (lent v e t) q p)
+
+pub ruleset door = (answered, answered_yes, answered_no, either_left, either_right)

@@ -220,6 +220,7 @@ pub fn start(vertices: &mut [u32], edges: &[u32], tally: Tally, vertex: u32) -> 
 }
 
 // Any single command.
+#[tactic(auto, using(crate::proofs::CallLaws::door))]
 pub fn command_by_value(
     vertices: &mut [u32],
     edges: &mut [u32],
@@ -234,6 +235,7 @@ pub fn command_by_value(
     command_checked(vertices, edges, tally, given)
 }
 
+#[tactic(auto, unfolding(crate::specs::Internal::Checks::is_start))]
 fn is_start(given: Command) -> bool
     ensures { result ≡ is_start given }
 {
@@ -253,6 +255,7 @@ pub fn command_checked(
     settled(checked(vertices, edges, tally, given), tally)
 }
 
+#[tactic(auto, using(crate::proofs::CallLaws::cases), unfolding(crate::specs::Internal::Checks::is_start, crate::specs::Commands::command))]
 fn checked(
     vertices: &mut [u32],
     edges: &mut [u32],
