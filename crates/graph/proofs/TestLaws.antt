@@ -76,6 +76,11 @@ above a b n p = sym (both-false_right _ (lt-leb n b p))
 
 pub ruleset in_range = (inside, below, above)
 
+pub both_of : (a b : Bool) → a && b ≡ both a b
+unfolding both
+both_of true b = refl
+both_of false b = refl
+
 both_turned : (a b c : Bool) → both a (both b c) ≡ both (both b a) c
 unfolding both
 both_turned true true c = refl

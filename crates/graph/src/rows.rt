@@ -1,6 +1,7 @@
 // The rows of the lent tables: how wide they are, which word is which, and how many rows may be used.
 ghost use Rattle.std.specs.Prelude.{◌≡◌, ◌+◌, ◌*◌, ◌/◌, ◌≤◌, ◌<◌, length, min};
 ghost use Rattle.graph.specs.Tables.{usable_limit, vertex_words, edge_words, vertex_rows, edge_rows, set_status, clear};
+ghost use Rattle.graph.specs.Internal.FirstRows.{FirstRows};
 ghost use Rattle.graph.specs.Commands.{new_row, appended, one_more, more_into, less_into};
 
 // Only full rows among the first 1,024 of each table are used.
@@ -64,6 +65,14 @@ pub fn edge_rows(edges: &[u32]) -> usize
     ensures { result ≡ edge_rows edges.now }
 {
     usable_rows::<EDGE_WORDS>(edges)
+}
+
+// The first `count` rows of so many words.
+pub(crate) fn first_rows<const WORDS: usize>(table: &[u32], count: usize) -> &[[u32; WORDS]]
+    requires { (0 < WORDS) × (WORDS * count ≤ length table.now) }
+    ensures { FirstRows WORDS table.now count result.now }
+{
+    table[..WORDS * count].as_chunks().0
 }
 
 // Clears `count` words from `from` on.
