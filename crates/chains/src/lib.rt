@@ -5,5 +5,6 @@
 #![tactic(auto)]
 
 pub mod entry;
+pub mod laws;
 mod nearest;
 pub mod showing;

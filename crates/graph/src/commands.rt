@@ -9,15 +9,12 @@ ghost use Rattle.graph.specs.Internal.Checks.{is_start};
 ghost use Rattle.graph.specs.Commands.{opening, new_td, new_edge, release, transfer, start, stop, yield, command};
 
 use crate::edges::{drop_edges, move_sources};
-use crate::refusals::{
-    adds_nothing, append_refusal, ends_refusal, new_td_refusal, release_refusal, start_refusal,
-    stop_or_yield_refusal, transfer_refusal,
-};
+use crate::refusals::{append_refusal, start_refusal};
 use crate::rows::{
     EDGE_WORDS, EXECUTING, FINISHED, FUTURE, RELEASED, VERTEX_WORDS, append_edge, clear, edge_rows,
     make_row, more_into, set_status, vertex_rows,
 };
-use crate::sound::is_sound;
+use crate::sound::{SoundTables, is_sound};
 use crate::{Answer, Command, Done, OpenDone, Tally};
 use refusal::Reason;
 
@@ -72,7 +69,12 @@ fn new_td(
     requires { sound (lent vertices.old edges.now tally) ≡ true }
     ensures { tried result tally vertices.new edges.now ≡ new_td (lent vertices.old edges.now tally) caller place scope }
 {
-    new_td_refusal(vertices, edges, tally, caller)?;
+    SoundTables {
+        vertices,
+        edges,
+        tally,
+    }
+    .new_td_refusal(caller)?;
     let made = tally.made;
     let future = vertices[VERTEX_WORDS * (caller as usize) + FUTURE];
     make_row(vertices, made as usize, place, scope, future);
@@ -98,8 +100,13 @@ fn new_edge(
     requires { sound (lent vertices.old edges.old tally) ≡ true }
     ensures { tried result tally vertices.new edges.new ≡ new_edge (lent vertices.old edges.old tally) caller source target }
 {
-    ends_refusal(vertices, edges, tally, caller, source, target)?;
-    if adds_nothing(vertices, edges, tally, source, target) {
+    let tables = SoundTables {
+        vertices,
+        edges,
+        tally,
+    };
+    tables.ends_refusal(caller, source, target)?;
+    if tables.adds_nothing(source, target) {
         return Ok(Done {
             answer: Answer::Edge(source, target),
             tally,
@@ -130,7 +137,12 @@ fn release(
     requires { sound (lent vertices.old edges.now tally) ≡ true }
     ensures { tried result tally vertices.new edges.now ≡ release (lent vertices.old edges.now tally) caller vertex }
 {
-    release_refusal(vertices, edges, tally, caller, vertex)?;
+    SoundTables {
+        vertices,
+        edges,
+        tally,
+    }
+    .release_refusal(caller, vertex)?;
     set_status(vertices, vertex as usize, RELEASED);
     Ok(Done {
         answer: Answer::Release(vertex),
@@ -150,7 +162,12 @@ fn transfer(
     requires { sound (lent vertices.now edges.old tally) ≡ true }
     ensures { tried result tally vertices.now edges.new ≡ transfer (lent vertices.now edges.old tally) caller vertex }
 {
-    transfer_refusal(vertices, edges, tally, caller, vertex)?;
+    SoundTables {
+        vertices,
+        edges,
+        tally,
+    }
+    .transfer_refusal(caller, vertex)?;
     move_sources(edges, tally.held as usize, caller, vertex);
     Ok(Done {
         answer: Answer::Transfer(vertex),
@@ -182,7 +199,12 @@ fn stop(vertices: &mut [u32], edges: &mut [u32], tally: Tally, caller: u32) -> R
     requires { sound (lent vertices.old edges.old tally) ≡ true }
     ensures { tried result tally vertices.new edges.new ≡ stop (lent vertices.old edges.old tally) caller }
 {
-    stop_or_yield_refusal(vertices, edges, tally, caller)?;
+    SoundTables {
+        vertices,
+        edges,
+        tally,
+    }
+    .stop_or_yield_refusal(caller)?;
     set_status(vertices, caller as usize, FINISHED);
     let kept = drop_edges(vertices, edges, tally.held as usize, caller);
     Ok(Done {
@@ -204,7 +226,12 @@ fn yield_caller(
     requires { sound (lent vertices.old edges.now tally) ≡ true }
     ensures { tried result tally vertices.new edges.now ≡ yield (lent vertices.old edges.now tally) caller }
 {
-    stop_or_yield_refusal(vertices, edges, tally, caller)?;
+    SoundTables {
+        vertices,
+        edges,
+        tally,
+    }
+    .stop_or_yield_refusal(caller)?;
     set_status(vertices, caller as usize, RELEASED);
     Ok(Done {
         answer: Answer::Yield,

@@ -30,7 +30,8 @@ pub(crate) fn leads(edges: &[u32], held: usize, end: usize, vertex: u32) -> bool
     false
 }
 
-// Gives each edge out of `from` the source `to`, in its row.
+// Gives each edge out of `from` the source `to`, in its row. Here and in `gather_others` rows are counted: of rows that are lent to be written, as
+// arrays or chunks, the library says nothing of what the table is afterwards that these contracts could stand on.
 pub(crate) fn move_sources(edges: &mut [u32], held: usize, from: u32, to: u32)
     requires { edge_words * held ≤ length edges.old }
     ensures { edges.new ≡ moved from to edges.old held }

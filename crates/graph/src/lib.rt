@@ -11,6 +11,7 @@ ghost use Rattle.graph.specs.Answers.{said, accepted};
 pub mod commands;
 mod edges;
 pub mod entry;
+pub mod laws;
 pub mod paths;
 pub mod refusals;
 pub mod rows;

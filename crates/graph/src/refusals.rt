@@ -3,6 +3,7 @@
 ghost use Rattle.std.specs.Prelude.{◌≡◌, true, ◌<◌, eqb};
 ghost use Rattle.refusal.specs.Reasons.{due_number};
 ghost use Rattle.graph.specs.Tests.{either};
+ghost use Rattle.graph.specs.OfTables.{lent_of};
 ghost use Rattle.graph.specs.Tables.{lent, NEW, RELEASED};
 ghost use Rattle.graph.specs.Sound.{sound};
 ghost use Rattle.graph.specs.Paths.{reaches};
@@ -17,48 +18,110 @@ use crate::rows::{
     EXECUTING, FINISHED, IN_COUNT, NEW, RELEASED, SOURCE, STATUS, VERTEX_WORDS, edge_rows,
     vertex_rows,
 };
-use crate::sound::{is_status, tally_fits};
+use crate::sound::{SoundTables, is_status, tally_fits};
 use refusal::Reason;
 
-// 20 and 30 of a command of `caller` that names `a` and `b` besides.
-#[tactic(auto, using(crate::proofs::CallLaws::chain), unfolding(crate::specs::Commands::caller_refusal))]
-fn caller_refusal(
-    vertices: &[u32],
-    edges: &[u32],
-    tally: Tally,
-    caller: u32,
-    a: u32,
-    b: u32,
-) -> Result<(), Reason>
-    requires { sound (lent vertices.now edges.now tally) ≡ true }
-    ensures { due_number result ≡ caller_refusal (lent vertices.now edges.now tally) caller a b 0 }
-{
-    let made = tally.made;
-    if made <= caller || made <= a || made <= b {
-        return Err(Reason::NoSuchVertex);
+impl<'a> SoundTables<'a> {
+    // 20 and 30 of a command of `caller` that names `a` and `b` besides.
+    #[tactic(auto, using(crate::proofs::CallLaws::chain), unfolding(crate::specs::Commands::caller_refusal))]
+    fn caller_refusal(&self, caller: u32, a: u32, b: u32) -> Result<(), Reason>
+        ensures { due_number result ≡ caller_refusal (lent_of self.now) caller a b 0 }
+    {
+        let made = self.tally.made;
+        if made <= caller || made <= a || made <= b {
+            return Err(Reason::NoSuchVertex);
+        }
+        if self.vertices[VERTEX_WORDS * (caller as usize) + STATUS] != EXECUTING {
+            return Err(Reason::CallerNotExecuting);
+        }
+        Ok(())
     }
-    if vertices[VERTEX_WORDS * (caller as usize) + STATUS] != EXECUTING {
-        return Err(Reason::CallerNotExecuting);
-    }
-    Ok(())
-}
 
-// newTd: 20, 30, 31.
-#[tactic(auto, using(crate::proofs::CallLaws::chain), unfolding(crate::specs::Commands::new_td_refusal))]
-pub fn new_td_refusal(
-    vertices: &[u32],
-    edges: &[u32],
-    tally: Tally,
-    caller: u32,
-) -> Result<(), Reason>
-    requires { sound (lent vertices.now edges.now tally) ≡ true }
-    ensures { due_number result ≡ new_td_refusal (lent vertices.now edges.now tally) caller }
-{
-    caller_refusal(vertices, edges, tally, caller, caller, caller)?;
-    if vertex_rows(vertices) <= tally.made as usize {
-        return Err(Reason::NoVertexRow);
+    // newTd: 20, 30, 31.
+    #[tactic(auto, using(crate::proofs::CallLaws::chain), unfolding(crate::specs::Commands::new_td_refusal))]
+    pub fn new_td_refusal(&self, caller: u32) -> Result<(), Reason>
+        ensures { due_number result ≡ new_td_refusal (lent_of self.now) caller }
+    {
+        self.caller_refusal(caller, caller, caller)?;
+        if vertex_rows(self.vertices) <= self.tally.made as usize {
+            return Err(Reason::NoVertexRow);
+        }
+        Ok(())
     }
-    Ok(())
+
+    // newEdge's refusals that its caller and its ends cause: 20, 30, 33, which spares the caller.
+    #[tactic(auto, using(crate::proofs::CallLaws::chain), unfolding(crate::specs::Commands::ends_refusal))]
+    pub(crate) fn ends_refusal(&self, caller: u32, source: u32, target: u32) -> Result<(), Reason>
+        ensures { due_number result ≡ ends_refusal (lent_of self.now) caller source target 0 }
+    {
+        self.caller_refusal(caller, source, target)?;
+        if waits(self.vertices[VERTEX_WORDS * (target as usize) + STATUS]) || target == caller {
+            return Ok(());
+        }
+        Err(Reason::TargetNotWaiting)
+    }
+
+    // An edge from `source` to `target` adds nothing: its source is finished, or it is held already.
+    #[tactic(auto, using(crate::proofs::CallLaws::chain), unfolding(crate::specs::Commands::adds_nothing))]
+    pub(crate) fn adds_nothing(&self, source: u32, target: u32) -> bool
+        requires { source < self.now.tally.made }
+        ensures { result ≡ adds_nothing (lent_of self.now) source target }
+    {
+        self.vertices[VERTEX_WORDS * (source as usize) + STATUS] == FINISHED
+            || is_held(self.edges, self.tally.held as usize, source, target)
+    }
+
+    // newEdge: 20, 30, 33, then none for an edge that adds nothing, 35, 32.
+    #[tactic(auto, using(crate::proofs::CallLaws::chain), unfolding(crate::specs::Commands::new_edge_refusal))]
+    pub fn new_edge_refusal(&self, caller: u32, source: u32, target: u32) -> Result<(), Reason>
+        ensures { due_number result ≡ new_edge_refusal (lent_of self.now) caller source target }
+    {
+        self.ends_refusal(caller, source, target)?;
+        if self.adds_nothing(source, target) {
+            return Ok(());
+        }
+        append_refusal(self.edges, self.tally.held as usize, source, target)
+    }
+
+    // release: 20, 30, 36.
+    #[tactic(auto, using(crate::proofs::CallLaws::chain), unfolding(crate::specs::Commands::release_refusal))]
+    pub fn release_refusal(&self, caller: u32, vertex: u32) -> Result<(), Reason>
+        ensures { due_number result ≡ release_refusal (lent_of self.now) caller vertex }
+    {
+        self.caller_refusal(caller, vertex, vertex)?;
+        if self.vertices[VERTEX_WORDS * (vertex as usize) + STATUS] != NEW {
+            return Err(Reason::ReleaseNotNew);
+        }
+        Ok(())
+    }
+
+    // transfer: 20, 30, 37, 38, 35.
+    #[tactic(auto, using(crate::proofs::CallLaws::chain), unfolding(crate::specs::Commands::transfer_refusal, crate::specs::Paths::leads_out_of))]
+    pub fn transfer_refusal(&self, caller: u32, vertex: u32) -> Result<(), Reason>
+        ensures { due_number result ≡ transfer_refusal (lent_of self.now) caller vertex }
+    {
+        let held = self.tally.held as usize;
+        self.caller_refusal(caller, vertex, vertex)?;
+        if self.vertices[VERTEX_WORDS * (vertex as usize) + STATUS] != NEW {
+            return Err(Reason::TransferNotNew);
+        }
+        if leads(self.edges, held, SOURCE, vertex) {
+            return Err(Reason::TransferHasEdgeOut);
+        }
+        if reaches(self.edges, held, caller, vertex) {
+            return Err(Reason::ClosesCycle);
+        }
+        Ok(())
+    }
+
+    // stop and yield, which refuse alike: 20, 30.
+    #[tactic(auto, using(crate::proofs::CallLaws::chain), unfolding(crate::specs::Commands::stop_refusal, crate::specs::Commands::yield_refusal))]
+    pub fn stop_or_yield_refusal(&self, caller: u32) -> Result<(), Reason>
+        ensures stop { due_number result ≡ stop_refusal (lent_of self.now) caller }
+        ensures yields { due_number result ≡ yield_refusal (lent_of self.now) caller }
+    {
+        self.caller_refusal(caller, caller, caller)
+    }
 }
 
 // A vertex of this status may get an edge in, whoever calls.
@@ -78,42 +141,6 @@ fn closes_cycle(edges: &[u32], held: usize, source: u32, target: u32) -> bool
     source == target || reaches(edges, held, target, source)
 }
 
-// newEdge's refusals that its caller and its ends cause: 20, 30, 33, which spares the caller.
-#[tactic(auto, using(crate::proofs::CallLaws::chain), unfolding(crate::specs::Commands::ends_refusal))]
-pub(crate) fn ends_refusal(
-    vertices: &[u32],
-    edges: &[u32],
-    tally: Tally,
-    caller: u32,
-    source: u32,
-    target: u32,
-) -> Result<(), Reason>
-    requires { sound (lent vertices.now edges.now tally) ≡ true }
-    ensures { due_number result ≡ ends_refusal (lent vertices.now edges.now tally) caller source target 0 }
-{
-    caller_refusal(vertices, edges, tally, caller, source, target)?;
-    if waits(vertices[VERTEX_WORDS * (target as usize) + STATUS]) || target == caller {
-        return Ok(());
-    }
-    Err(Reason::TargetNotWaiting)
-}
-
-// An edge from `source` to `target` adds nothing: its source is finished, or it is held already.
-#[tactic(auto, using(crate::proofs::CallLaws::chain), unfolding(crate::specs::Commands::adds_nothing))]
-pub(crate) fn adds_nothing(
-    vertices: &[u32],
-    edges: &[u32],
-    tally: Tally,
-    source: u32,
-    target: u32,
-) -> bool
-    requires { (sound (lent vertices.now edges.now tally) ≡ true) × (source < tally.made) }
-    ensures { result ≡ adds_nothing (lent vertices.now edges.now tally) source target }
-{
-    vertices[VERTEX_WORDS * (source as usize) + STATUS] == FINISHED
-        || is_held(edges, tally.held as usize, source, target)
-}
-
 // The refusals of an edge that is to be appended: 35, 32.
 #[tactic(auto, using(crate::proofs::CallLaws::chain), unfolding(crate::specs::Commands::append_refusal))]
 pub(crate) fn append_refusal(
@@ -130,71 +157,6 @@ pub(crate) fn append_refusal(
     }
     if edge_rows(edges) <= held {
         return Err(Reason::NoEdgeRow);
-    }
-    Ok(())
-}
-
-// newEdge: 20, 30, 33, then none for an edge that adds nothing, 35, 32.
-#[tactic(auto, using(crate::proofs::CallLaws::chain), unfolding(crate::specs::Commands::new_edge_refusal))]
-pub fn new_edge_refusal(
-    vertices: &[u32],
-    edges: &[u32],
-    tally: Tally,
-    caller: u32,
-    source: u32,
-    target: u32,
-) -> Result<(), Reason>
-    requires { sound (lent vertices.now edges.now tally) ≡ true }
-    ensures { due_number result ≡ new_edge_refusal (lent vertices.now edges.now tally) caller source target }
-{
-    ends_refusal(vertices, edges, tally, caller, source, target)?;
-    if adds_nothing(vertices, edges, tally, source, target) {
-        return Ok(());
-    }
-    append_refusal(edges, tally.held as usize, source, target)
-}
-
-// release: 20, 30, 36.
-#[tactic(auto, using(crate::proofs::CallLaws::chain), unfolding(crate::specs::Commands::release_refusal))]
-pub fn release_refusal(
-    vertices: &[u32],
-    edges: &[u32],
-    tally: Tally,
-    caller: u32,
-    vertex: u32,
-) -> Result<(), Reason>
-    requires { sound (lent vertices.now edges.now tally) ≡ true }
-    ensures { due_number result ≡ release_refusal (lent vertices.now edges.now tally) caller vertex }
-{
-    caller_refusal(vertices, edges, tally, caller, vertex, vertex)?;
-    if vertices[VERTEX_WORDS * (vertex as usize) + STATUS] != NEW {
-        return Err(Reason::ReleaseNotNew);
-    }
-    Ok(())
-}
-
-// transfer: 20, 30, 37, 38, 35.
-#[tactic(auto, using(crate::proofs::CallLaws::chain), unfolding(crate::specs::Commands::transfer_refusal, crate::specs::Paths::leads_out_of))]
-pub fn transfer_refusal(
-    vertices: &[u32],
-    edges: &[u32],
-    tally: Tally,
-    caller: u32,
-    vertex: u32,
-) -> Result<(), Reason>
-    requires { sound (lent vertices.now edges.now tally) ≡ true }
-    ensures { due_number result ≡ transfer_refusal (lent vertices.now edges.now tally) caller vertex }
-{
-    let held = tally.held as usize;
-    caller_refusal(vertices, edges, tally, caller, vertex, vertex)?;
-    if vertices[VERTEX_WORDS * (vertex as usize) + STATUS] != NEW {
-        return Err(Reason::TransferNotNew);
-    }
-    if leads(edges, held, SOURCE, vertex) {
-        return Err(Reason::TransferHasEdgeOut);
-    }
-    if reaches(edges, held, caller, vertex) {
-        return Err(Reason::ClosesCycle);
     }
     Ok(())
 }
@@ -233,19 +195,4 @@ pub fn start_refusal(
         return Err(Reason::EdgeLeadsIn);
     }
     Ok(())
-}
-
-// stop and yield, which refuse alike: 20, 30.
-#[tactic(auto, using(crate::proofs::CallLaws::chain), unfolding(crate::specs::Commands::stop_refusal, crate::specs::Commands::yield_refusal))]
-pub fn stop_or_yield_refusal(
-    vertices: &[u32],
-    edges: &[u32],
-    tally: Tally,
-    caller: u32,
-) -> Result<(), Reason>
-    requires { sound (lent vertices.now edges.now tally) ≡ true }
-    ensures stop { due_number result ≡ stop_refusal (lent vertices.now edges.now tally) caller }
-    ensures yields { due_number result ≡ yield_refusal (lent vertices.now edges.now tally) caller }
-{
-    caller_refusal(vertices, edges, tally, caller, caller, caller)
 }

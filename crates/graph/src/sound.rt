@@ -1,13 +1,12 @@
 // Refusal 12: whether lent tables and tally can be those of a task graph at all.
-ghost use Rattle.std.specs.Prelude.{◌≡◌, ◌*◌, ◌≤◌, length, leb};
+ghost use Rattle.std.specs.Prelude.{◌≡◌, true, ◌*◌, ◌≤◌, length, leb};
 ghost use Rattle.graph.specs.Tests.{both};
 ghost use Rattle.graph.specs.Tables.{vertex_words, edge_words, lent, NEW, FINISHED};
 ghost use Rattle.graph.specs.Sound.{tally_fits, statuses_known, edges_made, sound};
 
 use crate::Tally;
 use crate::rows::{
-    EDGE_WORDS, FINISHED, NEW, SOURCE, STATUS, TARGET, VERTEX_WORDS, edge_rows, first_rows,
-    vertex_rows,
+    EDGE_WORDS, FINISHED, NEW, STATUS, VERTEX_WORDS, edge_rows, first_rows, vertex_rows,
 };
 
 // The tally against the usable rows.
@@ -60,4 +59,13 @@ pub fn is_sound(vertices: &[u32], edges: &[u32], tally: Tally) -> bool
     tally_fits(vertices, edges, made, held)
         && statuses_known(vertices, made as usize)
         && edges_made(edges, made, held as usize)
+}
+
+// Lent tables with their tally that refusal 12 spares. What is asked of them need not look for 12 any more.
+#[derive(Clone, Copy)]
+pub struct SoundTables<'a> {
+    pub vertices: &'a [u32],
+    pub edges: &'a [u32],
+    pub tally: Tally,
+    pub ghost sound: { sound (lent vertices.now edges.now tally) ≡ true },
 }

@@ -1,5 +1,4 @@
 -- A refusal that is due ends the call with everything as it was; with none due, what is stored is what the definition leaves.
-use borrow.Author.Rules.{rules}
 use Rattle.graph.specs.Commands.{new_edge_refusal, new_edge}
 use Rattle.graph.proofs.CallLaws.{pass_over, answered, ends_due, ends_free, source_made, target_room, path_back}
 use Rattle.graph.proofs.CallLaws.{refused_outcome}
@@ -11,7 +10,7 @@ returns-in_err-ends_refusal c =
     refused_outcome _ _ _ _ _ _ _ c.from_residual.ensures.1 (ends_due _ _ _ _ _ _ c.in_err-ends_refusal.ensures)
 
 pub adds_nothing-requires : goal.adds_nothing-requires
-adds_nothing-requires c = (search rules, source_made _ _ _ _ _ _ c.in_ok-ends_refusal.ensures)
+adds_nothing-requires c = source_made _ _ _ _ _ _ c.in_ok-ends_refusal.ensures
 
 pub append_refusal-requires : goal.append_refusal-requires
 append_refusal-requires c = path_back _ _ _ _ _ _ c.in_ok-ends_refusal.ensures
