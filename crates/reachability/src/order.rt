@@ -21,10 +21,11 @@ const LAST_ROW: u32 = 2048;
 // No search takes more steps: each follows a row or finishes a vertex.
 const STEPS: usize = ROW_LIMIT + USABLE_LIMIT;
 
-// In place of the next row of a vertex that was not found yet.
+// In place of the next row of a vertex that was not found yet. An `Option` there, or an enum for a root or a row below, takes eight bytes for four, and
+// stack may not rise.
 const UNSEEN: u32 = 4294967295;
 
-// A root, with its vertex added, stands where other vertices have the row by which they were found.
+// A root, with its vertex in the lower bits, stands where other vertices have the row by which they were found.
 const ROOT: u32 = 4096;
 
 // Along the rows or against them: where the last row of each vertex stands, where the row before each, and which end of a row leads on.
@@ -261,11 +262,23 @@ pub fn order_rows(index: &[u32], used: usize, rows: &mut [u32]) -> usize
     let mut finished = List::new();
     let mut found = List::new();
     list_sources(index, &mut sources);
-    search_all(index, Way::ALONG, sources.listed(), &mut found, &mut finished);
+    search_all(
+        index,
+        Way::ALONG,
+        sources.listed(),
+        &mut found,
+        &mut finished,
+    );
     // Nobody reads what the second search lists as finished.
     sources.clear();
     found.clear();
-    search_all(index, Way::AGAINST, finished.listed(), &mut found, &mut sources);
+    search_all(
+        index,
+        Way::AGAINST,
+        finished.listed(),
+        &mut found,
+        &mut sources,
+    );
     let mut order = Order {
         rows,
         used,
