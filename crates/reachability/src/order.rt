@@ -15,7 +15,7 @@ use index::layout::{BEFORE_IN, BEFORE_OUT, LAST_IN, LAST_OUT, NOWHERE, ROW_LIMIT
 // Each row once, and again those by which the second search found a vertex.
 pub const ORDER_WORDS: usize = 3 * USABLE_LIMIT;
 
-// The largest number of a row, counted from 1.
+// The largest number of a row, counted from 1. That 0 is none stays: it is the index's layout.
 const LAST_ROW: u32 = 2048;
 
 // No search takes more steps: each follows a row or finishes a vertex.

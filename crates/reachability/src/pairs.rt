@@ -90,8 +90,8 @@ fn tell_each(goals: &[u32], held: u64, labels: &[u64; SEARCH_LIMIT], told: &mut 
 }
 
 // Tells of each pair whether no row leads from its goal to its start, and whether a path leads from its start to its goal, as far as one pass over
-// `rows` finds it. Starts and goals are lists of their own: a mark is set for one end at a time, and `mark_ends` takes either list.
-// What stays of the contract, with index and `used` apart, is what may not change: docs/DECISIONS.md names this function, and `order_rows`.
+// `rows` finds it. A list of pairs in place of starts and goals is no plainer: `mark_ends` sets marks at one end of the pairs, of either list. The
+// parameters `index` and `used` with their clause stay apart, here and in `order_rows`, as docs/DECISIONS.md names both functions.
 pub fn tell_pairs(
     index: &[u32],
     used: usize,
