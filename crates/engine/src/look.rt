@@ -50,12 +50,7 @@ fn lowest_able(program: &[u8], ends: &[u16], tables: &SoundTables, edition: Edit
     requires { MarksEnds edition program.now ends.now × (length ends.now ≡ program_bytes) × (tables.now.tally.steps < step_limit) }
     ensures { vertex_of result ≡ lowest edition program.now (lent_of tables.now) }
 {
-    for v in 0..tables.tally.made {
-        if can_step(program, ends, tables, edition, v) {
-            return Some(v);
-        }
-    }
-    None
+    (0..tables.tally.made).find(|&v| can_step(program, ends, tables, edition, v))
 }
 
 // A vertex can step: it may start, or it executes and what is due would be accepted.
