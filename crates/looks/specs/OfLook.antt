@@ -1,8 +1,8 @@
 -- What is said of a look (src/look.rt): the words of Looking, of its parts.
-use Rattle.std.specs.Prelude.{ℕ, ◌<◌, ◌≡◌, Bool, true, List, length}
+use Rattle.std.specs.Prelude.{ℕ, ◌<◌, ◌≡◌, Bool, List, length}
 use Rattle.graph.specs.Tables.{usable_limit}
 use Rattle.machine.specs.Stepping.{step_limit}
-use Rattle.looks.specs.Looking.{is_open, FirstOpen, CanOn, Shuts, Looks, HingesOn, Asking}
+use Rattle.looks.specs.Looking.{FirstOpen, CanOn, Shuts, Looks, HingesOn, Asking}
 use Rattle.looks.specs.declared.Hinge.{Hinge}
 use Rattle.looks.specs.declared.Kind.{Kind}
 use Rattle.looks.specs.declared.look.Look.{Look}

@@ -13,7 +13,7 @@ use engine::next::{STEP_LIMIT, ended_due};
 use graph::rows::{RELEASED, STATUS, VERTEX_WORDS};
 use index::looks::would_take;
 
-impl<'a> Look<'a> {
+impl<'p, 't, 'b> Look<'p, 't, 'b> {
     // Some vertex that is not busy can step. Those that were looked at before it are shut.
     pub fn anyone_can(&self, shut: &mut [u32]) -> bool
         requires { length shut.old ≡ usable_limit }

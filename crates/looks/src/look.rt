@@ -6,12 +6,12 @@ use program::marked::MarkedProgram;
 
 // A program, the vertices, an index of their edges for a table of `limit` rows, on its course, and the marks of who is busy.
 #[derive(Clone, Copy)]
-pub struct Look<'a> {
-    pub program: MarkedProgram<'a>,
-    pub vertices: &'a [u32],
-    pub index: &'a [u32],
+pub struct Look<'p, 't, 'b> {
+    pub program: MarkedProgram<'p>,
+    pub vertices: &'t [u32],
+    pub index: &'t [u32],
     pub limit: u32,
     pub course: Course,
-    pub busy: &'a [u32],
+    pub busy: &'b [u32],
     pub ghost ready: { Ready vertices.now index.now course limit },
 }

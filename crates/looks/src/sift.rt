@@ -20,7 +20,7 @@ use index::looks::{asked, would_take};
 use reachability::order::{ORDER_WORDS, order_rows};
 use reachability::pairs::{PAIRS, Telling, tell_pairs};
 
-impl<'a> Look<'a> {
+impl<'p, 't, 'b> Look<'p, 't, 'b> {
     // Shuts open vertices whose step would be refused, so many at a time as pairs are told of.
     pub(crate) fn sift(&self, shut: &mut [u32])
         requires { Early self.now shut.old }

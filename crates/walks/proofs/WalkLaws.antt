@@ -158,21 +158,24 @@ module _ (ed : Edition) (bytes : List ℕ) (hands : Bool) (budget limit : ℕ) w
   module _ (s₀ : Lent) (d₀ : Desk) where
     -- on an index that was renewed
     pub walking_renewed :
-        (v e x e' x' marks list shut : List ℕ) (k k' : Course) (w : Candidates) (last : LastStep) (taken handed : ℕ)
+        (v e x v' e' x' marks list shut : List ℕ) (k k' : Course) (limit' : ℕ) (w : Candidates) (last : LastStep) (taken handed : ℕ)
         → Walking ed bytes hands budget limit s₀ d₀ v e x marks list shut k w last taken handed
-        → Ready v x' k' limit → limit ≡ edge_rows e' → state_of v x' k' e' ≡ state_of v x k e
-        → Walking ed bytes hands budget limit s₀ d₀ v e' x' marks list shut k' w last taken handed
-    walking_renewed v e x e' x' marks list shut k k' w last taken handed h ready rows same =
+        → limit' ≡ limit → Ready v' x' k' limit' → limit' ≡ edge_rows e' → state_of v' x' k' e' ≡ state_of v x k e
+        → Walking ed bytes hands budget limit s₀ d₀ v' e' x' marks list shut k' w last taken handed
+    walking_renewed v e x v' e' x' marks list shut k k' limit' w last taken handed h same_limit ready rows same =
+        let same_v : v' ≡ v = ap (λ (s : Lent). s.vertices) same in
         record {
           came = subst (λ (s : Lent). Came ed bytes hands s₀ d₀ s (desk marks list handed) (last_of last) taken) (sym same) h.came;
-          ready = ready;
-          rows = rows;
-          covers = subst (λ (n : ℕ). Covers w v marks shut n) (sym (ap (λ (s : Lent). s.made) same)) h.covers;
+          ready = subst (λ (n : ℕ). Ready v' x' k' n) same_limit ready;
+          rows = sym same_limit ∙ rows;
+          covers =
+              subst (λ (y : List ℕ). Covers w y marks shut k'.tally.made) (sym same_v)
+              (subst (λ (n : ℕ). Covers w v marks shut n) (sym (ap (λ (s : Lent). s.made) same)) h.covers);
           told = h.told;
           barred = subst (λ (s : Lent). Barred ed bytes s shut) (sym same) h.barred;
           within = h.within;
           few = h.few;
-          long = h.long;
+          long = subst (λ (y : List ℕ). hands ≡ true → vertex_rows y ≤ length marks) (sym same_v) h.long;
         }
 
     -- behind a step

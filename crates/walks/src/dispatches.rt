@@ -8,8 +8,9 @@ ghost use Rattle.machine.specs.Traces.{Dispatched};
 ghost use Rattle.walks.specs.Answers.{dispatch_ending_of};
 ghost use Rattle.walks.specs.Internal.Endings.{dispatch_ends};
 
+use crate::desk::{Desk, JOB_WORDS};
 use crate::runs::all_finished;
-use crate::walk::{JOB_WORDS, walk};
+use crate::walk::walk;
 use crate::{DispatchAnswer, DispatchDone, DispatchEnding};
 use engine::next::is_steppable;
 use graph::Tally;
@@ -46,30 +47,35 @@ pub fn dispatch_by_value(
         ends: &ends,
         edition,
     };
-    let rested = walk(&marked, vertices, edges, busy, jobs, tally, true, budget);
+    let mut desk = Desk {
+        hands: true,
+        busy,
+        jobs,
+    };
+    let rested = walk(&marked, vertices, edges, &mut desk, tally, budget);
     let walked = rested.walked;
     let course = walked.course;
     let after = course.tally;
-    let handed = walked.handed;
-    let room = (handed as usize) < jobs.len() / JOB_WORDS;
+    let room = (walked.handed as usize) < desk.jobs.len() / JOB_WORDS;
     let ending = at_end(vertices, after.made as usize, rested.any, rested.free, room);
-    ended(ending, walked.taken, handed, after)
+    DispatchDone {
+        answer: DispatchAnswer {
+            ending,
+            taken: walked.taken,
+            handed: walked.handed,
+        },
+        tally: after,
+    }
 }
 
 fn refused(reason: Reason, tally: Tally) -> DispatchDone
     ensures { (dispatch_ending_of result.answer.ending ≡ of_dispatch.refused (number reason) 0) × (result.answer.taken ≡ 0) × (result.answer.handed ≡ 0) × (result.tally ≡ tally) }
 {
-    ended(DispatchEnding::Refused(reason.into()), 0, 0, tally)
-}
-
-fn ended(ending: DispatchEnding, taken: u32, handed: u32, tally: Tally) -> DispatchDone
-    ensures { (dispatch_ending_of result.answer.ending ≡ dispatch_ending_of ending) × (result.answer.taken ≡ taken) × (result.answer.handed ≡ handed) × (result.tally ≡ tally) }
-{
     DispatchDone {
         answer: DispatchAnswer {
-            ending,
-            taken,
-            handed,
+            ending: DispatchEnding::Refused(reason.into()),
+            taken: 0,
+            handed: 0,
         },
         tally,
     }
@@ -81,16 +87,16 @@ fn at_end(vertices: &[u32], made: usize, any: bool, free: bool, room: bool) -> D
     ensures { dispatch_ending_of result ≡ dispatch_ends (every (λ v. eqb (status vertices.now v) FINISHED) made) any free room }
 {
     if all_finished(vertices, made) {
-        return DispatchEnding::Done;
-    }
-    if free {
+        DispatchEnding::Done
+    } else if free {
         if room {
-            return DispatchEnding::Spent;
+            DispatchEnding::Spent
+        } else {
+            DispatchEnding::Full
         }
-        return DispatchEnding::Full;
+    } else if any {
+        DispatchEnding::Waiting
+    } else {
+        DispatchEnding::Stuck
     }
-    if any {
-        return DispatchEnding::Waiting;
-    }
-    DispatchEnding::Stuck
 }

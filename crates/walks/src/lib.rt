@@ -2,6 +2,7 @@
 // jobs out to a host's threads. Each call is proved equal to the plain machine's definition of it (crate `machine`).
 #![tactic(auto)]
 
+mod desk;
 pub mod dispatches;
 pub mod entry;
 pub mod onindex;

@@ -1,14 +1,12 @@
 // A run: steps of the lowest vertex whose step would be accepted, one after the other.
 ghost use Rattle.std.specs.Prelude.{◌≡◌, ◌*◌, ◌≤◌, eqb, length};
-ghost use Rattle.std.proofs.Math.Option.{none};
 ghost use Rattle.graph.specs.Tests.{every};
 ghost use Rattle.graph.specs.Tables.{lent, vertex_words, status, FINISHED};
-ghost use Rattle.refusal.specs.Refusals.{unsound_tables};
-ghost use Rattle.machine.specs.Running as of_run;
 ghost use Rattle.machine.specs.Traces.{Ran};
 ghost use Rattle.walks.specs.Answers.{ending_of, last_of};
 ghost use Rattle.walks.specs.Internal.Endings.{run_end};
 
+use crate::desk::Desk;
 use crate::walk::walk;
 use crate::{Ending, LastStep, RunAnswer, RunDone};
 use engine::next::is_steppable;
@@ -32,7 +30,14 @@ pub fn run_by_value(
     ensures { Ran edition program.now (lent vertices.old edges.old tally) budget (ending_of result.answer.ending) (last_of result.answer.last) result.answer.taken (lent vertices.new edges.new result.tally) }
 {
     if !is_steppable(vertices, edges, tally) {
-        return refused(tally);
+        return RunDone {
+            answer: RunAnswer {
+                ending: Ending::Refused(Reason::UnsoundTables.into()),
+                last: LastStep::NoStep,
+                taken: 0,
+            },
+            tally,
+        };
     }
     let mut ends = [0u16; PROGRAM_BYTES];
     mark_ends(program, edition, &mut ends);
@@ -43,45 +48,23 @@ pub fn run_by_value(
     };
     let mut nobody_busy = [0; 1];
     let mut no_list = [0; 1];
-    let rested = walk(
-        &marked,
-        vertices,
-        edges,
-        &mut nobody_busy,
-        &mut no_list,
-        tally,
-        false,
-        budget,
-    );
+    let mut desk = Desk {
+        hands: false,
+        busy: &mut nobody_busy,
+        jobs: &mut no_list,
+    };
+    let rested = walk(&marked, vertices, edges, &mut desk, tally, budget);
     let walked = rested.walked;
-    let last = walked.last;
     let course = walked.course;
     let after = course.tally;
     let ending = at_end(vertices, after.made as usize, rested.free);
-    ended(ending, last, walked.taken, after)
-}
-
-fn refused(tally: Tally) -> RunDone
-    ensures { (ending_of result.answer.ending ≡ of_run.refused unsound_tables 0) × (last_of result.answer.last ≡ none) × (result.answer.taken ≡ 0) × (result.tally ≡ tally) }
-{
-    ended(
-        Ending::Refused(Reason::UnsoundTables.into()),
-        LastStep::NoStep,
-        0,
-        tally,
-    )
-}
-
-fn ended(ending: Ending, last: LastStep, taken: u32, tally: Tally) -> RunDone
-    ensures { (ending_of result.answer.ending ≡ ending_of ending) × (last_of result.answer.last ≡ last_of last) × (result.answer.taken ≡ taken) × (result.tally ≡ tally) }
-{
     RunDone {
         answer: RunAnswer {
             ending,
-            last,
-            taken,
+            last: walked.last,
+            taken: walked.taken,
         },
-        tally,
+        tally: after,
     }
 }
 
@@ -91,12 +74,12 @@ fn at_end(vertices: &[u32], made: usize, can: bool) -> Ending
     ensures { ending_of result ≡ run_end can (every (λ v. eqb (status vertices.now v) FINISHED) made) }
 {
     if can {
-        return Ending::Spent;
+        Ending::Spent
+    } else if all_finished(vertices, made) {
+        Ending::Done
+    } else {
+        Ending::Stuck
     }
-    if all_finished(vertices, made) {
-        return Ending::Done;
-    }
-    Ending::Stuck
 }
 
 pub(crate) fn all_finished(vertices: &[u32], made: usize) -> bool

@@ -1,11 +1,10 @@
 -- A walk under way: steps of the lowest vertex that can step and is not busy, on an index of the edges. A run and a dispatch are walks.
-use Rattle.std.specs.Prelude.{ℕ, suc, ◌<◌, ◌≤◌, ◌≡◌, Bool, true, false, not, cond, ◌⊎◌, List, length, replicate}
+use Rattle.std.specs.Prelude.{ℕ, suc, ◌<◌, ◌≤◌, ◌≡◌, Bool, true, false, cond, ◌⊎◌, List, length, replicate}
 use Rattle.std.specs.Prelude.{Option as Maybe, Some, None}
 use Rattle.std.proofs.Math.Option.{Option, none, some}
-use Rattle.graph.specs.Tests.{both}
 use Rattle.graph.specs.Tables.{Lent, usable_limit, edge_rows}
 use Rattle.graph.specs.Sound.{sound}
-use Rattle.index.specs.Underway.{state_of, Ready, may_step, Widens}
+use Rattle.index.specs.Underway.{state_of, Ready, Widens}
 use Rattle.index.specs.declared.Course.{Course}
 use Rattle.program.specs.declared.Edition.{Edition}
 use Rattle.machine.specs.Answers.{StepSaid, start, new, edge, release, transfer, job, stop, yield, refused, accepted}

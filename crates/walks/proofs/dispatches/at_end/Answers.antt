@@ -12,14 +12,14 @@ pub returns-then-room : goal.returns-then-room
 unfolding dispatch_ends
 returns-then-room c = ends_same (sym c.all_finished.ensures ∙ c.if-all_finished.false) refl c.if-free.true c.if-room.true
 
-pub returns-then-free : goal.returns-then-free
+pub returns-else-room : goal.returns-else-room
 unfolding dispatch_ends
-returns-then-free c = ends_same (sym c.all_finished.ensures ∙ c.if-all_finished.false) refl c.if-free.true c.if-room.false
+returns-else-room c = ends_same (sym c.all_finished.ensures ∙ c.if-all_finished.false) refl c.if-free.true c.if-room.false
 
 pub returns-then-any : goal.returns-then-any
 unfolding dispatch_ends
 returns-then-any c = ends_same (sym c.all_finished.ensures ∙ c.if-all_finished.false) c.if-any.true c.if-free.false refl
 
-pub returns : goal.returns
+pub returns-else-any : goal.returns-else-any
 unfolding dispatch_ends
-returns c = ends_same (sym c.all_finished.ensures ∙ c.if-all_finished.false) c.if-any.false c.if-free.false refl
+returns-else-any c = ends_same (sym c.all_finished.ensures ∙ c.if-all_finished.false) c.if-any.false c.if-free.false refl

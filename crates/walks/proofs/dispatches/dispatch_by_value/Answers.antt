@@ -1,5 +1,5 @@
 -- Refused by 12 or 44; else a walk that hands jobs out, and how it ends.
-use mathlib.Core.Path.{refl, ◌∙◌, sym}
+use mathlib.Core.Path.{refl, sym}
 use native.Mathlib.Omega.{arith}
 use Rattle.graph.proofs.SoundChecks.{sound_rows}
 use Rattle.engine.proofs.DueLaws.{steppable-sound}
@@ -33,15 +33,17 @@ walk-rested-requires c = (
 
 pub returns : goal.returns
 returns c =
-    let ended = c.ended.ensures in
-    let rested = c.walk-rested.ensures in
-    dispatched _ _ _ _ _ _ _ _ _ _
+    let (rested, same) = c.walk-rested.ensures in
+    let marks = c.busy-1.given.1.1 (sym same.3) in
+    let list = c.jobs-1.given.1.1 (sym same.4) in
+    rw (marks, list)
+    (dispatched _ _ _ _ _ _ _ _ _ _
     (dispatch_stops _ _ _ _ _ _ _ _ _ (sym c.if-not-is_steppable.ensures) c.vertex_rows.ensures c.if-busy-vertex_rows.false
     rested.walked)
-    (ended.0 ∙ ends_told _ _ _ _ c.at_end-ending.ensures (rested.any refl) rested.free refl)
-    ended.1
-    ended.2
-    ended.3
+    (ends_told _ _ _ _ c.at_end-ending.ensures (rested.any refl) rested.free refl)
+    refl
+    refl
+    refl)
 
 pub at_end-ending-requires : goal.at_end-ending-requires
-at_end-ending-requires c = (sound_rows _ c.walk-rested.ensures.walked.still_sound).0
+at_end-ending-requires c = (sound_rows _ c.walk-rested.ensures.0.walked.still_sound).0

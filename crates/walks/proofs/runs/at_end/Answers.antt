@@ -8,5 +8,5 @@ returns-then-can c = ends_can _ c.if-can.true
 pub returns-then-all_finished : goal.returns-then-all_finished
 returns-then-all_finished c = ends_not c.if-can.false c.all_finished.ensures c.if-all_finished.true
 
-pub returns : goal.returns
-returns c = ends_not c.if-can.false c.all_finished.ensures c.if-all_finished.false
+pub returns-else-all_finished : goal.returns-else-all_finished
+returns-else-all_finished c = ends_not c.if-can.false c.all_finished.ensures c.if-all_finished.false

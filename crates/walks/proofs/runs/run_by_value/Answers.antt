@@ -10,9 +10,7 @@ use Rattle.walks.proofs.runs.run_by_value.Goals as goal
 
 pub returns-then-not-is_steppable : goal.returns-then-not-is_steppable
 returns-then-not-is_steppable c =
-    let refused = c.refused.ensures in
-    ran _ _ _ _ _ _ (run_turned _ _ _ _ (sym c.if-not-is_steppable.ensures)) refused.0 refused.1
-    refused.2 refused.3
+    ran _ _ _ _ _ _ (run_turned _ _ _ _ (sym c.if-not-is_steppable.ensures)) (rw c.into.ensures refl) refl refl refl
 
 pub walk-rested-requires : goal.walk-rested-requires
 walk-rested-requires c =
@@ -21,12 +19,8 @@ walk-rested-requires c =
 
 pub returns : goal.returns
 returns c =
-    let ended = c.ended.ensures in
     let takes_steps = sym c.if-not-is_steppable.ensures in
-    ran _ _ _ _ _ _ (run_ends _ _ _ _ _ _ _ _ _ takes_steps (none_marked 1) c.walk-rested.ensures c.at_end-ending.ensures) ended.0
-    ended.1
-    ended.2
-    ended.3
+    ran _ _ _ _ _ _ (run_ends _ _ _ _ _ _ _ _ _ takes_steps (none_marked 1) c.walk-rested.ensures.0 c.at_end-ending.ensures) refl refl refl refl
 
 pub at_end-ending-requires : goal.at_end-ending-requires
-at_end-ending-requires c = (sound_rows _ c.walk-rested.ensures.walked.still_sound).0
+at_end-ending-requires c = (sound_rows _ c.walk-rested.ensures.0.walked.still_sound).0

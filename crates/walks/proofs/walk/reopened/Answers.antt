@@ -1,7 +1,7 @@
 -- Nobody is shut, or nobody is let; else all are opened.
 use mathlib.Core.Path.{refl, sym, ◌∙◌}
 use mathlib.Core.Logic.{inl, inr}
-use borrow.Author.Tests.{not-true, not-false}
+use borrow.Author.Tests.{not-true}
 use Rattle.graph.specs.Tables.{usable_limit}
 use Rattle.walks.proofs.RenewLaws.{all_cleared}
 use Rattle.walks.proofs.ShutLaws.{keeps_shut_lem}

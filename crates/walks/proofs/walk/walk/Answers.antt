@@ -1,5 +1,5 @@
 -- The held edges are taken in, and what is left of them behind the walk is handed back.
-use mathlib.Core.Path.{refl, sym}
+use mathlib.Core.Path.{refl, sym, ◌∙◌}
 use native.Mathlib.Omega.{arith}
 use Rattle.graph.proofs.SoundChecks.{sound_rows}
 use Rattle.index.proofs.TakenIn.{taken_in, stands_for_lent}
@@ -26,6 +26,10 @@ pub returns : goal.returns
 returns c =
     let walked = c.walk_on-walked.ensures in
     let rested = c.rest-rested.ensures in
-    rested_lent _ _ c.walk_on-walked.new.busy _ c.walk_on-walked.new.shut c.rest-rested.result walked.0
-    (stands_for_lent _ _ _ _ c.requires.0 c.take_in.ensures.1) c.hand_back.ensures walked.4 rested.0
-    (rested.1 _ (sym walked.2))
+    let rests = rw walked.6.0 at (rested.1 _ (sym walked.2 ∙ sym walked.5.0)) in
+    let same = c.vertices-1.given.1.1 (sym walked.5.2) in
+    rw same (
+      rested_lent _ _ c.walk_on-walked.new.desk.busy.now _ c.walk_on-walked.new.shut c.rest-rested.result walked.0
+          (stands_for_lent _ _ _ _ c.requires.0 c.take_in.ensures.1) c.hand_back.ensures walked.4 rested.0 rests,
+      walked.6,
+    )

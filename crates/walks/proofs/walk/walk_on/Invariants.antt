@@ -5,15 +5,15 @@ use mathlib.Core.Bool.{false}
 use lib.ListN.{length}
 use Rattle.index.specs.Underway.{state_of}
 use Rattle.machine.specs.Dispatching.{desk}
+use Rattle.walks.specs.Internal.Handing.{SameDesk, SameTables}
 use Rattle.walks.proofs.WalkLaws.{Walking}
 use Rattle.walks.proofs.walk.walk_on.Given as goal
 
 abbrev pub invariant-loop-walked : goal.invariant-loop-walked
 invariant-loop-walked l =
-    (length l.vertices ≡ length l.initial.vertices) × (length l.edges ≡ length l.initial.edges) × (length l.index ≡ length l.initial.index) × (length l.busy ≡ length l.initial.busy)
-    × (length l.jobs ≡ length l.initial.jobs)
-    × (length l.shut ≡ length l.initial.shut)
-    × Walking l.program.edition l.program.bytes.now l.hands l.budget l.limit (state_of l.initial.vertices l.initial.index l.fn.start l.initial.edges) (desk l.initial.busy l.initial.jobs 0) l.vertices l.edges l.index l.busy l.jobs l.shut l.walked.course
+    (length l.edges ≡ length l.initial.edges) × (length l.shut ≡ length l.initial.shut) × SameTables l.initial.tables l.tables × SameDesk l.initial.desk l.desk
+    × Walking l.program.edition l.program.bytes.now l.initial.desk.hands l.budget l.initial.tables.limit (state_of l.initial.tables.vertices.now l.initial.tables.index.now l.fn.start l.initial.edges)
+    (desk l.initial.desk.busy.now l.initial.desk.jobs.now 0) l.tables.vertices.now l.edges l.tables.index.now l.desk.busy.now l.desk.jobs.now l.shut l.walked.course
     l.candidates
     l.walked.last
     l.walked.taken

@@ -5,8 +5,8 @@ use mathlib.Core.Bool.{true}
 use mathlib.Core.Logic.{inl, inr, ⊎_elim}
 use native.Mathlib.Omega.{arith}
 use Rattle.walks.proofs.FreeLaws.{settles, idle_place}
-use Rattle.walks.proofs.walk.settled.Goals as goal
-use Rattle.walks.proofs.walk.settled.Goals.{then-highest-lowest-via-then-highest-lowest, then-highest-lowest-via-else-highest-lowest+then-candidates-lowest}
+use Rattle.walks.proofs.onindex.WalkTables.settled.Goals as goal
+use Rattle.walks.proofs.onindex.WalkTables.settled.Goals.{then-highest-lowest-via-then-highest-lowest, then-highest-lowest-via-else-highest-lowest+then-candidates-lowest}
 
 pub returns-then-highest-lowest : goal.returns-then-highest-lowest
 returns-then-highest-lowest c = (

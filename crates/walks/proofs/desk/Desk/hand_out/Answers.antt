@@ -1,14 +1,15 @@
 -- A job's vertex and row are written; any other answer leaves the desk as it is.
 use Prim.Native.Nat.{ℕ, ◌+◌}
-use mathlib.Core.Path.{◌≡◌, refl, sym}
+use mathlib.Core.Path.{◌≡◌, refl}
 use mathlib.Core.Bool.{Bool, true, cond}
 use mathlib.Core.List.{List}
 use native.Mathlib.Numerals.{add-one}
-use Rattle.machine.specs.Dispatching.{Desk, desk, marked, noted, hand_out}
+use lib.ListN.{length-set}
+use Rattle.machine.specs.Dispatching.{desk, marked, noted, hand_out}
 use Rattle.engine.specs.Answers.{said}
 use Rattle.engine.specs.declared.Answer.{Answer}
 use Rattle.engine.specs.declared.Answer.TheVariants.{Job, Start, New, Edge, Release, Transfer, Stop, Yield, Refused}
-use Rattle.walks.proofs.walk.hand_out.Goals as goal
+use Rattle.walks.proofs.desk.Desk.hand_out.Goals as goal
 
 -- a job is written into the row,
 job :
@@ -20,7 +21,7 @@ job vertex marks list handed on p = rw (on, p, add-one handed) refl
 
 pub returns-in-Job : goal.returns-in-Job
 unfolding hand_out noted
-returns-in-Job c = job c.args.vertex c.args.busy.now c.args.jobs.now c.args.handed c.if-not-hands.false c.in-Job.is
+returns-in-Job c = (job c.args.vertex c.args.self.now.busy.now c.args.self.now.jobs.now c.args.handed c.if-not-self.false c.in-Job.is, (refl, simp length-set refl, simp length-set refl, refl, refl))
 
 -- and an answer that is no job leaves the desk
 other : (vertex : ℕ) (answer : Answer) (marks list : List ℕ) (handed : ℕ) → ((n o : ℕ) → answer ≡ Job n o → ⊥) → desk marks list handed ≡ hand_out vertex (said answer) (desk marks list handed)
@@ -36,4 +37,4 @@ other vertex Yield marks list handed no_job = refl
 other vertex (Refused r) marks list handed no_job = refl
 
 pub returns-in_default : goal.returns-in_default
-returns-in_default c = rw c.if-not-hands.false (other c.args.vertex c.args.answer c.args.busy.now c.args.jobs.now c.args.handed c.in_default.not-Job)
+returns-in_default c = (rw c.if-not-self.false (other c.args.vertex c.args.answer c.args.self.now.busy.now c.args.self.now.jobs.now c.args.handed c.in_default.not-Job), (refl, refl, refl, refl, refl))

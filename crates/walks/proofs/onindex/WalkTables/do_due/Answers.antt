@@ -1,8 +1,9 @@
 -- Each return by the law of its path.
+use mathlib.Core.Path.{refl, ◌∙◌}
 use native.Mathlib.Omega.{arith}
 use Rattle.looks.proofs.OwnDue.{rows_there}
 use Rattle.walks.proofs.IndexSteps.{refused_on, job_on, own_command, turned_on, stored_ready, taken_on}
-use Rattle.walks.proofs.onindex.do_on_index.Goals as goal
+use Rattle.walks.proofs.onindex.WalkTables.do_due.Goals as goal
 
 -- a job: its vertex's row
 pub store-requires : goal.store-requires
@@ -16,9 +17,11 @@ command-changed-requires c =
 
 -- a command that is refused
 pub returns-then-is_refused : goal.returns-then-is_refused
-returns-then-is_refused c =
-    turned_on c.requires.ready.0 c.requires.ready.3 _ c.requires.due_on _ _ c.in-Command.is c.command-changed.result c.command-changed.ensures
-    _ c.is_refused.ensures _ c.if-is_refused.true c.from-answer.ensures
+returns-then-is_refused c = (
+  turned_on c.requires.ready.0 c.requires.ready.3 _ c.requires.due_on _ _ c.in-Command.is c.command-changed.result c.command-changed.ensures
+      _ c.is_refused.ensures _ c.if-is_refused.true c.from-answer.ensures,
+  (refl, c.command-changed.auto.vertices, refl),
+)
 
 -- a command that is taken: row and count behind it
 pub store-requires-in-Command : goal.store-requires-in-Command
@@ -33,17 +36,24 @@ one_step-requires-in-Command c =
 
 -- a refusal
 pub returns-in-Refused : goal.returns-in-Refused
-returns-in-Refused c = rw c.into.ensures (refused_on c.requires.ready.0 c.requires.ready.3 _ c.requires.due_on _ c.in-Refused.is)
+returns-in-Refused c = (
+  rw c.into.ensures (refused_on c.requires.ready.0 c.requires.ready.3 _ c.requires.due_on _ c.in-Refused.is),
+  (refl, refl, refl),
+)
 
 -- a job
 pub returns-in-Job : goal.returns-in-Job
-returns-in-Job c =
-    job_on c.requires.ready.0 c.requires.ready.3 _ c.requires.due_on _ _ _ c.in-Job.is _ _ c.store.ensures
-    c.one_step.ensures
+returns-in-Job c = (
+  job_on c.requires.ready.0 c.requires.ready.3 _ c.requires.due_on _ _ _ c.in-Job.is _ _ c.store.ensures
+      c.one_step.ensures,
+  (refl, c.store.auto.vertices, refl),
+)
 
 -- a command
 pub returns-else-is_refused : goal.returns-else-is_refused
-returns-else-is_refused c =
-    taken_on c.requires.ready.0 c.requires.ready.3 _ c.requires.due_on _ _ c.in-Command.is c.command-changed.result c.command-changed.ensures
-    _ c.is_refused.ensures _ _ _ c.if-is_refused.false
-    c.from-answer.ensures c.store-in-Command.ensures c.one_step-in-Command.ensures
+returns-else-is_refused c = (
+  taken_on c.requires.ready.0 c.requires.ready.3 _ c.requires.due_on _ _ c.in-Command.is c.command-changed.result c.command-changed.ensures
+      _ c.is_refused.ensures _ _ _ c.if-is_refused.false
+      c.from-answer.ensures c.store-in-Command.ensures c.one_step-in-Command.ensures,
+  (refl, c.store-in-Command.auto.vertices ∙ c.command-changed.auto.vertices, refl),
+)

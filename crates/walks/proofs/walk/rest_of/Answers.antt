@@ -1,8 +1,8 @@
 -- The walk came to no step; or a look finds one that is not busy, or none.
 use mathlib.Core.Path.{refl}
 use Rattle.walks.proofs.WalkLaws.{rests_free, rests_over, rests_looked}
-use Rattle.walks.proofs.walk.rest.Goals as goal
-use Rattle.walks.proofs.walk.rest.Goals.{then-walked-via-then-walked, then-walked-via-else-walked+then-not-anyone_can}
+use Rattle.walks.proofs.walk.rest_of.Goals as goal
+use Rattle.walks.proofs.walk.rest_of.Goals.{then-walked-via-then-walked, then-walked-via-else-walked+then-not-anyone_can}
 
 pub returns-then-walked : goal.returns-then-walked
 returns-then-walked c =
