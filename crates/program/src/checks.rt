@@ -30,6 +30,7 @@ pub(crate) fn check(program: &[u8], edition: Edition, marks: &mut [u16]) -> bool
     let mut opened: u32 = 0;
     let mut made: u64 = 2;
     let mut place: usize = 0;
+    // No `for`: each turn goes on behind what it read, a byte or a number.
     while place < program.len() {
         mark_place(marks, place);
         let first = program[place];
