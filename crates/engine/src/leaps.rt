@@ -2,57 +2,59 @@
 // costs less than following every word from each.
 ghost use Rattle.std.specs.Prelude.{◌≡◌, ◌+◌, ◌*◌, ◌<◌, ◌≤◌, length};
 ghost use Rattle.graph.specs.Tables.{usable_limit, vertex_words};
-ghost use Rattle.program.specs.Limits.{program_bytes};
-ghost use Rattle.program.specs.Located.{MarksEnds};
-ghost use Rattle.engine.specs.Answers.{due_of};
+ghost use Rattle.engine.specs.Answers.{due_of, vertex_of};
 ghost use Rattle.engine.specs.Internal.Underway.{DueThere};
 ghost use Rattle.engine.specs.Internal.Leaping as leaping;
 ghost use Rattle.engine.specs.Internal.Leaping.{HopsAt, Leaps, Within, LeadsTo, LeapsTo, SameBelow, EightTold};
 
 use crate::Due;
-use crate::next::{NONE_OPEN, by_item, force_edge, own_words};
+use crate::next::{Executing, open_future, own_words};
 use graph::rows::{FUTURE, SCOPE, USABLE_LIMIT, VERTEX_WORDS};
-use program::items::item_for_looks;
-use program::{Edition, ItemRead};
+use program::ItemRead;
+use program::marked::MarkedProgram;
+
+// A table's word where none is open.
+const NONE_OPEN: u32 = 0;
 
 // Three tables one behind the other, with a word for each vertex: where one hop, eight and sixty-four lead.
 pub const LEAP_WORDS: usize = 3 * USABLE_LIMIT;
 
-// What is due at a step of a vertex that executes, in a program whose ends these are, where these are the leaps.
+// What is due at a step of a vertex that executes, where these are the leaps.
 pub fn leaping_due(
-    program: &[u8],
-    ends: &[u16],
+    program: &MarkedProgram,
     vertices: &[u32],
     leaps: &[u32],
     made: u32,
-    edition: Edition,
     vertex: u32,
 ) -> Due
-    requires { MarksEnds edition program.now ends.now × (length ends.now ≡ program_bytes) × (vertex < made) × (vertex_words * made ≤ length vertices.now) × Leaps vertices.now made leaps.now }
-    ensures { DueThere edition program.now vertices.now made vertex (due_of result) }
+    requires { (vertex < made) × (vertex_words * made ≤ length vertices.now) × Leaps vertices.now made leaps.now }
+    ensures { DueThere program.now.edition program.now.bytes.now vertices.now made vertex (due_of result) }
 {
     let own = own_words(vertices, vertex as usize);
-    let scope = vertices[VERTEX_WORDS * (vertex as usize) + SCOPE];
-    let item = item_for_looks(program, ends, edition, own.place);
-    if own.phase == 1 {
-        if let ItemRead::Force { number, past } = item {
-            return force_edge(vertex, own, leapt(leaps, made, own.latest, number));
+    let at = Executing {
+        vertex,
+        scope: vertices[VERTEX_WORDS * (vertex as usize) + SCOPE],
+        own,
+        made,
+    };
+    let item = program.item_for_looks(own.place);
+    match item {
+        ItemRead::Force { number, .. } if own.phase == 1 => {
+            at.force_edge(leapt(leaps, made, own.latest, number))
         }
+        _ => at.by_item(program.bytes, item, vertices, program.edition),
     }
-    by_item(program, item, vertices, edition, vertex, scope, own, made)
 }
 
 // What a force follows, by its leaps.
-fn leapt(leaps: &[u32], made: u32, latest: u32, number: u32) -> u32
+fn leapt(leaps: &[u32], made: u32, latest: u32, number: u32) -> Option<u32>
     requires { Within made leaps.now 0 × Within made leaps.now usable_limit × Within made leaps.now (2 * usable_limit) }
-    ensures { LeapsTo made leaps.now latest number result }
+    ensures { LeapsTo made leaps.now latest number (vertex_of result) }
 {
-    if made <= latest {
-        return NONE_OPEN;
-    }
-    let far = hopped(leaps, made, 2 * USABLE_LIMIT, latest, number / 64);
+    let from = open_future(made, latest)?;
+    let far = hopped(leaps, made, 2 * USABLE_LIMIT, from, number / 64);
     let near = hopped(leaps, made, USABLE_LIMIT, far, number / 8 % 8);
-    hopped(leaps, made, 0, near, number % 8)
+    open_future(made, hopped(leaps, made, 0, near, number % 8))
 }
 
 // Where so many turns of the table from `from` on lead, from one of the made vertices.
@@ -61,7 +63,7 @@ fn hopped(leaps: &[u32], made: u32, from: usize, vertex: u32, turns: u32) -> u32
     ensures { (result < made) × LeadsTo made leaps.now from vertex turns result }
 {
     let mut at = vertex;
-    for i in 0..turns {
+    for _ in 0..turns {
         at = leaps[from + (at as usize)];
     }
     at
@@ -98,6 +100,7 @@ fn fill_eightfold(made: u32, from: usize, leaps: &mut [u32])
 }
 
 // The future that a vertex's word names, or `NONE_OPEN`.
+#[tactic(auto, using(crate::proofs::LeapLaws::hop_read, crate::proofs::LeapLaws::hop_none))]
 fn hop(vertices: &[u32], made: u32, vertex: u32) -> u32
     requires { (vertex < made) × (vertex_words * made ≤ length vertices.now) }
     ensures { result ≡ leaping.hop vertices.now made vertex }
@@ -105,9 +108,5 @@ fn hop(vertices: &[u32], made: u32, vertex: u32) -> u32
     if vertex == NONE_OPEN {
         return NONE_OPEN;
     }
-    let word = vertices[VERTEX_WORDS * (vertex as usize) + FUTURE];
-    if made <= word {
-        return NONE_OPEN;
-    }
-    word
+    open_future(made, vertices[VERTEX_WORDS * (vertex as usize) + FUTURE]).unwrap_or(NONE_OPEN)
 }

@@ -8,6 +8,7 @@ ghost use Rattle.program.specs.Internal.Progress.{Outside, Ended, end_by, LooksW
 
 use crate::checks::check;
 use crate::format::{ASYNC, END, FINISH, FORCE, FORK, FUTURE, JOB, PROGRAM_BYTES};
+use crate::marked::MarkedProgram;
 use crate::starts::opens_number;
 use crate::{Edition, ItemRead, Reader};
 use refusal::Reason;
@@ -60,16 +61,17 @@ fn end_from(first: u8, place: usize, after: u16, ends: &[u16]) -> u16
     behind
 }
 
-// What stands at a place of a program whose ends these are: all that `item_at` tells, without a search for bodies' ends.
-pub fn item_by_ends(program: &[u8], ends: &[u16], edition: Edition, place: u32) -> ItemRead
-    requires { MarksEnds edition program.now ends.now × (length ends.now ≡ program_bytes) }
-    ensures { (stands result ≡ item_at edition program.now place) × (handed_back result ≡ moved_past (reader_at place) (stands result)) }
-{
-    let from = place as usize;
-    if PROGRAM_BYTES <= from || ends[from] == 0 {
-        return ItemRead::Refused(Reason::NothingStarts.into());
+impl<'a> MarkedProgram<'a> {
+    // What stands at a place: all that `item_at` tells, without a search for bodies' ends.
+    pub fn item_by_ends(&self, place: u32) -> ItemRead
+        ensures { (stands result ≡ item_at self.now.edition self.now.bytes.now place) × (handed_back result ≡ moved_past (reader_at place) (stands result)) }
+    {
+        let from = place as usize;
+        if PROGRAM_BYTES <= from || self.ends[from] == 0 {
+            return ItemRead::Refused(Reason::NothingStarts.into());
+        }
+        Reader::at(place).item_ended(&self.bytes[from..], self.ends)
     }
-    Reader::at(place).item_ended(&program[from..], ends)
 }
 
 impl Reader {

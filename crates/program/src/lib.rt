@@ -11,6 +11,8 @@ mod checks;
 pub mod ends;
 pub mod format;
 pub mod items;
+pub mod laws;
+pub mod marked;
 mod numbers;
 pub mod reading;
 mod starts;

@@ -3,42 +3,33 @@ ghost use Rattle.std.specs.Prelude.{◌≡◌, true, ◌+◌, ◌*◌, ◌<◌, 
 ghost use Rattle.graph.specs.Tables.{vertex_words};
 ghost use Rattle.index.specs.Layout.{row_limit};
 ghost use Rattle.index.specs.Underway.{Ready, Executes, may_step};
-ghost use Rattle.program.specs.Limits.{program_bytes};
 ghost use Rattle.program.specs.Answers.{stands};
-ghost use Rattle.program.specs.Located.{MarksEnds, item_at};
+ghost use Rattle.program.specs.Located.{item_at};
 ghost use Rattle.machine.specs.Stepping.{step_limit};
 ghost use Rattle.engine.specs.Answers.{own_words, due_of};
 ghost use Rattle.engine.specs.Internal.Underway.{Next};
 ghost use Rattle.walks.specs.Internal.Walking.{DueOn, DoesOn, StepsOn};
 
 use crate::Moved;
-use engine::next::{
-    async_next, end_next, finish_next, force_next, fork_next, future_next, job_next, own_words,
-    yielding_fork_next,
-};
-use engine::steps::{as_step, command_refused, counted, store};
-use engine::{Answer, Due, Own};
+use engine::next::{Executing, own_words};
+use engine::steps::{counted, store};
+use engine::{Answer, Due};
 use graph::rows::{EXECUTING, RELEASED, SCOPE, STATUS, VERTEX_WORDS, set_status};
 use index::Course;
 use index::layout::NOWHERE;
-use program::ends::item_by_ends;
-use program::{Edition, ItemRead};
-use refusal::{NOTHING_STARTS, Refusal};
+use program::marked::MarkedProgram;
 
 // One step of a vertex that may step, where a row of the index is left and steps are.
 pub(crate) fn step_on_index(
-    program: &[u8],
-    ends: &[u16],
+    program: &MarkedProgram,
     vertices: &mut [u32],
     index: &mut [u32],
     limit: u32,
-    edition: Edition,
     course: Course,
     vertex: u32,
 ) -> Moved
-    requires marks_ends { MarksEnds edition program.now ends.now × (length ends.now ≡ program_bytes) }
-    requires ready { Ready vertices.old index.old course limit × (course.used < row_limit) × (course.tally.steps < step_limit) × (vertex < course.tally.made) × (may_step vertices.old vertex ≡ true) }
-    ensures { StepsOn edition program.now vertices.old index.old course limit vertex result vertices.new index.new }
+    requires { Ready vertices.old index.old course limit × (course.used < row_limit) × (course.tally.steps < step_limit) × (vertex < course.tally.made) × (may_step vertices.old vertex ≡ true) }
+    ensures { StepsOn program.now.edition program.now.bytes.now vertices.old index.old course limit vertex result vertices.new index.new }
 {
     if vertices[VERTEX_WORDS * (vertex as usize) + STATUS] == RELEASED {
         set_status(vertices, vertex as usize, EXECUTING);
@@ -49,18 +40,14 @@ pub(crate) fn step_on_index(
             highest: 0,
         };
     }
-    let own = own_words(vertices, vertex as usize);
-    let tally = course.tally;
-    let next = item_due(
-        program,
-        item_by_ends(program, ends, edition, own.place),
-        vertices,
-        edition,
+    let at = Executing {
         vertex,
-        vertices[VERTEX_WORDS * (vertex as usize) + SCOPE],
-        own,
-        tally.made,
-    );
+        scope: vertices[VERTEX_WORDS * (vertex as usize) + SCOPE],
+        own: own_words(vertices, vertex as usize),
+        made: course.tally.made,
+    };
+    let item = program.item_by_ends(at.own.place);
+    let next = at.by_item(program.bytes, item, vertices, program.edition);
     do_on_index(vertices, index, limit, course, vertex, next)
 }
 
@@ -71,80 +58,7 @@ fn one_step(course: Course) -> Course
 {
     Course {
         tally: counted(course.tally),
-        used: course.used,
-        peak: course.peak,
-    }
-}
-
-// What is due at the step of an executing vertex with these words, where this stands at its place: as `by_item` tells it to a single step. It has one
-// caller, so that it is compiled into the walk's loop, and what is due is never written to memory.
-fn item_due(
-    program: &[u8],
-    item: ItemRead,
-    vertices: &[u32],
-    edition: Edition,
-    vertex: u32,
-    scope: u32,
-    own: Own,
-    made: u32,
-) -> Due
-    requires { (stands item ≡ item_at edition program.now own.place) × (vertex_words * made ≤ length vertices.now) }
-    ensures { Next edition program.now vertices.now vertex scope (own_words own) made (due_of result) }
-{
-    match item {
-        ItemRead::Refused(refusal) => Due::Refused(NOTHING_STARTS),
-        ItemRead::End { past } => end_next(vertex, own),
-        ItemRead::Job { number, past } => job_next(vertex, own, number, past.place),
-        ItemRead::Async { body, past } => async_next(vertex, scope, own, made, body, past.place),
-        ItemRead::Finish { body, past } => {
-            finish_next(
-                vertex,
-                scope,
-                own,
-                made,
-                body,
-                past.place,
-                (program.len() - 1) as u32,
-            )
-        }
-        ItemRead::Fork { left, right, past } => match edition {
-            Edition::First => fork_next(
-                vertex,
-                scope,
-                own,
-                made,
-                left,
-                right,
-                past.place,
-                (program.len() - 1) as u32,
-            ),
-            Edition::Second => yielding_fork_next(
-                vertex, scope, own, made, left, right, past.place,
-            ),
-        },
-        ItemRead::Future { body, past } => {
-            future_next(
-                vertex,
-                scope,
-                own,
-                made,
-                body,
-                past.place,
-                (program.len() - 1) as u32,
-            )
-        }
-        ItemRead::Force { number, past } => {
-            force_next(
-                vertices,
-                vertex,
-                scope,
-                own,
-                made,
-                number,
-                past.place,
-                (program.len() - 1) as u32,
-            )
-        }
+        ..course
     }
 }
 
@@ -162,8 +76,8 @@ fn do_on_index(
     ensures { DoesOn vertices.old index.old course limit vertex (due_of next) result vertices.new index.new }
 {
     match next {
-        Due::Refused(number) => Moved {
-            answer: Answer::Refused(Refusal { number, place: 0 }),
+        Due::Refused(reason) => Moved {
+            answer: Answer::Refused(reason.into()),
             course,
             lowest: NOWHERE,
             highest: 0,
@@ -183,20 +97,19 @@ fn do_on_index(
         }
         Due::Command { command, own } => {
             let changed = index::commands::command(vertices, index, limit, course, command);
-            let answer = changed.answer;
-            let after = changed.course;
-            if command_refused(answer) {
+            let answer = Answer::from(changed.answer);
+            if changed.answer.is_refused() {
                 return Moved {
-                    answer: as_step(answer),
-                    course: after,
+                    answer,
+                    course: changed.course,
                     lowest: NOWHERE,
                     highest: 0,
                 };
             }
             store(vertices, vertex as usize, own);
             Moved {
-                answer: as_step(answer),
-                course: one_step(after),
+                answer,
+                course: one_step(changed.course),
                 lowest: changed.lowest,
                 highest: changed.highest,
             }

@@ -17,7 +17,8 @@ use graph::rows::{FINISHED, STATUS, VERTEX_WORDS};
 use program::Edition;
 use program::ends::mark_ends;
 use program::format::PROGRAM_BYTES;
-use refusal::{Refusal, UNSOUND_TABLES};
+use program::marked::MarkedProgram;
+use refusal::Reason;
 
 // A run, with the tally by value.
 pub fn run_by_value(
@@ -35,17 +36,20 @@ pub fn run_by_value(
     }
     let mut ends = [0u16; PROGRAM_BYTES];
     mark_ends(program, edition, &mut ends);
+    let marked = MarkedProgram {
+        bytes: program,
+        ends: &ends,
+        edition,
+    };
     let mut nobody_busy = [0; 1];
     let mut no_list = [0; 1];
     let rested = walk(
-        program,
-        &ends,
+        &marked,
         vertices,
         edges,
         &mut nobody_busy,
         &mut no_list,
         tally,
-        edition,
         false,
         budget,
     );
@@ -61,10 +65,7 @@ fn refused(tally: Tally) -> RunDone
     ensures { (ending_of result.answer.ending ≡ of_run.refused unsound_tables 0) × (last_of result.answer.last ≡ none) × (result.answer.taken ≡ 0) × (result.tally ≡ tally) }
 {
     ended(
-        Ending::Refused(Refusal {
-            number: UNSOUND_TABLES,
-            place: 0,
-        }),
+        Ending::Refused(Reason::UnsoundTables.into()),
         LastStep::NoStep,
         0,
         tally,
