@@ -24,7 +24,11 @@ impl Reader {
             if bytes[from] == END {
                 return Ok(reader.moved(1));
             }
-            reader = reader.item(&bytes[from..], here)?;
+            // A `match`, since with `?` here reading takes a quarter longer.
+            reader = match reader.item(&bytes[from..], here) {
+                Err(refusal) => return Err(refusal),
+                Ok(behind) => behind,
+            };
             if bytes[from] == FUTURE {
                 here.opened += 1;
             }
@@ -73,10 +77,13 @@ impl Reader {
         ensures { reached result ≡ progress counts_of (self.place + length bytes.now) (item_counts self.seen) (numbered_of first opened bytes.now) }
     {
         let (value, past) = self.number(bytes)?;
-        if first == FORCE && opened <= value {
+        if first == JOB {
+            return Ok(past.counting(JOB));
+        }
+        if opened <= value {
             return Err(self.refused(Reason::NoSuchFuture));
         }
-        Ok(past.counting(first))
+        Ok(past.counting(FORCE))
     }
 
     // The same reader, with one more item seen, of the kind that starts with this byte.
@@ -84,16 +91,37 @@ impl Reader {
         requires { Few (item_counts self.seen) }
         ensures { (result.place ≡ self.place) × (item_counts result.seen ≡ plus (item_counts self.seen) (one_of first)) }
     {
-        let mut seen = self.seen;
-        match first {
-            JOB => seen.jobs += 1,
-            ASYNC => seen.asyncs += 1,
-            FINISH => seen.finishes += 1,
-            FORK => seen.forks += 1,
-            FUTURE => seen.futures += 1,
-            FORCE => seen.forces += 1,
-            _ => {}
+        let seen = self.seen;
+        let counted = match first {
+            JOB => ItemCounts {
+                jobs: seen.jobs + 1,
+                ..seen
+            },
+            ASYNC => ItemCounts {
+                asyncs: seen.asyncs + 1,
+                ..seen
+            },
+            FINISH => ItemCounts {
+                finishes: seen.finishes + 1,
+                ..seen
+            },
+            FORK => ItemCounts {
+                forks: seen.forks + 1,
+                ..seen
+            },
+            FUTURE => ItemCounts {
+                futures: seen.futures + 1,
+                ..seen
+            },
+            FORCE => ItemCounts {
+                forces: seen.forces + 1,
+                ..seen
+            },
+            _ => seen,
+        };
+        Self {
+            place: self.place,
+            seen: counted,
         }
-        Self { seen, ..self }
     }
 }

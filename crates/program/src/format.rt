@@ -1,5 +1,6 @@
 // The format of programs: bytes and limits. `specs/Limits.antt` and `Bytes.antt` have the same for the definitions; the contracts hold the
-// two together.
+// two together. The first bytes are numbers of the format, which tables are read and tests are written by, and no enum: a byte may be none of
+// them, and the refusal of it is one arm of the reader's `match`.
 pub const END: u8 = 0;
 
 pub const JOB: u8 = 1;

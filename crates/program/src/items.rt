@@ -24,6 +24,7 @@ pub fn item_at(program: &[u8], edition: Edition, place: u32) -> ItemRead
 
 impl<'a> MarkedProgram<'a> {
     // The same for a look: without a search. The loop of a walk has a reader of its own (`item_by_ends`): what has one caller is compiled into it.
+    #[tactic(auto, using(crate::proofs::PlaceLaws::starts_beyond, crate::proofs::EndLaws::ends_tell_starts))]
     pub fn item_for_looks(&self, place: u32) -> ItemRead
         ensures { (stands result ≡ item_at self.now.edition self.now.bytes.now place) × (handed_back result ≡ moved_past (reader_at place) (stands result)) }
     {
@@ -64,6 +65,7 @@ impl Reader {
 
     // What stands at this reader's place, where `bytes` start: the bytes of a body, or of what is left of one. The reader is handed back
     // moved past it. What it has seen stays: `ends` tell where the bodies there end, or that is searched for, and nothing is counted.
+    // `item_ended` is apart from it: what has one caller is compiled into the loop of a walk, and read by this one an item took a seventh longer.
     fn item_here(self, bytes: &[u8], ends: &[u16]) -> ItemRead
         requires { BeginsEnded bytes.now self.place ends.now × (self.place + length bytes.now ≤ program_bytes) }
         ensures { Shows bytes.now self.place (stands result) × (handed_back result ≡ moved_past self (stands result)) }
@@ -117,7 +119,7 @@ fn size_there(bytes: &[u8], place: u32, ends: &[u16]) -> usize
     ends[at] as usize - at
 }
 
-// The same without ends: the search for the body's end.
+// The same without ends: the search for the body's end, which calls itself for each inner body. No `for`: each turn skips an item.
 fn body_size(bytes: &[u8]) -> usize
     requires { BeginsWithBody bytes.now }
     ensures { Sized bytes.now result }

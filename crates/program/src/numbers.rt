@@ -17,7 +17,7 @@ impl Reader {
     {
         Self {
             place: self.place + bytes,
-            ..self
+            seen: self.seen,
         }
     }
 

@@ -22,16 +22,15 @@ pub body-returns-then-bytes-from-eq-END : goal.body-returns-then-bytes-from-eq-E
 body-returns-then-bytes-from-eq-END t c =
     along_end _ _ _ _ _ _ _ _ c.loop-from.invariant c.loop-from-test.true c.if-bytes-from-eq-END.true c.moved.ensures
 
-pub body-returns-in_err-reader : goal.body-returns-in_err-reader
-body-returns-in_err-reader t c =
-    rw (passed_on _ _ c.from_residual.ensures)
-    (along_stopped _ _ _ _ _ _ _ c.in_err-reader.field-0.0 c.loop-from.invariant c.loop-from-test.true c.if-bytes-from-eq-END.false
-    c.in_err-reader.was c.item.ensures)
+pub body-returns-in-Err : goal.body-returns-in-Err
+body-returns-in-Err t c =
+    (along_stopped _ _ _ _ _ _ _ c.in-Err.refusal c.loop-from.invariant c.loop-from-test.true c.if-bytes-from-eq-END.false
+    c.in-Err.is c.item.ensures)
 
 pub body-overflow_sub-from : goal.body-overflow_sub-from
 body-overflow_sub-from t c =
     let on =
-    along_more _ _ _ _ _ _ _ _ _ c.loop-from.invariant c.loop-from-test.true c.if-bytes-from-eq-END.false c.in_ok-reader.was
+    along_more _ _ _ _ _ _ _ _ _ c.loop-from.invariant c.loop-from-test.true c.if-bytes-from-eq-END.false c.in-Ok.is
     c.item.ensures
     (elim c.if-bytes-from-eq-FUTURE.branch [
       | body-then-bytes-from-eq-FUTURE w ↦ inl (w.if-bytes-from-eq-FUTURE.true, w.here-is)
@@ -42,7 +41,7 @@ body-overflow_sub-from t c =
 pub body-loop-from-smaller : goal.body-loop-from-smaller
 body-loop-from-smaller t c =
     let on =
-    along_more _ _ _ _ _ _ _ _ _ c.loop-from.invariant c.loop-from-test.true c.if-bytes-from-eq-END.false c.in_ok-reader.was
+    along_more _ _ _ _ _ _ _ _ _ c.loop-from.invariant c.loop-from-test.true c.if-bytes-from-eq-END.false c.in-Ok.is
     c.item.ensures
     (elim c.if-bytes-from-eq-FUTURE.branch [
       | body-then-bytes-from-eq-FUTURE w ↦ inl (w.if-bytes-from-eq-FUTURE.true, w.here-is)
@@ -52,7 +51,7 @@ body-loop-from-smaller t c =
 
 pub body-loop-from-preserved : goal.body-loop-from-preserved
 body-loop-from-preserved t c =
-    (along_more _ _ _ _ _ _ _ _ _ c.loop-from.invariant c.loop-from-test.true c.if-bytes-from-eq-END.false c.in_ok-reader.was
+    (along_more _ _ _ _ _ _ _ _ _ c.loop-from.invariant c.loop-from-test.true c.if-bytes-from-eq-END.false c.in-Ok.is
     c.item.ensures
     (elim c.if-bytes-from-eq-FUTURE.branch [
       | body-then-bytes-from-eq-FUTURE w ↦ inl (w.if-bytes-from-eq-FUTURE.true, w.here-is)
