@@ -1,12 +1,11 @@
 -- Looking for the lowest vertex that can step, turn by turn: whether a command would be accepted, and what the look finds. Where some vertices
 -- are busy, the lowest that is not.
-use Prim.Native.Nat.{ℕ, zero, suc, ◌+◌, ◌<◌, ◌≤◌}
-use mathlib.Core.Path.{◌≡◌, refl, sym, ◌∙◌, ap, subst}
+use Prim.Native.Nat.{ℕ, zero, suc, ◌<◌, ◌≤◌}
+use mathlib.Core.Path.{◌≡◌, refl, sym, ◌∙◌, ap}
 use mathlib.Core.Bool.{Bool, true, false, not}
 use mathlib.Core.Logic.{⊎_elim}
 use mathlib.Core.List.{List}
 use mathlib.Core.Option.{Option, none, some}
-use native.Mathlib.Numerals.{add-one}
 use native.Mathlib.Omega.{arith}
 use lib.Dec.{eqb, ltb}
 use lib.ListN.{get_or, replicate, length-replicate, get_or-replicate, get_or-eq_default}
@@ -16,7 +15,7 @@ use Rattle.graph.specs.Tests.{both, lowest_below}
 use Rattle.graph.specs.Tables.{Lent}
 use Rattle.graph.specs.Answers.{CommandSaid, accepted, decided}
 use Rattle.graph.specs.Commands.{command}
-use Rattle.graph.proofs.TestLaws.{decide, not_so, below_suc, both-false_left}
+use Rattle.graph.proofs.TestLaws.{decide, not_so, both-false_left}
 use Rattle.graph.proofs.LowestLaws.{found_is, none_is, found_holds, found_lowest, found_below, none_holds}
 use Rattle.refusal.specs.Refusals.{unsound_tables}
 use Rattle.program.specs.declared.Edition.{Edition}
@@ -25,7 +24,7 @@ use Rattle.machine.specs.Running.{can_step, lowest, chosen, choice, choice_refus
 use Rattle.machine.specs.Dispatching.{is_busy, lowest_free}
 use Rattle.machine.proofs.StepDemand2.{can_ready}
 use Rattle.std.specs.Prelude as of_code
-use Rattle.std.specs.Prelude.{Result, Ok, Err, is_ok, ⊤, Some, None}
+use Rattle.std.specs.Prelude.{Result, Ok, Err, is_ok, ⊤, Some, None, MatchOption}
 use Rattle.refusal.specs.declared.Reason.{Reason}
 use Rattle.refusal.specs.Reasons.{number, due_number}
 use Rattle.refusal.proofs.ReasonLaws.{number_positive}
@@ -53,26 +52,22 @@ pub takes_case : (s : Lent) {next d : of_engine.Due} {b : Bool} → next ≡ d �
 takes_case s p h = h ∙ ap (λ (x : of_engine.Due). takes s (due_of x)) (sym p)
 
 -- THE LOOK
-module _ (ed : Edition) (bytes : List ℕ) (s : Lent) where
-  -- none below n can step
-  abbrev pub NoneCan : ℕ → Type 0
-  NoneCan n = (u : ℕ) → u < n → can_step ed bytes s u ≡ false
+abbrev pub Can : Edition → List ℕ → Lent → ℕ → Type 0
+Can ed bytes s v = true ≡ can_step ed bytes s v
 
-  -- nor can one more
-  pub none_more : (k : ℕ) {b : Bool} → NoneCan k → b ≡ can_step ed bytes s k → b ≡ false → NoneCan (k + 1)
-  none_more k h p q =
-      rw (add-one k)
-      (λ u lt. ⊎_elim (λ e. subst (λ (x : ℕ). can_step ed bytes s x ≡ false) (sym e) (sym p ∙ q)) (λ l. h u l) (below_suc lt))
+abbrev pub Cannot : Edition → List ℕ → Lent → ℕ → Type 0
+Cannot ed bytes s v = false ≡ can_step ed bytes s v
 
-  -- this one can, and none below it
-  pub lowest_this : (k : ℕ) {b : Bool} → k < s.made → NoneCan k → b ≡ can_step ed bytes s k → b ≡ true → some k ≡ lowest ed bytes s
-  unfolding lowest
-  lowest_this k lt h p q = sym (found_is (can_step ed bytes s) s.made k lt (sym p ∙ q) h)
-
-  -- none can
-  pub lowest_none : (k : ℕ) → s.made ≤ k → NoneCan k → none ≡ lowest ed bytes s
-  unfolding lowest
-  lowest_none k le h = sym (none_is (can_step ed bytes s) s.made (λ u lt. h u (omega arith)))
+-- the first that can, if there is one
+pub first_is :
+    (ed : Edition) (bytes : List ℕ) (s : Lent) (r : of_code.Option ℕ)
+    → MatchOption r ((k : ℕ) → 0 ≤ k → k < s.made → Cannot ed bytes s k)
+    (λ v. (0 ≤ v) × (v < s.made) × Can ed bytes s v × ((k : ℕ) → 0 ≤ k → k < v → Cannot ed bytes s k))
+    → vertex_of r ≡ lowest ed bytes s
+unfolding lowest
+first_is ed bytes s (Some v) (z, lt, can, lower) =
+    sym (found_is (can_step ed bytes s) s.made v lt (sym can) (λ u below. sym (lower u (omega arith) below)))
+first_is ed bytes s None none_can = sym (none_is (can_step ed bytes s) s.made (λ u lt. sym (none_can u (omega arith) lt)))
 
 -- BUSY VERTICES
 module _ (ed : Edition) (bytes : List ℕ) (s : Lent) (marks : List ℕ) where

@@ -1,6 +1,7 @@
 -- Which numbers stand for which answer, command and edition where hosts are told, what a call's reply tells, and the library's version. The
 -- declarations in include/keshtiwol.h have the same numbers.
-use Rattle.std.specs.Prelude.{ℕ, ◌≡◌, cond, List, eqb}
+use Rattle.std.specs.Prelude as of_code
+use Rattle.std.specs.Prelude.{ℕ, ◌≡◌, cond, List, eqb, Some, None}
 use Rattle.std.proofs.Math.Option.{Option, none, some}
 use Rattle.graph.specs.declared.Command.{Command}
 use Rattle.graph.specs.declared.Command.TheVariants.{NewTd, NewEdge, Release, Transfer, Start, Stop, Yield}
@@ -17,19 +18,12 @@ use Rattle.machine.specs.Stepping.{step}
 use Rattle.machine.specs.Running.{Ending, done, stuck, spent, refused, RunOutcome, ended, run, Choice, choose, no_choice, choice_refused, choice}
 use Rattle.machine.specs.Dispatching as of_dispatch
 use Rattle.machine.specs.Dispatching.{desk, marks_of, list_of, handed_of, dispatch}
-use Rattle.walks.specs.declared.RunDone.{RunDone}
-use Rattle.walks.specs.declared.DispatchDone.{DispatchDone}
-use Rattle.walks.specs.Answers.{ending_of, last_of, dispatch_ending_of}
 use Rattle.chains.specs.Showing.{ChainSaid, vertices, chain_refused, ChainOutcome}
 use Rattle.keshtiwol.specs.declared.Reply.{Reply}
 use Rattle.keshtiwol.specs.declared.RunReply.{RunReply}
-use Rattle.keshtiwol.specs.declared.RunReplyDone.{RunReplyDone}
 use Rattle.keshtiwol.specs.declared.DispatchReply.{DispatchReply}
-use Rattle.keshtiwol.specs.declared.DispatchReplyDone.{DispatchReplyDone}
-use Rattle.keshtiwol.specs.declared.Asked.{Asked}
-use Rattle.keshtiwol.specs.declared.Asked.TheVariants as of_asked
-use Rattle.keshtiwol.specs.declared.EditionAsked.{EditionAsked}
-use Rattle.keshtiwol.specs.declared.EditionAsked.TheVariants as of_edition
+use Rattle.keshtiwol.specs.declared.replies.Said.{Said}
+use Rattle.keshtiwol.specs.declared.replies.Said.TheVariants as said
 
 -- ANSWERS
 -- what was said, and two values
@@ -38,6 +32,27 @@ pub data Numbers : Type 0 where
 
 abbrev pub reply_numbers : Reply → Numbers
 reply_numbers r = numbers r.said r.first r.second
+
+-- the number of what a reply says
+abbrev pub said_number : Said → ℕ
+said_number said.Refused = 0
+said_number said.Ready = 1
+said_number said.Start = 2
+said_number said.New = 3
+said_number said.Edge = 4
+said_number said.Release = 5
+said_number said.Transfer = 6
+said_number said.Job = 7
+said_number said.Stop = 8
+said_number said.Nothing = 9
+said_number said.Vertex = 10
+said_number said.Done = 11
+said_number said.Stuck = 12
+said_number said.Spent = 13
+said_number said.Chain = 14
+said_number said.Yield = 15
+said_number said.Waiting = 16
+said_number said.Full = 17
 
 -- what the opening said
 unfoldable pub opening_numbers : of_graph.OpeningSaid → Numbers
@@ -105,9 +120,10 @@ command_of k t a b =
     (cond (eqb k 7) (some (Yield t))
     none))))))
 
-abbrev pub asked_of : Asked → Option Command
-asked_of (of_asked.Known c) = some c
-asked_of of_asked.Unknown = none
+-- what is asked for, if it is known
+abbrev pub asked_of : {A : Type 0} → of_code.Option A → Option A
+asked_of (Some a) = some a
+asked_of None = none
 
 -- this crate's own refusal
 unfoldable pub if_known : Option Command → Lent → Outcome of_graph.CommandSaid
@@ -120,10 +136,6 @@ by_numbers k t a b s = if_known (command_of k t a b) s
 -- EDITIONS
 unfoldable pub edition_of : ℕ → Option Edition
 edition_of k = cond (eqb k 1) (some First) (cond (eqb k 2) (some Second) none)
-
-abbrev pub edition_asked_of : EditionAsked → Option Edition
-edition_asked_of (of_edition.Known ed) = some ed
-edition_asked_of of_edition.Unknown = none
 
 -- A call of an edition. A number that no edition has is this crate's own refusal, before any other.
 unfoldable pub in_edition : {A : Type 0} → Option Edition → A → (Edition → A) → A
@@ -165,27 +177,11 @@ RunReplied o r after =
     (reply_numbers r.ending ≡ ending_numbers o.ending) × (reply_numbers r.last ≡ last_numbers o.last) × (r.taken ≡ o.taken)
     × (after ≡ o.after)
 
--- the same of what the engine's run returned: the reply has its numbers, and the tally is handed on
-abbrev pub RunTold : RunDone → RunReplyDone → Type 0
-RunTold d r =
-    (reply_numbers r.answer.ending ≡ ending_numbers (ending_of d.answer.ending))
-    × (reply_numbers r.answer.last ≡ last_numbers (last_of d.answer.last))
-    × (r.answer.taken ≡ d.answer.taken)
-    × (r.tally ≡ d.tally)
-
 -- the marks and the list afterwards are what the definition leaves too
 abbrev pub DispatchReplied : of_dispatch.Outcome → DispatchReply → Lent → (marks list : List ℕ) → Type 0
 DispatchReplied o r after marks list =
     (reply_numbers r.ending ≡ dispatch_numbers o.ending) × (r.taken ≡ o.taken) × (r.handed ≡ handed_of o.handed_out) × (after ≡ o.after)
     × (marks ≡ marks_of o.handed_out) × (list ≡ list_of o.handed_out)
-
--- the same of what the engine's dispatch returned
-abbrev pub DispatchTold : DispatchDone → DispatchReplyDone → Type 0
-DispatchTold d r =
-    (reply_numbers r.answer.ending ≡ dispatch_numbers (dispatch_ending_of d.answer.ending))
-    × (r.answer.taken ≡ d.answer.taken)
-    × (r.answer.handed ≡ d.answer.handed)
-    × (r.tally ≡ d.tally)
 
 -- program, tables and tally are only read
 abbrev pub LowestReplied : Choice → Reply → Type 0

@@ -1,33 +1,24 @@
 // The calls with the tally by value and an answer of plain numbers.
 ghost use Rattle.std.specs.Prelude.{◌≡◌};
 ghost use Rattle.graph.specs.Tables.{lent};
-ghost use Rattle.graph.specs.Answers as of_graph;
 ghost use Rattle.graph.specs.Commands.{opening};
 ghost use Rattle.chains.specs.Showing.{show_chain};
-ghost use Rattle.machine.specs.Answers.{said_as};
-ghost use Rattle.engine.specs.Answers.{loading_said, said};
-ghost use Rattle.keshtiwol.specs.Numbers.{OpenReplied, Commanded, LoadReplied, Replied, RunReplied, DispatchReplied, LowestReplied, ChainReplied, by_numbers, reply_numbers, opening_numbers, loading_numbers, said_numbers};
-ghost use Rattle.keshtiwol.specs.Numbers.{RunTold, DispatchTold, command_of, asked_of, edition_of, edition_asked_of, load_in, step_in, run_in, dispatch_in, choice_in};
+ghost use Rattle.keshtiwol.specs.Numbers.{OpenReplied, Commanded, LoadReplied, Replied, RunReplied, DispatchReplied, LowestReplied, ChainReplied, by_numbers};
+ghost use Rattle.keshtiwol.specs.Numbers.{command_of, edition_of, asked_of, load_in, step_in, run_in, dispatch_in, choice_in};
 
-use crate::replies::{
-    REFUSED, no_such_edition, of_answer, of_chain, of_command, of_dispatch, of_ending, of_last,
-    of_loading, of_lowest, of_opening,
-};
-use crate::{
-    Asked, DispatchReply, DispatchReplyDone, EditionAsked, Reply, ReplyDone, RunReply, RunReplyDone,
-};
+use crate::{DispatchReply, Done, Reply, RunReply};
 use chains::showing::chain_by_value;
+use engine::Answer;
 use engine::load::load_by_value;
 use engine::look::lowest_vertex;
 use engine::steps::step_by_value;
-use engine::{Done, LoadDone};
 use graph::commands::{command_by_value, open_by_value};
-use graph::{Command, OpenDone, Tally};
+use graph::{Command, Tally};
 use program::Edition;
-use refusal::NO_SUCH_COMMAND;
+use refusal::Reason;
+use walks::LastStep;
 use walks::dispatches::dispatch_by_value;
 use walks::runs::run_by_value;
-use walks::{DispatchDone, LastStep, RunDone};
 
 // The numbers of the commands.
 pub const NEW_TD: u32 = 1;
@@ -49,35 +40,17 @@ pub const FIRST_EDITION: u32 = 1;
 
 pub const SECOND_EDITION: u32 = 2;
 
-pub(crate) fn open_to_numbers(vertices: &mut [u32], edges: &mut [u32], tally: Tally) -> ReplyDone
+pub(crate) fn open_to_numbers(vertices: &mut [u32], edges: &mut [u32], tally: Tally) -> Done<Reply>
     ensures { OpenReplied (opening (lent vertices.old edges.old tally)) result.answer (lent vertices.new edges.new result.tally) }
 {
     let done = open_by_value(vertices, edges, tally);
-    opened(done)
-}
-
-fn opened(done: OpenDone) -> ReplyDone
-    ensures { (reply_numbers result.answer ≡ opening_numbers (of_graph.opening_said done.answer)) × (result.tally ≡ done.tally) }
-{
-    let answer = done.answer;
-    let after = done.tally;
-    ReplyDone {
-        answer: of_opening(answer),
-        tally: after,
+    Done {
+        answer: done.answer.into(),
+        tally: done.tally,
     }
 }
 
-fn commanded(done: graph::Done) -> ReplyDone
-    ensures { (reply_numbers result.answer ≡ said_numbers (said_as (of_graph.said done.answer))) × (result.tally ≡ done.tally) }
-{
-    let answer = done.answer;
-    let after = done.tally;
-    ReplyDone {
-        answer: of_command(answer),
-        tally: after,
-    }
-}
-
+#[tactic(auto, unfolding(crate::specs::Numbers::if_known, crate::specs::Numbers::said_numbers))]
 pub(crate) fn command_by_numbers(
     vertices: &mut [u32],
     edges: &mut [u32],
@@ -86,114 +59,89 @@ pub(crate) fn command_by_numbers(
     caller: u32,
     first: u32,
     second: u32,
-) -> ReplyDone
+) -> Done<Reply>
     ensures { Commanded (by_numbers command caller first second (lent vertices.old edges.old tally)) result.answer (lent vertices.new edges.new result.tally) }
 {
-    let asked = asked(command, caller, first, second);
-    match asked {
-        Asked::Unknown => ReplyDone {
-            answer: Reply {
-                said: REFUSED,
-                first: NO_SUCH_COMMAND,
-                second: 0,
-            },
+    let Some(given) = asked(command, caller, first, second) else {
+        return Done {
+            answer: Reason::NoSuchCommand.into(),
             tally,
-        },
-        Asked::Known(given) => {
-            let done = command_by_value(vertices, edges, tally, given);
-            commanded(done)
-        }
+        };
+    };
+    let done = command_by_value(vertices, edges, tally, given);
+    Done {
+        answer: Answer::from(done.answer).into(),
+        tally: done.tally,
     }
 }
 
 // The command that these numbers ask for. Start's vertex, stop's and yield's are the caller; what a command does not name is not looked at.
-fn asked(command: u32, caller: u32, first: u32, second: u32) -> Asked
+#[tactic(auto, unfolding(crate::specs::Numbers::command_of))]
+fn asked(command: u32, caller: u32, first: u32, second: u32) -> Option<Command>
     ensures { asked_of result ≡ command_of command caller first second }
 {
-    if command == NEW_TD {
-        return Asked::Known(Command::NewTd {
+    match command {
+        NEW_TD => Some(Command::NewTd {
             caller,
             place: first,
             scope: second,
-        });
-    }
-    if command == NEW_EDGE {
-        return Asked::Known(Command::NewEdge {
+        }),
+        NEW_EDGE => Some(Command::NewEdge {
             caller,
             source: first,
             target: second,
-        });
-    }
-    if command == RELEASE {
-        return Asked::Known(Command::Release {
+        }),
+        RELEASE => Some(Command::Release {
             caller,
             vertex: first,
-        });
-    }
-    if command == TRANSFER {
-        return Asked::Known(Command::Transfer {
+        }),
+        TRANSFER => Some(Command::Transfer {
             caller,
             vertex: first,
-        });
+        }),
+        START => Some(Command::Start { vertex: caller }),
+        STOP => Some(Command::Stop { caller }),
+        YIELD => Some(Command::Yield { caller }),
+        _ => None,
     }
-    if command == START {
-        return Asked::Known(Command::Start { vertex: caller });
-    }
-    if command == STOP {
-        return Asked::Known(Command::Stop { caller });
-    }
-    if command == YIELD {
-        return Asked::Known(Command::Yield { caller });
-    }
-    Asked::Unknown
 }
 
 // The edition with this number.
-fn asked_edition(edition: u32) -> EditionAsked
-    ensures { edition_asked_of result ≡ edition_of edition }
+#[tactic(auto, unfolding(crate::specs::Numbers::edition_of))]
+fn asked_edition(edition: u32) -> Option<Edition>
+    ensures { asked_of result ≡ edition_of edition }
 {
-    if edition == FIRST_EDITION {
-        return EditionAsked::Known(Edition::First);
+    match edition {
+        FIRST_EDITION => Some(Edition::First),
+        SECOND_EDITION => Some(Edition::Second),
+        _ => None,
     }
-    if edition == SECOND_EDITION {
-        return EditionAsked::Known(Edition::Second);
-    }
-    EditionAsked::Unknown
 }
 
+#[tactic(auto, unfolding(crate::specs::Numbers::in_edition, crate::specs::Numbers::loading_numbers))]
 pub(crate) fn load_to_numbers(
     program: &[u8],
     vertices: &mut [u32],
     edges: &mut [u32],
     tally: Tally,
     edition: u32,
-) -> ReplyDone
+) -> Done<Reply>
     ensures { LoadReplied (load_in (edition_of edition) program.now (lent vertices.old edges.old tally)) result.answer (lent vertices.new edges.new result.tally) }
 {
-    let asked = asked_edition(edition);
-    match asked {
-        EditionAsked::Unknown => ReplyDone {
-            answer: no_such_edition(),
+    let Some(known) = asked_edition(edition) else {
+        return Done {
+            answer: Reason::NoSuchEdition.into(),
             tally,
-        },
-        EditionAsked::Known(known) => {
-            let done = load_by_value(program, vertices, edges, tally, known);
-            loaded(done)
-        }
+        };
+    };
+    let done = load_by_value(program, vertices, edges, tally, known);
+    Done {
+        answer: done.answer.into(),
+        tally: done.tally,
     }
 }
 
-fn loaded(done: LoadDone) -> ReplyDone
-    ensures { (reply_numbers result.answer ≡ loading_numbers (loading_said done.answer)) × (result.tally ≡ done.tally) }
-{
-    let answer = done.answer;
-    let after = done.tally;
-    ReplyDone {
-        answer: of_loading(answer),
-        tally: after,
-    }
-}
-
+#[tactic(auto, unfolding(crate::specs::Numbers::in_edition, crate::specs::Numbers::said_numbers))]
 pub(crate) fn step_to_numbers(
     program: &[u8],
     vertices: &mut [u32],
@@ -201,33 +149,23 @@ pub(crate) fn step_to_numbers(
     tally: Tally,
     edition: u32,
     vertex: u32,
-) -> ReplyDone
+) -> Done<Reply>
     ensures { Replied (step_in (edition_of edition) program.now (lent vertices.old edges.old tally) vertex) result.answer (lent vertices.new edges.new result.tally) }
 {
-    let asked = asked_edition(edition);
-    match asked {
-        EditionAsked::Unknown => ReplyDone {
-            answer: no_such_edition(),
+    let Some(known) = asked_edition(edition) else {
+        return Done {
+            answer: Reason::NoSuchEdition.into(),
             tally,
-        },
-        EditionAsked::Known(known) => {
-            let done = step_by_value(program, vertices, edges, tally, known, vertex);
-            replied(done)
-        }
+        };
+    };
+    let done = step_by_value(program, vertices, edges, tally, known, vertex);
+    Done {
+        answer: done.answer.into(),
+        tally: done.tally,
     }
 }
 
-fn replied(done: Done) -> ReplyDone
-    ensures { (reply_numbers result.answer ≡ said_numbers (said done.answer)) × (result.tally ≡ done.tally) }
-{
-    let answer = done.answer;
-    let after = done.tally;
-    ReplyDone {
-        answer: of_answer(answer),
-        tally: after,
-    }
-}
-
+#[tactic(auto, unfolding(crate::specs::Numbers::in_edition, crate::specs::Numbers::ending_numbers, crate::specs::Numbers::last_numbers))]
 pub(crate) fn run_to_numbers(
     program: &[u8],
     vertices: &mut [u32],
@@ -235,43 +173,31 @@ pub(crate) fn run_to_numbers(
     tally: Tally,
     edition: u32,
     budget: u32,
-) -> RunReplyDone
+) -> Done<RunReply>
     ensures { RunReplied (run_in (edition_of edition) program.now (lent vertices.old edges.old tally) budget) result.answer (lent vertices.new edges.new result.tally) }
 {
-    let asked = asked_edition(edition);
-    match asked {
-        EditionAsked::Unknown => RunReplyDone {
+    let Some(known) = asked_edition(edition) else {
+        return Done {
             answer: RunReply {
-                ending: no_such_edition(),
-                last: of_last(LastStep::NoStep),
+                ending: Reason::NoSuchEdition.into(),
+                last: LastStep::NoStep.into(),
                 taken: 0,
             },
             tally,
-        },
-        EditionAsked::Known(known) => {
-            let done = run_by_value(program, vertices, edges, tally, known, budget);
-            ran(done)
-        }
-    }
-}
-
-fn ran(done: RunDone) -> RunReplyDone
-    ensures { RunTold done result }
-{
-    let answer = done.answer;
-    let after = done.tally;
-    let ending = answer.ending;
-    let last = answer.last;
-    RunReplyDone {
+        };
+    };
+    let done = run_by_value(program, vertices, edges, tally, known, budget);
+    Done {
         answer: RunReply {
-            ending: of_ending(ending),
-            last: of_last(last),
-            taken: answer.taken,
+            ending: done.answer.ending.into(),
+            last: done.answer.last.into(),
+            taken: done.answer.taken,
         },
-        tally: after,
+        tally: done.tally,
     }
 }
 
+#[tactic(auto, unfolding(crate::specs::Numbers::in_edition, crate::specs::Numbers::dispatch_numbers))]
 pub(crate) fn dispatch_to_numbers(
     program: &[u8],
     vertices: &mut [u32],
@@ -281,44 +207,31 @@ pub(crate) fn dispatch_to_numbers(
     budget: u32,
     busy: &mut [u32],
     jobs: &mut [u32],
-) -> DispatchReplyDone
+) -> Done<DispatchReply>
     ensures { DispatchReplied (dispatch_in (edition_of edition) program.now (lent vertices.old edges.old tally) budget busy.old jobs.old) result.answer (lent vertices.new edges.new result.tally) busy.new jobs.new }
 {
-    let asked = asked_edition(edition);
-    match asked {
-        EditionAsked::Unknown => DispatchReplyDone {
+    let Some(known) = asked_edition(edition) else {
+        return Done {
             answer: DispatchReply {
-                ending: no_such_edition(),
+                ending: Reason::NoSuchEdition.into(),
                 taken: 0,
                 handed: 0,
             },
             tally,
-        },
-        EditionAsked::Known(known) => {
-            let done = dispatch_by_value(
-                program, vertices, edges, tally, known, budget, busy, jobs,
-            );
-            dispatched(done)
-        }
-    }
-}
-
-fn dispatched(done: DispatchDone) -> DispatchReplyDone
-    ensures { DispatchTold done result }
-{
-    let answer = done.answer;
-    let after = done.tally;
-    let ending = answer.ending;
-    DispatchReplyDone {
+        };
+    };
+    let done = dispatch_by_value(program, vertices, edges, tally, known, budget, busy, jobs);
+    Done {
         answer: DispatchReply {
-            ending: of_dispatch(ending),
-            taken: answer.taken,
-            handed: answer.handed,
+            ending: done.answer.ending.into(),
+            taken: done.answer.taken,
+            handed: done.answer.handed,
         },
-        tally: after,
+        tally: done.tally,
     }
 }
 
+#[tactic(auto, unfolding(crate::specs::Numbers::in_edition, crate::specs::Numbers::choice_numbers))]
 pub(crate) fn lowest_to_numbers(
     program: &[u8],
     vertices: &[u32],
@@ -328,14 +241,10 @@ pub(crate) fn lowest_to_numbers(
 ) -> Reply
     ensures { LowestReplied (choice_in (edition_of edition) program.now (lent vertices.now edges.now tally)) result }
 {
-    let asked = asked_edition(edition);
-    match asked {
-        EditionAsked::Unknown => no_such_edition(),
-        EditionAsked::Known(known) => {
-            let lowest = lowest_vertex(program, vertices, edges, tally, known);
-            of_lowest(lowest)
-        }
-    }
+    let Some(known) = asked_edition(edition) else {
+        return Reason::NoSuchEdition.into();
+    };
+    lowest_vertex(program, vertices, edges, tally, known).into()
 }
 
 pub(crate) fn chain_to_numbers(
@@ -348,6 +257,5 @@ pub(crate) fn chain_to_numbers(
 ) -> Reply
     ensures { ChainReplied (show_chain (lent vertices.now edges.now tally) source target list.old) result list.new }
 {
-    let answer = chain_by_value(vertices, edges, tally, source, target, list);
-    of_chain(answer)
+    chain_by_value(vertices, edges, tally, source, target, list).into()
 }

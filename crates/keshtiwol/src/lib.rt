@@ -15,8 +15,7 @@ use crate::cores::{
     chain_to_numbers, command_by_numbers, dispatch_to_numbers, load_to_numbers, lowest_to_numbers,
     open_to_numbers, run_to_numbers, step_to_numbers,
 };
-use graph::{Command, Tally};
-use program::Edition;
+use graph::Tally;
 
 // 10,000 times the major number, 100 times the minor one, and the patch's.
 pub const VERSION: u32 = 40_201;
@@ -50,38 +49,13 @@ pub struct DispatchReply {
 
 // What the cores return: the answer, and the tally afterwards.
 #[derive(Clone, Copy)]
-pub struct ReplyDone {
-    pub answer: Reply,
+pub struct Done<A> {
+    pub answer: A,
     pub tally: Tally,
-}
-
-#[derive(Clone, Copy)]
-pub struct RunReplyDone {
-    pub answer: RunReply,
-    pub tally: Tally,
-}
-
-#[derive(Clone, Copy)]
-pub struct DispatchReplyDone {
-    pub answer: DispatchReply,
-    pub tally: Tally,
-}
-
-// A single command, if there is one.
-#[derive(Clone, Copy)]
-pub enum Asked {
-    Known(Command),
-    Unknown,
-}
-
-// An edition, if there is one.
-#[derive(Clone, Copy)]
-pub enum EditionAsked {
-    Known(Edition),
-    Unknown,
 }
 
 // The version of this library, as one number.
+#[tactic(auto, unfolding(crate::specs::Numbers::version))]
 #[unsafe(no_mangle)]
 pub extern "C" fn keshtiwol_version() -> u32
     ensures { result ≡ version }

@@ -1,175 +1,170 @@
-// The numbers that stand for an answer. `specs/Numbers.antt` has the same for the definitions; the contracts hold the two together.
+// What replies say, in numbers. `specs/Numbers.antt` has the same for the definitions; the contracts hold the two together.
 ghost use Rattle.std.specs.Prelude.{◌≡◌};
+ghost use Rattle.refusal.specs.Reasons.{number};
 ghost use Rattle.graph.specs.Answers as of_graph;
-ghost use Rattle.refusal.specs.Refusals.{no_such_edition};
-ghost use Rattle.machine.specs.Answers.{said_as};
 ghost use Rattle.chains.specs.Showing.{chain_said};
 ghost use Rattle.engine.specs.Answers.{loading_said, said, choice_of};
 ghost use Rattle.walks.specs.Answers.{ending_of, last_of, dispatch_ending_of};
-ghost use Rattle.keshtiwol.specs.Numbers.{reply_numbers, opening_numbers, loading_numbers, said_numbers, ending_numbers, last_numbers, dispatch_numbers, choice_numbers, chain_numbers, numbers};
+ghost use Rattle.keshtiwol.specs.Numbers.{reply_numbers, opening_numbers, loading_numbers, said_numbers, ending_numbers, last_numbers, dispatch_numbers, choice_numbers, chain_numbers, numbers, said_number};
 
 use crate::Reply;
-use engine::{Answer, Loading, Lowest};
-use graph::Opening;
-use refusal::NO_SUCH_EDITION;
+use engine::Answer;
+use refusal::{Reason, Refusal};
 use walks::{DispatchEnding, Ending, LastStep};
 
-pub const REFUSED: u32 = 0;
+// What a reply says, with the number that hosts know it by.
+#[derive(Clone, Copy)]
+pub enum Said {
+    Refused = 0,
+    Ready = 1,
+    Start = 2,
+    New = 3,
+    Edge = 4,
+    Release = 5,
+    Transfer = 6,
+    Job = 7,
+    Stop = 8,
+    Nothing = 9,
+    Vertex = 10,
+    Done = 11,
+    Stuck = 12,
+    Spent = 13,
+    Chain = 14,
+    Yield = 15,
+    Waiting = 16,
+    Full = 17,
+}
 
-pub const READY: u32 = 1;
-
-pub const START: u32 = 2;
-
-pub const NEW: u32 = 3;
-
-pub const EDGE: u32 = 4;
-
-pub const RELEASE: u32 = 5;
-
-pub const TRANSFER: u32 = 6;
-
-pub const JOB: u32 = 7;
-
-pub const STOP: u32 = 8;
-
-pub const NOTHING: u32 = 9;
-
-pub const VERTEX: u32 = 10;
-
-pub const DONE: u32 = 11;
-
-pub const STUCK: u32 = 12;
-
-pub const SPENT: u32 = 13;
-
-pub const CHAIN: u32 = 14;
-
-pub const YIELD: u32 = 15;
-
-pub const WAITING: u32 = 16;
-
-pub const FULL: u32 = 17;
-
-fn reply(said: u32, first: u32, second: u32) -> Reply
-    ensures { reply_numbers result ≡ numbers said first second }
-{
-    Reply {
-        said,
-        first,
-        second,
+impl Said {
+    // A reply that says this of two values.
+    fn of(self, first: u32, second: u32) -> Reply
+        ensures { reply_numbers result ≡ numbers (said_number self) first second }
+    {
+        Reply {
+            said: self as u32,
+            first,
+            second,
+        }
     }
 }
 
-// No edition has the number that was asked for.
-pub(crate) fn no_such_edition() -> Reply
-    ensures { reply_numbers result ≡ numbers 0 no_such_edition 0 }
-{
-    reply(REFUSED, NO_SUCH_EDITION, 0)
-}
+impl From<Refusal> for Reply {
+    ghost from_gives = { λ refusal reply. reply_numbers reply ≡ numbers 0 (number refusal.reason) refusal.place };
 
-// What the opening said.
-pub(crate) fn of_opening(answer: Opening) -> Reply
-    ensures { reply_numbers result ≡ opening_numbers (of_graph.opening_said answer) }
-{
-    match answer {
-        Opening::Opened => reply(READY, 0, 0),
-        Opening::Refused(refusal) => reply(REFUSED, refusal.number, refusal.place),
+    fn from(refusal: Refusal) -> Reply {
+        Said::Refused.of(refusal.reason.number(), refusal.place)
     }
 }
 
-// What loading said.
-pub(crate) fn of_loading(answer: Loading) -> Reply
-    ensures { reply_numbers result ≡ loading_numbers (loading_said answer) }
-{
-    match answer {
-        Loading::Loaded => reply(READY, 0, 0),
-        Loading::Refused(refusal) => reply(REFUSED, refusal.number, refusal.place),
+impl From<Reason> for Reply {
+    ghost from_gives = { λ reason reply. reply_numbers reply ≡ numbers 0 (number reason) 0 };
+
+    fn from(reason: Reason) -> Reply {
+        Reply::from(Refusal::from(reason))
+    }
+}
+
+// What the opening or a loading said.
+#[tactic(auto, unfolding(crate::specs::Numbers::opening_numbers, crate::specs::Numbers::loading_numbers))]
+impl From<Result<(), Refusal>> for Reply {
+    ghost from_gives = { λ answer reply. (reply_numbers reply ≡ opening_numbers (of_graph.opening_said answer)) × (reply_numbers reply ≡ loading_numbers (loading_said answer)) };
+
+    fn from(answer: Result<(), Refusal>) -> Reply {
+        match answer {
+            Ok(()) => Said::Ready.of(0, 0),
+            Err(refusal) => refusal.into(),
+        }
     }
 }
 
 // What a step said.
-pub(crate) fn of_answer(answer: Answer) -> Reply
-    ensures { reply_numbers result ≡ said_numbers (said answer) }
-{
-    match answer {
-        Answer::Start => reply(START, 0, 0),
-        Answer::New(v) => reply(NEW, v, 0),
-        Answer::Edge(a, b) => reply(EDGE, a, b),
-        Answer::Release(v) => reply(RELEASE, v, 0),
-        Answer::Transfer(v) => reply(TRANSFER, v, 0),
-        Answer::Job { number, offset } => reply(JOB, number, offset),
-        Answer::Stop => reply(STOP, 0, 0),
-        Answer::Yield => reply(YIELD, 0, 0),
-        Answer::Refused(refusal) => reply(REFUSED, refusal.number, refusal.place),
+#[tactic(auto, unfolding(crate::specs::Numbers::said_numbers))]
+impl From<Answer> for Reply {
+    ghost from_gives = { λ answer reply. reply_numbers reply ≡ said_numbers (said answer) };
+
+    fn from(answer: Answer) -> Reply {
+        match answer {
+            Answer::Start => Said::Start.of(0, 0),
+            Answer::New(vertex) => Said::New.of(vertex, 0),
+            Answer::Edge(source, target) => Said::Edge.of(source, target),
+            Answer::Release(vertex) => Said::Release.of(vertex, 0),
+            Answer::Transfer(vertex) => Said::Transfer.of(vertex, 0),
+            Answer::Job { number, offset } => Said::Job.of(number, offset),
+            Answer::Stop => Said::Stop.of(0, 0),
+            Answer::Yield => Said::Yield.of(0, 0),
+            Answer::Refused(refusal) => refusal.into(),
+        }
     }
 }
 
-// What a single command said.
-pub(crate) fn of_command(answer: graph::Answer) -> Reply
-    ensures { reply_numbers result ≡ said_numbers (said_as (of_graph.said answer)) }
-{
-    match answer {
-        graph::Answer::Start => reply(START, 0, 0),
-        graph::Answer::New(v) => reply(NEW, v, 0),
-        graph::Answer::Edge(a, b) => reply(EDGE, a, b),
-        graph::Answer::Release(v) => reply(RELEASE, v, 0),
-        graph::Answer::Transfer(v) => reply(TRANSFER, v, 0),
-        graph::Answer::Stop => reply(STOP, 0, 0),
-        graph::Answer::Yield => reply(YIELD, 0, 0),
-        graph::Answer::Refused(refusal) => reply(REFUSED, refusal.number, refusal.place),
+// How a run ended.
+#[tactic(auto, unfolding(crate::specs::Numbers::ending_numbers))]
+impl From<Ending> for Reply {
+    ghost from_gives = { λ ending reply. reply_numbers reply ≡ ending_numbers (ending_of ending) };
+
+    fn from(ending: Ending) -> Reply {
+        match ending {
+            Ending::Done => Said::Done.of(0, 0),
+            Ending::Stuck => Said::Stuck.of(0, 0),
+            Ending::Spent => Said::Spent.of(0, 0),
+            Ending::Refused(refusal) => refusal.into(),
+        }
     }
 }
 
-pub(crate) fn of_ending(ending: Ending) -> Reply
-    ensures { reply_numbers result ≡ ending_numbers (ending_of ending) }
-{
-    match ending {
-        Ending::Done => reply(DONE, 0, 0),
-        Ending::Stuck => reply(STUCK, 0, 0),
-        Ending::Spent => reply(SPENT, 0, 0),
-        Ending::Refused(refusal) => reply(REFUSED, refusal.number, refusal.place),
+// Its last step.
+#[tactic(auto, unfolding(crate::specs::Numbers::last_numbers))]
+impl From<LastStep> for Reply {
+    ghost from_gives = { λ last reply. reply_numbers reply ≡ last_numbers (last_of last) };
+
+    fn from(last: LastStep) -> Reply {
+        match last {
+            LastStep::NoStep => Said::Nothing.of(0, 0),
+            LastStep::Step(answer) => answer.into(),
+        }
     }
 }
 
 // How a dispatch ended.
-pub(crate) fn of_dispatch(ending: DispatchEnding) -> Reply
-    ensures { reply_numbers result ≡ dispatch_numbers (dispatch_ending_of ending) }
-{
-    match ending {
-        DispatchEnding::Done => reply(DONE, 0, 0),
-        DispatchEnding::Stuck => reply(STUCK, 0, 0),
-        DispatchEnding::Waiting => reply(WAITING, 0, 0),
-        DispatchEnding::Full => reply(FULL, 0, 0),
-        DispatchEnding::Spent => reply(SPENT, 0, 0),
-        DispatchEnding::Refused(refusal) => reply(REFUSED, refusal.number, refusal.place),
+#[tactic(auto, unfolding(crate::specs::Numbers::dispatch_numbers))]
+impl From<DispatchEnding> for Reply {
+    ghost from_gives = { λ ending reply. reply_numbers reply ≡ dispatch_numbers (dispatch_ending_of ending) };
+
+    fn from(ending: DispatchEnding) -> Reply {
+        match ending {
+            DispatchEnding::Done => Said::Done.of(0, 0),
+            DispatchEnding::Stuck => Said::Stuck.of(0, 0),
+            DispatchEnding::Waiting => Said::Waiting.of(0, 0),
+            DispatchEnding::Full => Said::Full.of(0, 0),
+            DispatchEnding::Spent => Said::Spent.of(0, 0),
+            DispatchEnding::Refused(refusal) => refusal.into(),
+        }
     }
 }
 
-pub(crate) fn of_last(last: LastStep) -> Reply
-    ensures { reply_numbers result ≡ last_numbers (last_of last) }
-{
-    match last {
-        LastStep::NoStep => reply(NOTHING, 0, 0),
-        LastStep::Step(answer) => of_answer(answer),
-    }
-}
+// The lowest vertex that can step.
+#[tactic(auto, unfolding(crate::specs::Numbers::choice_numbers))]
+impl From<Result<Option<u32>, Refusal>> for Reply {
+    ghost from_gives = { λ lowest reply. reply_numbers reply ≡ choice_numbers (choice_of lowest) };
 
-pub(crate) fn of_lowest(lowest: Lowest) -> Reply
-    ensures { reply_numbers result ≡ choice_numbers (choice_of lowest) }
-{
-    match lowest {
-        Lowest::Vertex(v) => reply(VERTEX, v, 0),
-        Lowest::NoVertex => reply(NOTHING, 0, 0),
-        Lowest::Refused(refusal) => reply(REFUSED, refusal.number, refusal.place),
+    fn from(lowest: Result<Option<u32>, Refusal>) -> Reply {
+        match lowest {
+            Ok(Some(vertex)) => Said::Vertex.of(vertex, 0),
+            Ok(None) => Said::Nothing.of(0, 0),
+            Err(refusal) => refusal.into(),
+        }
     }
 }
 
 // How many vertices a chain has.
-pub(crate) fn of_chain(answer: chains::Answer) -> Reply
-    ensures { reply_numbers result ≡ chain_numbers (chain_said answer) }
-{
-    match answer {
-        chains::Answer::Chain(vertices) => reply(CHAIN, vertices, 0),
-        chains::Answer::Refused(refusal) => reply(REFUSED, refusal.number, refusal.place),
+#[tactic(auto, unfolding(crate::specs::Numbers::chain_numbers))]
+impl From<Result<u32, Refusal>> for Reply {
+    ghost from_gives = { λ answer reply. reply_numbers reply ≡ chain_numbers (chain_said answer) };
+
+    fn from(answer: Result<u32, Refusal>) -> Reply {
+        match answer {
+            Ok(vertices) => Said::Chain.of(vertices, 0),
+            Err(refusal) => refusal.into(),
+        }
     }
 }

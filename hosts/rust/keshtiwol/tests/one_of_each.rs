@@ -14,9 +14,36 @@ fn list(text: &str, before: &str, between: &str) -> List {
     text.lines().filter_map(entry).collect()
 }
 
+/// `SuchAName` in capitals: `SUCH_A_NAME`.
+fn capitals(name: &str) -> String {
+    let mut capitals = String::new();
+    for letter in name.chars() {
+        if letter.is_uppercase() && !capitals.is_empty() {
+            capitals.push('_');
+        }
+        capitals.extend(letter.to_uppercase());
+    }
+    capitals
+}
+
+/// What stands in the code's braces behind this line.
+fn braces<'a>(code: &'a str, line: &str) -> &'a str {
+    let (_, inside) = code.split_once(line).unwrap();
+    inside.split_once("\n}").unwrap().0
+}
+
+/// The reasons, with their numbers: lines of the form `Name = NUMBER,`.
+fn reasons(code: &str) -> List {
+    let reason = |line: &str| {
+        let (name, number) = line.trim().strip_suffix(',')?.split_once(" = ")?;
+        Some((capitals(name), number.parse().ok()?))
+    };
+    braces(code, "pub enum Reason {").lines().filter_map(reason).collect()
+}
+
 #[test]
 fn one_list_of_refusals() {
-    let code = list(include_str!("../../../../crates/refusal/src/lib.rt"), "pub const ", ": u32 = ");
+    let code = reasons(include_str!("../../../../crates/refusal/src/lib.rt"));
     let definitions = list(include_str!("../../../../crates/refusal/specs/Refusals.antt"), "", " = ");
     let wrapper = list(include_str!("../src/refusal.rs"), "pub const ", ": u32 = ");
     let header = include_str!("../../../../include/keshtiwol.h");
@@ -29,7 +56,7 @@ fn one_list_of_refusals() {
     assert_eq!(code, wrapper);
 }
 
-/// The header's words and this crate's, and no words for a number that no refusal has.
+/// The code's words, the header's and this crate's, and no words for a number that no refusal has.
 #[test]
 fn one_text_for_each_refusal() {
     let header = include_str!("../../../../include/keshtiwol.h");
@@ -44,6 +71,14 @@ fn one_text_for_each_refusal() {
     for number in (0..200).chain([u32::MAX]) {
         assert_eq!(keshtiwol::refusal::text(number), *texts.get(&number).unwrap_or(&"unknown"), "{number}");
     }
+    let code = include_str!("../../../../crates/refusal/src/lib.rt");
+    let numbers = reasons(code);
+    let mut said = BTreeMap::new();
+    for case in braces(code, "impl fmt::Display for Reason {").split("Reason::").skip(1) {
+        let (name, text) = case.split_once(" =>").unwrap();
+        said.insert(numbers[&capitals(name)], text.split('"').nth(1).unwrap());
+    }
+    assert_eq!(said, texts);
 }
 
 /// Of the archive, of this crate, of the header, and the newest in the list of changes.

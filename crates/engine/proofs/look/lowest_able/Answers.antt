@@ -1,14 +1,12 @@
--- Each vertex that cannot step is passed.
-use Rattle.engine.proofs.LowestLaws.{lowest_this, lowest_none}
+-- The first vertex that can step is the lowest.
+use Rattle.std.proofs.Common.{rules}
+use Rattle.std.proofs.lemmas.Iterator.{first_from_Range}
+use Rattle.graph.specs.OfTables.{lent_of}
+use Rattle.engine.proofs.LowestLaws.{Can, Cannot, first_is}
 use Rattle.engine.proofs.look.lowest_able.Goals as goal
 
-pub can_step-requires : goal.can_step-requires
-can_step-requires c =
-    let pre = c.requires in
-    (pre.0, pre.1, pre.2, c.loop-v-test.true)
-
-pub returns-then-can_step : goal.returns-then-can_step
-returns-then-can_step c = lowest_this _ _ _ _ c.loop-v-test.true c.loop-v.invariant.1 c.can_step.ensures c.if-can_step.true
-
 pub returns : goal.returns
-returns c = lowest_none _ _ _ _ c.loop-v-test.false c.loop-v.invariant.1
+returns c =
+    first_is _ _ _ c.find.result
+    (first_from_Range _ _ _ c.find.result (Can c.args.program.now.edition c.args.program.now.bytes.now (lent_of c.args.tables.now))
+    (Cannot c.args.program.now.edition c.args.program.now.bytes.now (lent_of c.args.tables.now)) c.find.ensures.ran (λ x q k. search rules) (λ x q k. search rules))
