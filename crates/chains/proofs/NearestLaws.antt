@@ -4,7 +4,7 @@ use Prim.Native.Nat.{ℕ, suc, ◌+◌, ◌-◌, ◌<◌, ◌≤◌}
 use mathlib.Core.Path.{◌≡◌, refl, sym, ◌∙◌, ap, subst}
 use mathlib.Core.Bool.{true, false}
 use mathlib.Core.Logic.{⊎_elim}
-use mathlib.Core.List.{List}
+use mathlib.Core.List.{List, []}
 use native.Mathlib.Numerals.{add-one}
 use native.Mathlib.Omega.{arith}
 use lib.ListN.{length, get_or, set, length-set, length-replicate, get_or-replicate}
@@ -12,8 +12,9 @@ use lib.Seq.{get_or-set_same, get_or-set_other}
 use lib.Dec.{eqb, ltb}
 use borrow.Author.Tests.{eq-eqb, ne_eqb, eqb-true, lt-ltb, le-ltb}
 use Rattle.graph.specs.Tests.{both}
-use Rattle.graph.specs.Tables.{source, target}
+use Rattle.graph.specs.Tables.{edge_words, source, target}
 use Rattle.graph.specs.Paths.{holds}
+use Rattle.graph.specs.Internal.FirstRows.{FirstRows}
 use Rattle.graph.specs.Internal.Search.{search_limit}
 use Rattle.graph.proofs.TestLaws.{same, equal?, at_end, both_true, both_right, both-false_left, both-false_right}
 use Rattle.graph.proofs.PathLaws.{held_row, holds_at, holds_less, holds_more}
@@ -47,6 +48,12 @@ module _ (m : List ℕ) (to a x : ℕ) where
 
 pub none_long : {l : List ℕ} → l ≡ none_nearer → length l ≡ search_limit
 none_long h = ap length h ∙ length-replicate {A = ℕ} search_limit search_limit
+
+-- the words of a row that is at hand
+pub row_at :
+    {e : List ℕ} {n i : ℕ} {rows : List (List ℕ)} → FirstRows edge_words e n rows → i < length rows
+    → (i < n) × (get_or (get_or rows i []) 0 0 ≡ source e i) × (get_or (get_or rows i []) 1 0 ≡ target e i)
+row_at {i = i} are lt = let below = are.count in (omega arith, are.word i 0 (omega arith) (omega arith), are.word i 1 (omega arith) (omega arith))
 
 -- no row was looked at
 pub nearest_none : (e : List ℕ) (to : ℕ) (m : List ℕ) → Nearest e 0 to m none_nearer
@@ -121,6 +128,14 @@ module _ (e : List ℕ) (i to : ℕ) (m near : List ℕ) (h : Nearest e i to m n
           (λ p. subst (λ (y : ℕ). get_or put y 0 ≤ x) (sym p) (let w = subst (λ (y : ℕ). get_or near y 0 ≤ x) p was in omega (arith, here)))
           (λ ne. omega (arith, there a ne))
           (equal? a (source e i))
+
+-- the same of words that are the row's
+module _ (e : List ℕ) (i to : ℕ) (m near : List ℕ) (h : Nearest e i to m near) {a b : ℕ} (from : a ≡ source e i) (into : b ≡ target e i) where
+  pub row_same : get_or near a 0 ≤ b → Nearest e (i + 1) to m near
+  row_same le = nearest_same e i to m near h (λ z. rw (← from, ← into) le)
+
+  pub row_put : is_nearer m to a b ≡ true → b < get_or near a 0 → source e i < search_limit → Nearest e (i + 1) to m (set near a b)
+  row_put nearer lower lt = rw (from, into) (nearest_put e i to m near h (rw (← from, ← into) nearer) (rw (← from, ← into) lower) lt)
 
 pub nearest_all : (e : List ℕ) (n i to : ℕ) (m near : List ℕ) → i ≤ n → n ≤ i → Nearest e i to m near → Nearest e n to m near
 nearest_all e n i to m near p q = at_end (λ k. Nearest e k to m near) p q

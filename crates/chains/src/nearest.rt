@@ -4,7 +4,7 @@ ghost use Rattle.std.specs.Prelude.{◌≡◌, ◌++◌, ◌+◌, ◌<◌, lengt
 ghost use Rattle.graph.specs.Internal.Search.{search_limit, Rows};
 ghost use Rattle.chains.specs.Internal.Walk.{is_nearer, none_nearer, Nearest, walk, Walkable};
 
-use graph::rows::{EDGE_WORDS, SOURCE, TARGET};
+use graph::rows::{EDGE_WORDS, SOURCE, TARGET, first_rows};
 
 // By their distances to `to`, `target` is one edge nearer than `source`. The distance of `to` itself is 0, whatever stands there.
 fn is_nearer(distances: &[u32], to: u32, source: u32, target: u32) -> bool
@@ -17,10 +17,7 @@ fn is_nearer(distances: &[u32], to: u32, source: u32, target: u32) -> bool
         return far == 1;
     }
     let near = distances[target as usize];
-    if near == 0 {
-        return false;
-    }
-    if far <= near {
+    if near == 0 || far <= near {
         return false;
     }
     far - near == 1
@@ -40,21 +37,21 @@ pub(crate) fn find_nearest(
     requires nearest_value { nearest.old ≡ none_nearer }
     ensures { Nearest edges.now held to distances.now nearest.new }
 {
-    for i in 0..held {
-        let source = edges[EDGE_WORDS * i + SOURCE];
-        let target = edges[EDGE_WORDS * i + TARGET];
+    for row in first_rows::<EDGE_WORDS>(edges, held) {
+        let source = row[SOURCE];
+        let target = row[TARGET];
         if !is_nearer(distances, to, source, target) {
             continue;
         }
-        let row = source as usize;
-        if nearest[row] <= target {
+        if nearest[source as usize] <= target {
             continue;
         }
-        nearest[row] = target;
+        nearest[source as usize] = target;
     }
 }
 
-// Writes the vertices from `from` on, `links` times on to the nearest, into the front of `list`.
+// Writes the vertices from `from` on, `links` times on to the nearest, into the front of `list`. Its words are counted, since the count is also the
+// place of the last vertex.
 pub(crate) fn write_walk(nearest: &[u32], links: usize, from: u32, list: &mut [u32])
     requires nearest_len { (length nearest.now ≡ search_limit) × Walkable nearest.now links from }
     requires links_in_bounds { links < length list.old }

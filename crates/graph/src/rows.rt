@@ -68,7 +68,7 @@ pub fn edge_rows(edges: &[u32]) -> usize
 }
 
 // The first `count` rows of so many words.
-pub(crate) fn first_rows<const WORDS: usize>(table: &[u32], count: usize) -> &[[u32; WORDS]]
+pub fn first_rows<const WORDS: usize>(table: &[u32], count: usize) -> &[[u32; WORDS]]
     requires { (0 < WORDS) × (WORDS * count ≤ length table.now) }
     ensures { FirstRows WORDS table.now count result.now }
 {
