@@ -4,7 +4,6 @@ ghost use Rattle.std.specs.Prelude.{◌≡◌, length};
 
 use cases::draw::{Draw, begin};
 use cases::{number, sum, text};
-use chains::Answer;
 use chains::showing::chain_by_value;
 use graph::Tally;
 use graph::rows::{EDGE_WORDS, NEW, STATUS, VERTEX_WORDS};
@@ -112,7 +111,7 @@ fn asked(
 ) -> u32 {
     let answer = chain_by_value(vertices, edges, tally, source, target, list);
     match answer {
-        Answer::Chain(vertices) => vertices,
-        Answer::Refused(refusal) => 100 + refusal.number % 100,
+        Ok(vertices) => vertices,
+        Err(refusal) => 100 + refusal.reason.number() % 100,
     }
 }

@@ -1,13 +1,13 @@
 // Asks for a chain, and writes what was answered and what the list then holds.
 use cases::{number, refused, sum, text};
-use chains::Answer;
 use chains::showing::chain_by_value;
 use graph::Tally;
+use refusal::Refusal;
 
-pub(crate) fn answer(said: Answer) {
+pub(crate) fn answer(said: Result<u32, Refusal>) {
     match said {
-        Answer::Chain(vertices) => number(b"chain ", vertices),
-        Answer::Refused(refusal) => refused(refusal.number, refusal.place),
+        Ok(vertices) => number(b"chain ", vertices),
+        Err(refusal) => refused(refusal.reason.number(), refusal.place),
     }
 }
 

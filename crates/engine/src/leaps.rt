@@ -2,18 +2,16 @@
 // costs less than following every word from each.
 ghost use Rattle.std.specs.Prelude.{◌≡◌, ◌+◌, ◌*◌, ◌<◌, ◌≤◌, length};
 ghost use Rattle.graph.specs.Tables.{usable_limit, vertex_words};
-ghost use Rattle.program.specs.Limits.{program_bytes};
-ghost use Rattle.program.specs.Located.{MarksEnds};
 ghost use Rattle.engine.specs.Answers.{due_of, vertex_of};
 ghost use Rattle.engine.specs.Internal.Underway.{DueThere};
 ghost use Rattle.engine.specs.Internal.Leaping as leaping;
 ghost use Rattle.engine.specs.Internal.Leaping.{HopsAt, Leaps, Within, LeadsTo, LeapsTo, SameBelow, EightTold};
 
 use crate::Due;
-use crate::next::{by_item, force_edge, open_future, own_words};
+use crate::next::{Executing, open_future, own_words};
 use graph::rows::{FUTURE, SCOPE, USABLE_LIMIT, VERTEX_WORDS};
-use program::items::item_for_looks;
-use program::{Edition, ItemRead};
+use program::ItemRead;
+use program::marked::MarkedProgram;
 
 // A table's word where none is open.
 const NONE_OPEN: u32 = 0;
@@ -21,27 +19,30 @@ const NONE_OPEN: u32 = 0;
 // Three tables one behind the other, with a word for each vertex: where one hop, eight and sixty-four lead.
 pub const LEAP_WORDS: usize = 3 * USABLE_LIMIT;
 
-// What is due at a step of a vertex that executes, in a program whose ends these are, where these are the leaps.
+// What is due at a step of a vertex that executes, where these are the leaps.
 pub fn leaping_due(
-    program: &[u8],
-    ends: &[u16],
+    program: &MarkedProgram,
     vertices: &[u32],
     leaps: &[u32],
     made: u32,
-    edition: Edition,
     vertex: u32,
 ) -> Due
-    requires { MarksEnds edition program.now ends.now × (length ends.now ≡ program_bytes) × (vertex < made) × (vertex_words * made ≤ length vertices.now) × Leaps vertices.now made leaps.now }
-    ensures { DueThere edition program.now vertices.now made vertex (due_of result) }
+    requires { (vertex < made) × (vertex_words * made ≤ length vertices.now) × Leaps vertices.now made leaps.now }
+    ensures { DueThere program.now.edition program.now.bytes.now vertices.now made vertex (due_of result) }
 {
     let own = own_words(vertices, vertex as usize);
-    let scope = vertices[VERTEX_WORDS * (vertex as usize) + SCOPE];
-    let item = item_for_looks(program, ends, edition, own.place);
+    let at = Executing {
+        vertex,
+        scope: vertices[VERTEX_WORDS * (vertex as usize) + SCOPE],
+        own,
+        made,
+    };
+    let item = program.item_for_looks(own.place);
     match item {
         ItemRead::Force { number, .. } if own.phase == 1 => {
-            force_edge(vertex, own, leapt(leaps, made, own.latest, number))
+            at.force_edge(leapt(leaps, made, own.latest, number))
         }
-        _ => by_item(program, item, vertices, edition, vertex, scope, own, made),
+        _ => at.by_item(program.bytes, item, vertices, program.edition),
     }
 }
 

@@ -4,8 +4,6 @@ ghost use Rattle.graph.specs.Tables.{lent, vertex_words};
 ghost use Rattle.graph.specs.OfTables.{lent_of};
 ghost use Rattle.graph.specs.Commands.{command};
 ghost use Rattle.graph.specs.Answers as of_graph;
-ghost use Rattle.program.specs.Limits.{program_bytes};
-ghost use Rattle.program.specs.Located.{MarksEnds};
 ghost use Rattle.machine.specs.Stepping.{step_limit};
 ghost use Rattle.machine.specs.Running.{can_step, lowest, choice};
 ghost use Rattle.engine.specs.Answers.{due_of, choice_of, vertex_of};
@@ -20,6 +18,7 @@ use graph::{Command, Tally};
 use program::Edition;
 use program::ends::mark_ends;
 use program::format::PROGRAM_BYTES;
+use program::marked::MarkedProgram;
 use refusal::{Reason, Refusal};
 
 // The lowest vertex whose step would be accepted.
@@ -42,27 +41,26 @@ pub fn lowest_vertex(
     };
     let mut ends = [0u16; PROGRAM_BYTES];
     mark_ends(program, edition, &mut ends);
-    Ok(lowest_able(program, &ends, &tables, edition))
+    let program = MarkedProgram {
+        bytes: program,
+        ends: &ends,
+        edition,
+    };
+    Ok(lowest_able(&program, &tables))
 }
 
-// The lowest vertex that can step, on tables that take steps, in a program whose ends these are.
-fn lowest_able(program: &[u8], ends: &[u16], tables: &SoundTables, edition: Edition) -> Option<u32>
-    requires { MarksEnds edition program.now ends.now × (length ends.now ≡ program_bytes) × (tables.now.tally.steps < step_limit) }
-    ensures { vertex_of result ≡ lowest edition program.now (lent_of tables.now) }
+// The lowest vertex that can step, on tables that take steps.
+fn lowest_able(program: &MarkedProgram, tables: &SoundTables) -> Option<u32>
+    requires { tables.now.tally.steps < step_limit }
+    ensures { vertex_of result ≡ lowest program.now.edition program.now.bytes.now (lent_of tables.now) }
 {
-    (0..tables.tally.made).find(|&v| can_step(program, ends, tables, edition, v))
+    (0..tables.tally.made).find(|&v| can_step(program, tables, v))
 }
 
 // A vertex can step: it may start, or it executes and what is due would be accepted.
-fn can_step(
-    program: &[u8],
-    ends: &[u16],
-    tables: &SoundTables,
-    edition: Edition,
-    vertex: u32,
-) -> bool
-    requires { MarksEnds edition program.now ends.now × (length ends.now ≡ program_bytes) × (tables.now.tally.steps < step_limit) × (vertex < tables.now.tally.made) }
-    ensures { result ≡ can_step edition program.now (lent_of tables.now) vertex }
+fn can_step(program: &MarkedProgram, tables: &SoundTables, vertex: u32) -> bool
+    requires { (tables.now.tally.steps < step_limit) × (vertex < tables.now.tally.made) }
+    ensures { result ≡ can_step program.now.edition program.now.bytes.now (lent_of tables.now) vertex }
 {
     let vertices = tables.vertices;
     if may_start(vertices, vertex as usize) {
@@ -71,7 +69,7 @@ fn can_step(
     vertices[VERTEX_WORDS * (vertex as usize) + STATUS] == EXECUTING
         && would_take(
             tables,
-            ended_due(program, ends, vertices, tables.tally.made, edition, vertex),
+            ended_due(program, vertices, tables.tally.made, vertex),
         )
 }
 

@@ -2,10 +2,9 @@
 ghost use Rattle.std.specs.Prelude.{◌≡◌, false, ◌+◌, ◌*◌, ◌<◌, ◌≤◌, length, IfSome};
 ghost use Rattle.graph.specs.Tables.{lent, vertex_words};
 ghost use Rattle.graph.specs.declared.Command.TheVariants.{NewTd, NewEdge, Release, Transfer, Yield};
-ghost use Rattle.program.specs.Limits.{program_bytes};
 ghost use Rattle.program.specs.declared.Edition.TheVariants.{First, Second};
 ghost use Rattle.program.specs.Answers.{Stands, stands};
-ghost use Rattle.program.specs.Located.{item_at, MarksEnds};
+ghost use Rattle.program.specs.Located.{item_at};
 ghost use Rattle.machine.specs.Stepping as machine;
 ghost use Rattle.machine.specs.Stepping.{steppable, start_due, due};
 ghost use Rattle.engine.specs.Answers.{own_words, due_of, vertex_of};
@@ -18,7 +17,8 @@ use graph::rows::{
 };
 use graph::sound::{is_sound, tally_fits};
 use graph::{Command, Tally};
-use program::items::{item_at, item_for_looks};
+use program::items::item_at;
+use program::marked::MarkedProgram;
 use program::{Edition, ItemRead};
 use refusal::Reason;
 
@@ -57,17 +57,14 @@ pub(crate) fn next_due(
     if vertices[at + STATUS] == FINISHED {
         return Due::Refused(Reason::VertexIsFinished);
     }
-    let own = own_words(vertices, vertex as usize);
-    by_item(
-        program,
-        item_at(program, edition, own.place),
-        vertices,
-        edition,
+    let at = Executing {
         vertex,
-        vertices[at + SCOPE],
-        own,
-        tally.made,
-    )
+        scope: vertices[at + SCOPE],
+        own: own_words(vertices, vertex as usize),
+        made: tally.made,
+    };
+    let item = item_at(program, edition, at.own.place);
+    at.by_item(program, item, vertices, edition)
 }
 
 // A start is due: only the tally and the vertex's own row are looked at.
@@ -89,29 +86,19 @@ pub fn is_steppable(vertices: &[u32], edges: &[u32], tally: Tally) -> bool
     tally.steps < STEP_LIMIT && is_sound(vertices, edges, tally)
 }
 
-// What is due at a step of a vertex that executes, in a program whose ends these are.
-pub fn ended_due(
-    program: &[u8],
-    ends: &[u16],
-    vertices: &[u32],
-    made: u32,
-    edition: Edition,
-    vertex: u32,
-) -> Due
-    requires { MarksEnds edition program.now ends.now × (length ends.now ≡ program_bytes) × (vertex < made) × (vertex_words * made ≤ length vertices.now) }
-    ensures { DueThere edition program.now vertices.now made vertex (due_of result) }
+// What is due at a step of a vertex that executes, by the ends of the program's bodies.
+pub fn ended_due(program: &MarkedProgram, vertices: &[u32], made: u32, vertex: u32) -> Due
+    requires { (vertex < made) × (vertex_words * made ≤ length vertices.now) }
+    ensures { DueThere program.now.edition program.now.bytes.now vertices.now made vertex (due_of result) }
 {
-    let own = own_words(vertices, vertex as usize);
-    by_item(
-        program,
-        item_for_looks(program, ends, edition, own.place),
-        vertices,
-        edition,
+    let at = Executing {
         vertex,
-        vertices[VERTEX_WORDS * (vertex as usize) + SCOPE],
-        own,
+        scope: vertices[VERTEX_WORDS * (vertex as usize) + SCOPE],
+        own: own_words(vertices, vertex as usize),
         made,
-    )
+    };
+    let item = program.item_for_looks(at.own.place);
+    at.by_item(program.bytes, item, vertices, program.edition)
 }
 
 #[tactic(auto, using(crate::proofs::DueLaws::own_there))]
@@ -130,258 +117,228 @@ pub fn own_words(vertices: &[u32], vertex: usize) -> Own
     }
 }
 
-// What is due at the step of an executing vertex with these words, where so many vertices are made, and this stands at its place.
-pub(crate) fn by_item(
-    program: &[u8],
-    item: ItemRead,
-    vertices: &[u32],
-    edition: Edition,
-    vertex: u32,
-    scope: u32,
-    own: Own,
-    made: u32,
-) -> Due
-    requires { (stands item ≡ item_at edition program.now own.place) × (vertex_words * made ≤ length vertices.now) }
-    ensures { Next edition program.now vertices.now vertex scope (own_words own) made (due_of result) }
-{
-    match item {
-        ItemRead::Refused(_) => Due::Refused(Reason::NothingStarts),
-        ItemRead::End { .. } => end_next(vertex, own),
-        ItemRead::Job { number, past } => job_next(vertex, own, number, past.place),
-        ItemRead::Async { body, past } => async_next(vertex, scope, own, made, body, past.place),
-        ItemRead::Finish { body, past } => {
-            finish_next(
-                vertex,
-                scope,
-                own,
-                made,
-                body,
-                past.place,
-                (program.len() - 1) as u32,
-            )
-        }
-        ItemRead::Fork { left, right, past } => match edition {
-            Edition::First => fork_next(
-                vertex,
-                scope,
-                own,
-                made,
-                left,
-                right,
-                past.place,
-                (program.len() - 1) as u32,
-            ),
-            Edition::Second => yielding_fork_next(
-                vertex, scope, own, made, left, right, past.place,
-            ),
-        },
-        ItemRead::Future { body, past } => {
-            future_next(
-                vertex,
-                scope,
-                own,
-                made,
-                body,
-                past.place,
-                (program.len() - 1) as u32,
-            )
-        }
-        ItemRead::Force { number, past } => {
-            force_next(
-                vertices,
-                vertex,
-                scope,
-                own,
-                made,
-                number,
-                past.place,
-                (program.len() - 1) as u32,
-            )
+// A vertex that executes: its scope, its own words, and how many vertices are made. Each method tells what is due at its step, where this stands at its
+// place.
+#[derive(Clone, Copy)]
+pub struct Executing {
+    pub vertex: u32,
+    pub scope: u32,
+    pub own: Own,
+    pub made: u32,
+}
+
+impl Executing {
+    // By what stands there. It is compiled into its callers, the loop of a walk among them: there what is due is never written to memory.
+    #[inline(always)]
+    pub fn by_item(self, program: &[u8], item: ItemRead, vertices: &[u32], edition: Edition) -> Due
+        requires { (stands item ≡ item_at edition program.now self.own.place) × (vertex_words * self.made ≤ length vertices.now) }
+        ensures { Next edition program.now vertices.now self.vertex self.scope (own_words self.own) self.made (due_of result) }
+    {
+        match item {
+            ItemRead::Refused(_) => Due::Refused(Reason::NothingStarts),
+            ItemRead::End { .. } => self.end_next(),
+            ItemRead::Job { number, past } => self.job_next(number, past.place),
+            ItemRead::Async { body, past } => self.async_next(body, past.place),
+            ItemRead::Finish { body, past } => {
+                self.finish_next(body, past.place, (program.len() - 1) as u32)
+            }
+            ItemRead::Fork { left, right, past } => match edition {
+                Edition::First => self.fork_next(
+                    left,
+                    right,
+                    past.place,
+                    (program.len() - 1) as u32,
+                ),
+                Edition::Second => self.yielding_fork_next(left, right, past.place),
+            },
+            ItemRead::Future { body, past } => {
+                self.future_next(body, past.place, (program.len() - 1) as u32)
+            }
+            ItemRead::Force { number, past } => {
+                self.force_next(vertices, number, past.place, (program.len() - 1) as u32)
+            }
         }
     }
-}
 
-// At an end byte: stop, which moves nothing.
-#[tactic(auto, using(crate::proofs::NextLaws::end_due))]
-pub fn end_next(vertex: u32, own: Own) -> Due
-    ensures { EndNext vertex (own_words own) (due_of result) }
-{
-    if own.phase != 0 {
-        return Due::Refused(Reason::NothingStarts);
+    // At an end byte: stop, which moves nothing.
+    #[tactic(auto, using(crate::proofs::NextLaws::end_due))]
+    pub fn end_next(self) -> Due
+        ensures { EndNext self.vertex (own_words self.own) (due_of result) }
+    {
+        let Self { vertex, own, .. } = self;
+        if own.phase != 0 {
+            return Due::Refused(Reason::NothingStarts);
+        }
+        Due::Command {
+            command: Command::Stop { caller: vertex },
+            own,
+        }
     }
-    Due::Command {
-        command: Command::Stop { caller: vertex },
-        own,
-    }
-}
 
-// A job: one step that names it; then past the item.
-#[tactic(auto, using(crate::proofs::NextLaws::job_due_laws))]
-pub fn job_next(vertex: u32, own: Own, number: u32, past: u32) -> Due
-    ensures { JobNext vertex (own_words own) number past (due_of result) }
-{
-    if own.phase != 0 {
-        return Due::Refused(Reason::NothingStarts);
+    // A job: one step that names it; then past the item.
+    #[tactic(auto, using(crate::proofs::NextLaws::job_due_laws))]
+    pub fn job_next(self, number: u32, past: u32) -> Due
+        ensures { JobNext self.vertex (own_words self.own) number past (due_of result) }
+    {
+        let Self { own, .. } = self;
+        if own.phase != 0 {
+            return Due::Refused(Reason::NothingStarts);
+        }
+        Due::Job {
+            number,
+            offset: own.place,
+            own: idle(past, own.latest),
+        }
     }
-    Due::Job {
-        number,
-        offset: own.place,
-        own: idle(past, own.latest),
-    }
-}
 
-// An async: newTd m1 (its body, own scope); newEdge m1 to own scope; release m1; then past the item.
-#[tactic(auto, using(crate::proofs::NextLaws::async_due))]
-pub fn async_next(vertex: u32, scope: u32, own: Own, made: u32, body: u32, past: u32) -> Due
-    ensures { AsyncNext vertex scope (own_words own) made body past (due_of result) }
-{
-    match own.phase {
-        0 => new_td(vertex, body, scope, keeping(own, 0, made)),
-        1 => new_edge(vertex, own.first, scope, onward(own)),
-        2 => release(vertex, own.first, idle(past, own.latest)),
-        _ => Due::Refused(Reason::NothingStarts),
+    // An async: newTd m1 (its body, own scope); newEdge m1 to own scope; release m1; then past the item.
+    #[tactic(auto, using(crate::proofs::NextLaws::async_due))]
+    pub fn async_next(self, body: u32, past: u32) -> Due
+        ensures { AsyncNext self.vertex self.scope (own_words self.own) self.made body past (due_of result) }
+    {
+        let Self {
+            vertex,
+            scope,
+            own,
+            made,
+        } = self;
+        match own.phase {
+            0 => new_td(vertex, body, scope, keeping(own, 0, made)),
+            1 => new_edge(vertex, own.first, scope, onward(own)),
+            2 => release(vertex, own.first, idle(past, own.latest)),
+            _ => Due::Refused(Reason::NothingStarts),
+        }
     }
-}
 
-// A finish: newTd m1 (past the item, own scope); newTd m2 (its body, scope m1); newEdge m2 to m1; transfer to m1; release m1; release
-// m2; then the last byte.
-#[tactic(auto, using(crate::proofs::NextLaws::finish_due))]
-pub fn finish_next(
-    vertex: u32,
-    scope: u32,
-    own: Own,
-    made: u32,
-    body: u32,
-    past: u32,
-    last: u32,
-) -> Due
-    ensures { AlikeAt last vertex scope (own_words own) made (Stands.finish body past) (due_of result) }
-{
-    match own.phase {
-        0 => new_td(vertex, past, scope, keeping(own, 0, made)),
-        1 => new_td(vertex, body, own.first, keeping(own, 1, made)),
-        2 => new_edge(vertex, own.second, own.first, onward(own)),
-        3 => transfer(vertex, own.first, onward(own)),
-        4 => release(vertex, own.first, onward(own)),
-        5 => release(vertex, own.second, idle(last, own.latest)),
-        _ => Due::Refused(Reason::NothingStarts),
+    // A finish: newTd m1 (past the item, own scope); newTd m2 (its body, scope m1); newEdge m2 to m1; transfer to m1; release m1; release
+    // m2; then the last byte.
+    #[tactic(auto, using(crate::proofs::NextLaws::finish_due))]
+    pub fn finish_next(self, body: u32, past: u32, last: u32) -> Due
+        ensures { AlikeAt last self.vertex self.scope (own_words self.own) self.made (Stands.finish body past) (due_of result) }
+    {
+        let Self {
+            vertex,
+            scope,
+            own,
+            made,
+        } = self;
+        match own.phase {
+            0 => new_td(vertex, past, scope, keeping(own, 0, made)),
+            1 => new_td(vertex, body, own.first, keeping(own, 1, made)),
+            2 => new_edge(vertex, own.second, own.first, onward(own)),
+            3 => transfer(vertex, own.first, onward(own)),
+            4 => release(vertex, own.first, onward(own)),
+            5 => release(vertex, own.second, idle(last, own.latest)),
+            _ => Due::Refused(Reason::NothingStarts),
+        }
     }
-}
 
-// A fork of the first edition: newTd m1 (left), m2 (right), m3 (past the item), all with own scope; newEdge m1 to m3; newEdge m2 to m3;
-// transfer to m3; release m3, m1, m2; then the last byte.
-#[tactic(auto, using(crate::proofs::NextLaws::fork_due))]
-pub fn fork_next(
-    vertex: u32,
-    scope: u32,
-    own: Own,
-    made: u32,
-    left: u32,
-    right: u32,
-    past: u32,
-    last: u32,
-) -> Due
-    ensures { NextAt First last vertex scope (own_words own) made (Stands.fork left right past) (due_of result) }
-{
-    match own.phase {
-        0 => new_td(vertex, left, scope, keeping(own, 0, made)),
-        1 => new_td(vertex, right, scope, keeping(own, 1, made)),
-        2 => new_td(vertex, past, scope, keeping(own, 2, made)),
-        3 => new_edge(vertex, own.first, own.third, onward(own)),
-        4 => new_edge(vertex, own.second, own.third, onward(own)),
-        5 => transfer(vertex, own.third, onward(own)),
-        6 => release(vertex, own.third, onward(own)),
-        7 => release(vertex, own.first, onward(own)),
-        8 => release(vertex, own.second, idle(last, own.latest)),
-        _ => Due::Refused(Reason::NothingStarts),
+    // A fork of the first edition: newTd m1 (left), m2 (right), m3 (past the item), all with own scope; newEdge m1 to m3; newEdge m2 to m3;
+    // transfer to m3; release m3, m1, m2; then the last byte.
+    #[tactic(auto, using(crate::proofs::NextLaws::fork_due))]
+    pub fn fork_next(self, left: u32, right: u32, past: u32, last: u32) -> Due
+        ensures { NextAt First last self.vertex self.scope (own_words self.own) self.made (Stands.fork left right past) (due_of result) }
+    {
+        let Self {
+            vertex,
+            scope,
+            own,
+            made,
+        } = self;
+        match own.phase {
+            0 => new_td(vertex, left, scope, keeping(own, 0, made)),
+            1 => new_td(vertex, right, scope, keeping(own, 1, made)),
+            2 => new_td(vertex, past, scope, keeping(own, 2, made)),
+            3 => new_edge(vertex, own.first, own.third, onward(own)),
+            4 => new_edge(vertex, own.second, own.third, onward(own)),
+            5 => transfer(vertex, own.third, onward(own)),
+            6 => release(vertex, own.third, onward(own)),
+            7 => release(vertex, own.first, onward(own)),
+            8 => release(vertex, own.second, idle(last, own.latest)),
+            _ => Due::Refused(Reason::NothingStarts),
+        }
     }
-}
 
-// A fork of the second edition: newTd m1 (left), m2 (right), both with own scope; newEdge m1 to the vertex itself; newEdge m2 to it;
-// release m1, m2; yield; then past the item.
-#[tactic(auto, using(crate::proofs::NextLaws::yielding_due))]
-pub fn yielding_fork_next(
-    vertex: u32,
-    scope: u32,
-    own: Own,
-    made: u32,
-    left: u32,
-    right: u32,
-    past: u32,
-) -> Due
-    ensures { ForkNext Second vertex scope (own_words own) made left right past (due_of result) }
-{
-    let Own { first, second, .. } = own;
-    match own.phase {
-        0 => new_td(vertex, left, scope, keeping(own, 0, made)),
-        1 => new_td(vertex, right, scope, keeping(own, 1, made)),
-        2 => new_edge(vertex, first, vertex, onward(own)),
-        3 => new_edge(vertex, second, vertex, onward(own)),
-        4 => release(vertex, first, onward(own)),
-        5 => release(vertex, second, onward(own)),
-        6 => yield_caller(vertex, idle(past, own.latest)),
-        _ => Due::Refused(Reason::NothingStarts),
+    // A fork of the second edition: newTd m1 (left), m2 (right), both with own scope; newEdge m1 to the vertex itself; newEdge m2 to it;
+    // release m1, m2; yield; then past the item.
+    #[tactic(auto, using(crate::proofs::NextLaws::yielding_due))]
+    pub fn yielding_fork_next(self, left: u32, right: u32, past: u32) -> Due
+        ensures { ForkNext Second self.vertex self.scope (own_words self.own) self.made left right past (due_of result) }
+    {
+        let Self {
+            vertex,
+            scope,
+            own,
+            made,
+        } = self;
+        let Own { first, second, .. } = own;
+        match own.phase {
+            0 => new_td(vertex, left, scope, keeping(own, 0, made)),
+            1 => new_td(vertex, right, scope, keeping(own, 1, made)),
+            2 => new_edge(vertex, first, vertex, onward(own)),
+            3 => new_edge(vertex, second, vertex, onward(own)),
+            4 => release(vertex, first, onward(own)),
+            5 => release(vertex, second, onward(own)),
+            6 => yield_caller(vertex, idle(past, own.latest)),
+            _ => Due::Refused(Reason::NothingStarts),
+        }
     }
-}
 
-// A future: newTd m1 (the last byte, own scope); newTd m2 (its body, scope m1); newEdge m2 to m1; release m1; release m2; then past the
-// item, and m1 is the latest open future.
-#[tactic(auto, using(crate::proofs::NextLaws::future_due))]
-pub fn future_next(
-    vertex: u32,
-    scope: u32,
-    own: Own,
-    made: u32,
-    body: u32,
-    past: u32,
-    last: u32,
-) -> Due
-    ensures { AlikeAt last vertex scope (own_words own) made (Stands.future body past) (due_of result) }
-{
-    match own.phase {
-        0 => new_td(vertex, last, scope, keeping(own, 0, made)),
-        1 => new_td(vertex, body, own.first, keeping(own, 1, made)),
-        2 => new_edge(vertex, own.second, own.first, onward(own)),
-        3 => release(vertex, own.first, onward(own)),
-        4 => release(vertex, own.second, idle(past, own.first)),
-        _ => Due::Refused(Reason::NothingStarts),
+    // A future: newTd m1 (the last byte, own scope); newTd m2 (its body, scope m1); newEdge m2 to m1; release m1; release m2; then past the
+    // item, and m1 is the latest open future.
+    #[tactic(auto, using(crate::proofs::NextLaws::future_due))]
+    pub fn future_next(self, body: u32, past: u32, last: u32) -> Due
+        ensures { AlikeAt last self.vertex self.scope (own_words self.own) self.made (Stands.future body past) (due_of result) }
+    {
+        let Self {
+            vertex,
+            scope,
+            own,
+            made,
+        } = self;
+        match own.phase {
+            0 => new_td(vertex, last, scope, keeping(own, 0, made)),
+            1 => new_td(vertex, body, own.first, keeping(own, 1, made)),
+            2 => new_edge(vertex, own.second, own.first, onward(own)),
+            3 => release(vertex, own.first, onward(own)),
+            4 => release(vertex, own.second, idle(past, own.first)),
+            _ => Due::Refused(Reason::NothingStarts),
+        }
     }
-}
 
-// A force: newTd m1 (past the item, own scope); newEdge from the first vertex of its future to m1; transfer to m1; release m1; then the
-// last byte.
-#[tactic(auto, using(crate::proofs::NextLaws::force_due))]
-pub fn force_next(
-    vertices: &[u32],
-    vertex: u32,
-    scope: u32,
-    own: Own,
-    made: u32,
-    number: u32,
-    past: u32,
-    last: u32,
-) -> Due
-    requires { vertex_words * made ≤ length vertices.now }
-    ensures { AlikeIn vertices.now last vertex scope (own_words own) made (Stands.force number past) (due_of result) }
-{
-    match own.phase {
-        0 => new_td(vertex, past, scope, keeping(own, 0, made)),
-        1 => force_edge(vertex, own, followed(vertices, made, own.latest, number)),
-        2 => transfer(vertex, own.first, onward(own)),
-        3 => release(vertex, own.first, idle(last, own.latest)),
-        _ => Due::Refused(Reason::NothingStarts),
+    // A force: newTd m1 (past the item, own scope); newEdge from the first vertex of its future to m1; transfer to m1; release m1; then the
+    // last byte.
+    #[tactic(auto, using(crate::proofs::NextLaws::force_due))]
+    pub fn force_next(self, vertices: &[u32], number: u32, past: u32, last: u32) -> Due
+        requires { vertex_words * self.made ≤ length vertices.now }
+        ensures { AlikeIn vertices.now last self.vertex self.scope (own_words self.own) self.made (Stands.force number past) (due_of result) }
+    {
+        let Self {
+            vertex,
+            scope,
+            own,
+            made,
+        } = self;
+        match own.phase {
+            0 => new_td(vertex, past, scope, keeping(own, 0, made)),
+            1 => self.force_edge(followed(vertices, made, own.latest, number)),
+            2 => transfer(vertex, own.first, onward(own)),
+            3 => release(vertex, own.first, idle(last, own.latest)),
+            _ => Due::Refused(Reason::NothingStarts),
+        }
     }
-}
 
-// Its second command, where this future is forced, if there is such a one.
-#[tactic(auto, using(crate::proofs::NextLaws::force_due))]
-pub(crate) fn force_edge(vertex: u32, own: Own, future: Option<u32>) -> Due
-    requires { own.phase ≡ 1 }
-    ensures { ForceEdge vertex (own_words own) own.latest (vertex_of future) (due_of result) }
-{
-    match future {
-        Some(forced) => new_edge(vertex, forced, own.first, onward(own)),
-        None => Due::Refused(Reason::NothingStarts),
+    // Its second command, where this future is forced, if there is such a one.
+    #[tactic(auto, using(crate::proofs::NextLaws::force_due))]
+    pub(crate) fn force_edge(self, future: Option<u32>) -> Due
+        requires { self.own.phase ≡ 1 }
+        ensures { ForceEdge self.vertex (own_words self.own) self.own.latest (vertex_of future) (due_of result) }
+    {
+        let Self { vertex, own, .. } = self;
+        match future {
+            Some(forced) => new_edge(vertex, forced, own.first, onward(own)),
+            None => Due::Refused(Reason::NothingStarts),
+        }
     }
 }
 

@@ -27,11 +27,13 @@ use Rattle.graph.specs.Internal.Checks.{is_start}
 use Rattle.graph.specs.Internal.Gather.{TargetsFit}
 use Rattle.graph.specs.Internal.Search.{Searchable}
 use Rattle.graph.specs.Commands.{opened_tables, opening, caller_refusal, new_td_refusal, ends_refusal, append_refusal, release_refusal}
-use Rattle.graph.specs.Commands.{transfer_refusal, start_refusal, stop_refusal, yield_refusal, command}
+use Rattle.graph.specs.Commands.{transfer_refusal, start_refusal, stop_refusal, yield_refusal, command, target_reaches}
+use Rattle.graph.specs.Paths.{reaches}
+use Rattle.graph.proofs.CycleLaws.{target_reaches_lem}
 use Rattle.graph.proofs.PathLaws.{holds_at}
 use Rattle.graph.proofs.SoundLaws.{sound_fits}
 use Rattle.graph.proofs.SoundChecks.{fits_rows, sound_rows, searchable}
-use Rattle.graph.proofs.TestLaws.{either_skip, both_true, both-false_left, both-false_right, not_of_true, not_of_false}
+use Rattle.graph.proofs.TestLaws.{either_left, either_right, either-false, either_first, either_second, either_skip, both_true, both-false_left, both-false_right, not_of_true, not_of_false}
 use Rattle.graph.proofs.TakenLaws.{Runs, taken, taken_caller, taken_ends, taken_append, unsound}
 use Rattle.graph.proofs.RefusalLaws.{unless_pass, unless_stop, decided_is}
 
@@ -178,6 +180,10 @@ module _ (v e : List ℕ) (s : Tally) (t a b : ℕ) (p : 0 ≡ ends_refusal (len
   pub path_back : Searchable e s.held b a
   path_back = let k = (taken_ends (lent v e s) t a b 0).0 (sym p) in searchable (lent v e s) b a k.0.known k.2 k.1
 
+-- the definition of transfer asks the caller's targets, the code asks the caller
+pub target_reached : (e : List ℕ) (n t t' : ℕ) {r x : Bool} → r ≡ reaches e n t t' → r ≡ x → target_reaches e n t t' ≡ x
+target_reached e n t t' p q = target_reaches_lem e n t t' ∙ answered p q
+
 -- The code asks the definition's tests in the definition's order. So from the tests that it has passed `search chain` proves each answer
 -- of a refusal, and that what it reads next is there. Behind four tests and more it may take `depth 12`.
 pub ruleset chain = (
@@ -208,6 +214,14 @@ pub ruleset chain = (
   second_there,
   rows_there,
   path_back,
+  path_on,
+  source_made,
+  either_left,
+  either_right,
+  either-false,
+  either_first,
+  either_second,
+  target_reached,
   status_there,
   edges_there,
   status_fits,
@@ -258,6 +272,21 @@ stop_targets s t v h p i lt =
 pub yield_room : (s : Lent) (t : ℕ) → yield_refusal s t ≡ 0 → vertex_words * t + vertex_words ≤ length s.vertices
 yield_room s t h = let k = (taken (Yield t) s).0 h in row_room s t k.known k.is_made
 
+-- a command: its refusal is due, or it stores what the definition leaves
+pub ruleset calls = (
+  refused_outcome,
+  accepted_outcome,
+  new_td_room,
+  maker_room,
+  append_room,
+  transfer_room,
+  release_room,
+  start_room,
+  stop_room,
+  stop_targets,
+  yield_room,
+)
+
 -- the opening
 pub opening_stops :
     (s : Lent) {rows : ℕ} → rows ≡ vertex_rows s.vertices → rows ≡ 0
@@ -291,8 +320,12 @@ command_case s p h = h ∙ ap (λ (x : Command). command x s) (sym p)
 pub sound_given : {given c : Command} (s : Lent) → given ≡ c → is_start c ≡ false → either (is_start given) (sound s) ≡ true → sound s ≡ true
 sound_given s p q h = either_skip _ (ap is_start p ∙ q) ∙ h
 
+pub ruleset cases = (command_case, sound_given, refl)
+
 -- a command other than start that is refused at the door
 pub unsound_outcome :
     {o : Outcome CommandSaid} (v e : List ℕ) (t : Tally) (c : Command) → is_start c ≡ false → sound (lent v e t) ≡ false
     → o ≡ record { answer = CommandSaid.refused unsound_tables 0; after = lent v e t } → o ≡ command c (lent v e t)
 unsound_outcome v e t c q p h = h ∙ sym (unsound c (lent v e t) q p)
+
+pub ruleset door = (answered, answered_yes, answered_no, either_left, either_right)

@@ -1,11 +1,13 @@
 -- What an accessor gives after an update of a table.
-use Prim.Native.Nat.{ℕ, zero, suc, ◌+◌, ◌≤◌}
+use Prim.Native.Nat.{ℕ, zero, suc, ◌+◌, ◌-◌, ◌≤◌}
 use mathlib.Core.Path.{◌≡◌, refl, sym, ◌∙◌, ap}
 use mathlib.Core.List.{List, ◌∷◌, ◌++◌, append_assoc}
 use native.Mathlib.Omega.{arith}
 use native.Mathlib.Numerals.{add-one}
 use lib.ListN.{length, get_or, take, drop, set, replicate, length-append, length-replicate, take-append-drop}
+use Rattle.std.proofs.lemmas.List.{drop-drop, length-drop}
 use lib.Seq.{drop-cons, set_at, length-take-le}
+use borrow.Rule.Slice.PartMut.{put_mid}
 use Rattle.graph.specs.Tables.{clear}
 use Rattle.graph.proofs.TestLaws.{at_end}
 
@@ -39,3 +41,13 @@ clear_is l from (suc n) h =
     ∙ append_assoc (take from l) (replicate n 0) (0 ∷ drop (suc (from + n)) l)
     ∙ ap (λ (x : List ℕ). take from l ++ x) (zeros_more n (drop (suc (from + n)) l))
     ∙ ap (λ (x : ℕ). take from l ++ (replicate (suc n) 0 ++ drop x l)) (let z : suc (from + n) ≡ from + suc n = omega arith in z)
+
+-- a part that is filled with zeros is cleared
+pub filled :
+    (l part : List ℕ) (from n : ℕ) → from + n ≤ length l → part ≡ replicate (length (take (from + n - from) (drop from l))) 0
+    → put_mid from (from + n - from) l part ≡ clear l from n
+filled l part from n h p =
+    let few : from + n - from ≡ n = omega arith in
+    let long : length (take n (drop from l)) ≡ n = length-take-le n (drop from l) (omega (arith, length-drop from l)) in
+    let rest : drop n (drop from l) ≡ drop (from + n) l = drop-drop n from l in
+    rw (p, few, long, rest) (sym (clear_is l from n h))

@@ -21,9 +21,10 @@
 --     OpeningLaws    the opening: where it is refused, and what it leaves alone
 --     InCounts     every command keeps the in-counts true, and start answers by them as the full search would
 -- What the proofs of the code use besides:
---     ClearLaws    clearing words one by one
+--     ClearLaws    clearing words one by one, and a part as a whole
+--     FirstRowLaws the rows at the front of a table, as arrays
 --     SoundChecks  what each look at the tables tells of refusal 12
---     EdgeLoops    what a loop over the held edges has done after each row
+--     EdgeLoops    what a search or a loop over the held edges has done after each row
 --     RowLinks     the edge rows linked by their targets
 --     Frontier     the path search, turn by turn
 --     CallLaws     a call's outcome from its refusal
@@ -48,6 +49,7 @@ pub mod Reasons
 pub mod OpeningLaws
 pub mod InCounts
 pub mod ClearLaws
+pub mod FirstRowLaws
 pub mod SoundChecks
 pub mod EdgeLoops
 pub mod RowLinks

@@ -13,7 +13,7 @@ use Rattle.graph.specs.Sound.{tally_fits, status_known, statuses_known, ends_mad
 use Rattle.graph.specs.Internal.Search.{search_limit, Rows, Searchable}
 use Rattle.graph.proofs.PathLaws.{holds_at}
 use Rattle.graph.proofs.SoundLaws.{sound_fits}
-use Rattle.graph.proofs.TestLaws.{both_true, both_left, both_right, both_first, both_second, every_all, every_none, at_end}
+use Rattle.graph.proofs.TestLaws.{both_true, both_left, both_right, both_first, both_second, true-false, every_all, every_none, at_end}
 use Rattle.graph.proofs.TestLaws.{every_next, every_next_both, every_pairs}
 
 -- the tally
@@ -86,3 +86,6 @@ pub searchable : (s : Lent) (a b : ℕ) → sound s ≡ true → a < s.made → 
 searchable s a b h p q =
     let r = sound_rows s h in
     record { rows = usable_rows s h; held = r.1.1.1; from_usable = omega arith; to_usable = omega arith }
+
+-- the looks of `is_sound`
+pub ruleset looks = (both_first, both_second, fits_rows, sym, ◌∙◌, true-false)

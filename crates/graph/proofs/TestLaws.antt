@@ -7,7 +7,7 @@ use native.Mathlib.Nat.{eq-or-lt_of_le, le_of_suc-le-suc}
 use native.Mathlib.Numerals.{add-one}
 use native.Mathlib.Omega.{arith}
 use lib.Dec.{eqb, leb}
-use borrow.Author.Tests.{eqb-true, eqb-false, le-leb, lt-leb}
+use borrow.Author.Tests.{eqb-true, eqb-false, eq-eqb, ne_eqb, le-leb, lt-leb}
 use Rattle.graph.specs.Tests.{both, either, every, any, how_many}
 
 pub true-false : {A : Type 0} {b : Bool} → b ≡ true → b ≡ false → A
@@ -76,6 +76,11 @@ above a b n p = sym (both-false_right _ (lt-leb n b p))
 
 pub ruleset in_range = (inside, below, above)
 
+pub both_of : (a b : Bool) → a && b ≡ both a b
+unfolding both
+both_of true b = refl
+both_of false b = refl
+
 both_turned : (a b c : Bool) → both a (both b c) ≡ both (both b a) c
 unfolding both
 both_turned true true c = refl
@@ -108,6 +113,9 @@ either_first b p = p ∙ sym (either_left b p)
 
 pub either_second : {a b r : Bool} → a ≡ false → r ≡ b → r ≡ either a b
 either_second p q = q ∙ either_skip _ p
+
+-- both together, with the tests of two numbers
+pub ruleset shortcuts = (either_first, either_second, both_first, both_second, eq-eqb, ne_eqb, le-leb, lt-leb, refl)
 
 pub either_right : (a : Bool) {b : Bool} → b ≡ true → either a b ≡ true
 unfolding either

@@ -57,6 +57,7 @@ pub fn open_by_value(vertices: &mut [u32], edges: &mut [u32], tally: Tally) -> O
 }
 
 // Makes the next vertex, new, with the place and scope handed in, the caller's latest open future, and its other words 0.
+#[tactic(auto, using(crate::proofs::CallLaws::calls), unfolding(crate::specs::Commands::new_td, crate::specs::Commands::with_vertex))]
 fn new_td(
     vertices: &mut [u32],
     edges: &[u32],
@@ -87,6 +88,7 @@ fn new_td(
 }
 
 // Adds the edge from `source` to `target`. Out of a finished vertex, or held already, it adds nothing and is accepted.
+#[tactic(auto, using(crate::proofs::CallLaws::calls), unfolding(crate::specs::Commands::new_edge, crate::specs::Commands::new_edge_refusal, crate::specs::Commands::with_edge))]
 fn new_edge(
     vertices: &mut [u32],
     edges: &mut [u32],
@@ -124,6 +126,7 @@ fn new_edge(
 }
 
 // Turns a new vertex released.
+#[tactic(auto, using(crate::proofs::CallLaws::calls), unfolding(crate::specs::Commands::release))]
 fn release(
     vertices: &mut [u32],
     edges: &[u32],
@@ -148,6 +151,7 @@ fn release(
 }
 
 // Gives each edge out of `caller` the source `vertex`, which is new and has no edge out.
+#[tactic(auto, using(crate::proofs::CallLaws::calls), unfolding(crate::specs::Commands::transfer, crate::specs::Commands::with_moved))]
 fn transfer(
     vertices: &[u32],
     edges: &mut [u32],
@@ -172,6 +176,7 @@ fn transfer(
 }
 
 // Turns a released vertex with no edge into it executing. It looks for 12 itself.
+#[tactic(auto, using(crate::proofs::CallLaws::calls), unfolding(crate::specs::Commands::start))]
 fn start_vertex(
     vertices: &mut [u32],
     edges: &[u32],
@@ -189,6 +194,7 @@ fn start_vertex(
 }
 
 // Finishes `caller` and drops its edges out.
+#[tactic(auto, using(crate::proofs::CallLaws::calls), unfolding(crate::specs::Commands::stop, crate::specs::Commands::stopped))]
 fn stop(vertices: &mut [u32], edges: &mut [u32], tally: Tally, caller: u32) -> Result<Done, Reason>
     requires { sound (lent vertices.old edges.old tally) ≡ true }
     ensures { tried result tally vertices.new edges.new ≡ stop (lent vertices.old edges.old tally) caller }
@@ -241,6 +247,7 @@ pub fn start(vertices: &mut [u32], edges: &[u32], tally: Tally, vertex: u32) -> 
 }
 
 // Any single command.
+#[tactic(auto, using(crate::proofs::CallLaws::door))]
 pub fn command_by_value(
     vertices: &mut [u32],
     edges: &mut [u32],
@@ -255,6 +262,7 @@ pub fn command_by_value(
     command_checked(vertices, edges, tally, given)
 }
 
+#[tactic(auto, unfolding(crate::specs::Internal::Checks::is_start))]
 fn is_start(given: Command) -> bool
     ensures { result ≡ is_start given }
 {
@@ -274,6 +282,7 @@ pub fn command_checked(
     settled(checked(vertices, edges, tally, given), tally)
 }
 
+#[tactic(auto, using(crate::proofs::CallLaws::cases), unfolding(crate::specs::Internal::Checks::is_start, crate::specs::Commands::command))]
 fn checked(
     vertices: &mut [u32],
     edges: &mut [u32],

@@ -12,7 +12,8 @@ use crate::rows::{EDGE_WORDS, SOURCE, TARGET, USABLE_LIMIT};
 // The vertices of a search are below this. A run's own index gives a dropped row the vertex behind the last usable one for its source.
 pub const SEARCH_LIMIT: usize = USABLE_LIMIT + 1;
 
-// Links the held rows by their targets: `next` has a word for each of them. A row is counted from 1, so that 0 ends a list.
+// Links the held rows by their targets: `next` has a word for each of them. A row is counted from 1, so that 0 ends a list. The row's number is
+// what is stored, and `Linked` speaks of it, so that `enumerate` would only name it twice.
 fn link_rows(edges: &[u32], first: &mut [u32], next: &mut [u32])
     requires rows { Rows edges.now (length next.old) }
     requires first_value { first.old ≡ blank }

@@ -23,6 +23,7 @@ use refusal::Reason;
 
 impl<'a> SoundTables<'a> {
     // 20 and 30 of a command of `caller` that names `a` and `b` besides.
+    #[tactic(auto, using(crate::proofs::CallLaws::chain), unfolding(crate::specs::Commands::caller_refusal))]
     fn caller_refusal(&self, caller: u32, a: u32, b: u32) -> Result<(), Reason>
         ensures { due_number result ≡ caller_refusal (lent_of self.now) caller a b 0 }
     {
@@ -37,6 +38,7 @@ impl<'a> SoundTables<'a> {
     }
 
     // newTd: 20, 30, 31.
+    #[tactic(auto, using(crate::proofs::CallLaws::chain), unfolding(crate::specs::Commands::new_td_refusal))]
     pub fn new_td_refusal(&self, caller: u32) -> Result<(), Reason>
         ensures { due_number result ≡ new_td_refusal (lent_of self.now) caller }
     {
@@ -48,6 +50,7 @@ impl<'a> SoundTables<'a> {
     }
 
     // newEdge's refusals that its caller and its ends cause: 20, 30, 33, which spares the caller.
+    #[tactic(auto, using(crate::proofs::CallLaws::chain), unfolding(crate::specs::Commands::ends_refusal))]
     pub(crate) fn ends_refusal(&self, caller: u32, source: u32, target: u32) -> Result<(), Reason>
         ensures { due_number result ≡ ends_refusal (lent_of self.now) caller source target 0 }
     {
@@ -59,6 +62,7 @@ impl<'a> SoundTables<'a> {
     }
 
     // An edge from `source` to `target` adds nothing: its source is finished, or it is held already.
+    #[tactic(auto, using(crate::proofs::CallLaws::chain), unfolding(crate::specs::Commands::adds_nothing))]
     pub(crate) fn adds_nothing(&self, source: u32, target: u32) -> bool
         requires { source < self.now.tally.made }
         ensures { result ≡ adds_nothing (lent_of self.now) source target }
@@ -68,6 +72,7 @@ impl<'a> SoundTables<'a> {
     }
 
     // newEdge: 20, 30, 33, then none for an edge that adds nothing, 35, 32.
+    #[tactic(auto, using(crate::proofs::CallLaws::chain), unfolding(crate::specs::Commands::new_edge_refusal))]
     pub fn new_edge_refusal(&self, caller: u32, source: u32, target: u32) -> Result<(), Reason>
         ensures { due_number result ≡ new_edge_refusal (lent_of self.now) caller source target }
     {
@@ -79,6 +84,7 @@ impl<'a> SoundTables<'a> {
     }
 
     // release: 20, 30, 36.
+    #[tactic(auto, using(crate::proofs::CallLaws::chain), unfolding(crate::specs::Commands::release_refusal))]
     pub fn release_refusal(&self, caller: u32, vertex: u32) -> Result<(), Reason>
         ensures { due_number result ≡ release_refusal (lent_of self.now) caller vertex }
     {
@@ -90,6 +96,7 @@ impl<'a> SoundTables<'a> {
     }
 
     // transfer: 20, 30, 37, 38, 35.
+    #[tactic(auto, using(crate::proofs::CallLaws::chain), unfolding(crate::specs::Commands::transfer_refusal, crate::specs::Paths::leads_out_of))]
     pub fn transfer_refusal(&self, caller: u32, vertex: u32) -> Result<(), Reason>
         ensures { due_number result ≡ transfer_refusal (lent_of self.now) caller vertex }
     {
@@ -108,6 +115,7 @@ impl<'a> SoundTables<'a> {
     }
 
     // stop and yield, which refuse alike: 20, 30.
+    #[tactic(auto, using(crate::proofs::CallLaws::chain), unfolding(crate::specs::Commands::stop_refusal, crate::specs::Commands::yield_refusal))]
     pub fn stop_or_yield_refusal(&self, caller: u32) -> Result<(), Reason>
         ensures stop { due_number result ≡ stop_refusal (lent_of self.now) caller }
         ensures yields { due_number result ≡ yield_refusal (lent_of self.now) caller }
@@ -117,6 +125,7 @@ impl<'a> SoundTables<'a> {
 }
 
 // A vertex of this status may get an edge in, whoever calls.
+#[tactic(auto, using(crate::proofs::TestLaws::shortcuts))]
 fn waits(status: u32) -> bool
     ensures { result ≡ either (eqb status NEW) (eqb status RELEASED) }
 {
@@ -124,6 +133,7 @@ fn waits(status: u32) -> bool
 }
 
 // An edge from `source` to `target` would close a cycle.
+#[tactic(auto, using(crate::proofs::TestLaws::shortcuts))]
 fn closes_cycle(edges: &[u32], held: usize, source: u32, target: u32) -> bool
     requires { Searchable edges.now held target source }
     ensures { result ≡ either (eqb source target) (reaches edges.now held target source) }
@@ -132,6 +142,7 @@ fn closes_cycle(edges: &[u32], held: usize, source: u32, target: u32) -> bool
 }
 
 // The refusals of an edge that is to be appended: 35, 32.
+#[tactic(auto, using(crate::proofs::CallLaws::chain), unfolding(crate::specs::Commands::append_refusal))]
 pub(crate) fn append_refusal(
     edges: &[u32],
     held: usize,
@@ -151,6 +162,7 @@ pub(crate) fn append_refusal(
 }
 
 // start, on any tables: 12 by the tally, 20, 12 by the vertex's status, 22, 39, 23, 21.
+#[tactic(auto, using(crate::proofs::CallLaws::chain), unfolding(crate::specs::Commands::start_refusal, crate::specs::Sound::status_known))]
 pub fn start_refusal(
     vertices: &[u32],
     edges: &[u32],

@@ -1,7 +1,8 @@
 // The rows of the lent tables: how wide they are, which word is which, and how many rows may be used.
-ghost use Rattle.std.specs.Prelude.{◌≡◌, ◌+◌, ◌*◌, ◌≤◌, ◌<◌, length};
-ghost use Rattle.graph.specs.Tables.{vertex_words, edge_words, vertex_rows, edge_rows, set_status, clear};
-ghost use Rattle.graph.specs.Commands.{new_row, appended, more_into, less_into};
+ghost use Rattle.std.specs.Prelude.{◌≡◌, ◌+◌, ◌*◌, ◌/◌, ◌≤◌, ◌<◌, length, min};
+ghost use Rattle.graph.specs.Tables.{usable_limit, vertex_words, edge_words, vertex_rows, edge_rows, set_status, clear};
+ghost use Rattle.graph.specs.Internal.FirstRows.{FirstRows};
+ghost use Rattle.graph.specs.Commands.{new_row, appended, one_more, more_into, less_into};
 
 // Only full rows among the first 1,024 of each table are used.
 pub const USABLE_LIMIT: usize = 1024;
@@ -38,9 +39,6 @@ pub const VERTEX_TABLE: usize = VERTEX_WORDS * USABLE_LIMIT;
 
 pub const EDGE_TABLE: usize = EDGE_WORDS * USABLE_LIMIT;
 
-// The largest number of a word.
-const LARGEST_WORD: u32 = 4294967295;
-
 pub const NEW: u32 = 1;
 
 pub const RELEASED: u32 = 2;
@@ -49,26 +47,32 @@ pub const EXECUTING: u32 = 3;
 
 pub const FINISHED: u32 = 4;
 
+// The rows of so many words that may be used.
+fn usable_rows<const WORDS: usize>(table: &[u32]) -> usize
+    requires { 0 < WORDS }
+    ensures { result ≡ min usable_limit (length table.now / WORDS) }
+{
+    (table.len() / WORDS).min(USABLE_LIMIT)
+}
+
 pub fn vertex_rows(vertices: &[u32]) -> usize
     ensures { result ≡ vertex_rows vertices.now }
 {
-    let rows = vertices.len() / VERTEX_WORDS;
-    if rows < USABLE_LIMIT {
-        rows
-    } else {
-        USABLE_LIMIT
-    }
+    usable_rows::<VERTEX_WORDS>(vertices)
 }
 
 pub fn edge_rows(edges: &[u32]) -> usize
     ensures { result ≡ edge_rows edges.now }
 {
-    let rows = edges.len() / EDGE_WORDS;
-    if rows < USABLE_LIMIT {
-        rows
-    } else {
-        USABLE_LIMIT
-    }
+    usable_rows::<EDGE_WORDS>(edges)
+}
+
+// The first `count` rows of so many words.
+pub(crate) fn first_rows<const WORDS: usize>(table: &[u32], count: usize) -> &[[u32; WORDS]]
+    requires { (0 < WORDS) × (WORDS * count ≤ length table.now) }
+    ensures { FirstRows WORDS table.now count result.now }
+{
+    table[..WORDS * count].as_chunks().0
 }
 
 // Clears `count` words from `from` on.
@@ -76,9 +80,7 @@ pub fn clear(table: &mut [u32], from: usize, count: usize)
     requires { from + count ≤ length table.old }
     ensures { table.new ≡ clear table.old from count }
 {
-    for i in 0..count {
-        table[from + i] = 0;
-    }
+    table[from..from + count].fill(0);
 }
 
 pub fn set_status(vertices: &mut [u32], vertex: usize, status: u32)
@@ -89,6 +91,7 @@ pub fn set_status(vertices: &mut [u32], vertex: usize, status: u32)
 }
 
 // Makes row `vertex` that of a new vertex.
+#[tactic(auto, unfolding(crate::specs::Commands::new_row))]
 pub fn make_row(vertices: &mut [u32], vertex: usize, place: u32, scope: u32, future: u32)
     requires { vertex_words * vertex + vertex_words ≤ length vertices.old }
     ensures { vertices.new ≡ new_row vertices.old vertex place scope future }
@@ -100,28 +103,34 @@ pub fn make_row(vertices: &mut [u32], vertex: usize, place: u32, scope: u32, fut
     vertices[VERTEX_WORDS * vertex + FUTURE] = future;
 }
 
+#[tactic(auto, unfolding(crate::specs::Commands::one_more))]
+fn one_more(edges_in: u32) -> u32
+    ensures { result ≡ one_more edges_in }
+{
+    edges_in.saturating_add(1)
+}
+
 // One edge more into `vertex`; the word stops at its largest number.
+#[tactic(auto, unfolding(crate::specs::Commands::more_into))]
 pub fn more_into(vertices: &mut [u32], vertex: usize)
     requires { vertex_words * vertex + vertex_words ≤ length vertices.old }
     ensures { vertices.new ≡ more_into vertices.old vertex }
 {
-    let at = VERTEX_WORDS * vertex + IN_COUNT;
-    if vertices[at] < LARGEST_WORD {
-        vertices[at] += 1;
-    }
+    let edges_in = &mut vertices[VERTEX_WORDS * vertex + IN_COUNT];
+    *edges_in = one_more(*edges_in);
 }
 
 // One edge less; the word stops at 0.
+#[tactic(auto, unfolding(crate::specs::Commands::less_into))]
 pub fn less_into(vertices: &mut [u32], vertex: usize)
     requires { vertex_words * vertex + vertex_words ≤ length vertices.old }
     ensures { vertices.new ≡ less_into vertices.old vertex }
 {
-    let at = VERTEX_WORDS * vertex + IN_COUNT;
-    if 0 < vertices[at] {
-        vertices[at] -= 1;
-    }
+    let edges_in = &mut vertices[VERTEX_WORDS * vertex + IN_COUNT];
+    *edges_in = edges_in.saturating_sub(1);
 }
 
+#[tactic(auto, unfolding(crate::specs::Commands::appended))]
 pub(crate) fn append_edge(edges: &mut [u32], row: usize, source: u32, target: u32)
     requires { edge_words * row + edge_words ≤ length edges.old }
     ensures { edges.new ≡ appended edges.old row source target }

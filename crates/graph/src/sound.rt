@@ -6,10 +6,11 @@ ghost use Rattle.graph.specs.Sound.{tally_fits, statuses_known, edges_made, soun
 
 use crate::Tally;
 use crate::rows::{
-    EDGE_WORDS, FINISHED, NEW, SOURCE, STATUS, TARGET, VERTEX_WORDS, edge_rows, vertex_rows,
+    EDGE_WORDS, FINISHED, NEW, STATUS, VERTEX_WORDS, edge_rows, first_rows, vertex_rows,
 };
 
 // The tally against the usable rows.
+#[tactic(auto, using(crate::proofs::TestLaws::shortcuts), unfolding(crate::specs::Sound::tally_fits))]
 pub fn tally_fits(vertices: &[u32], edges: &[u32], made: u32, held: u32) -> bool
     ensures { result ≡ tally_fits vertices.now edges.now made held }
 {
@@ -24,14 +25,14 @@ pub(crate) fn is_status(status: u32) -> bool
 }
 
 // Each made vertex has one of the four statuses. Here and in `edges_made` no row ends the loop: such a loop is compiled to look at several rows
-// at once.
+// at once, which `all` is not.
 pub(crate) fn statuses_known(vertices: &[u32], made: usize) -> bool
     requires { vertex_words * made ≤ length vertices.now }
     ensures { result ≡ statuses_known vertices.now made }
 {
     let mut all_known = true;
-    for k in 0..made {
-        let status = vertices[VERTEX_WORDS * k + STATUS];
+    for row in first_rows::<VERTEX_WORDS>(vertices, made) {
+        let status = row[STATUS];
         all_known = all_known & (NEW <= status) & (status <= FINISHED);
     }
     all_known
@@ -43,13 +44,14 @@ pub(crate) fn edges_made(edges: &[u32], made: u32, held: usize) -> bool
     ensures { result ≡ edges_made edges.now made held }
 {
     let mut all_made = true;
-    for i in 0..EDGE_WORDS * held {
-        all_made = all_made & (edges[i] < made);
+    for end in &edges[..EDGE_WORDS * held] {
+        all_made = all_made & (*end < made);
     }
     all_made
 }
 
 // Refusal 12 is due where this is false.
+#[tactic(auto, using(crate::proofs::SoundChecks::looks), unfolding(crate::specs::Sound::sound))]
 pub fn is_sound(vertices: &[u32], edges: &[u32], tally: Tally) -> bool
     ensures { result ≡ sound (lent vertices.now edges.now tally) }
 {

@@ -1,11 +1,12 @@
 // Writes what a call answered and left.
 use cases::{left, number, refused, text};
-use graph::{Answer, Done, OpenDone, Opening};
+use graph::{Answer, Done, OpenDone};
+use refusal::Refusal;
 
-fn opening(a: Opening) {
+fn opening(a: Result<(), Refusal>) {
     match a {
-        Opening::Opened => text(b"opened"),
-        Opening::Refused(r) => refused(r.number, r.place),
+        Ok(()) => text(b"opened"),
+        Err(r) => refused(r.reason.number(), r.place),
     }
 }
 
@@ -21,7 +22,7 @@ fn answer(a: Answer) {
         Answer::Transfer(v) => number(b"transfer ", v),
         Answer::Stop => text(b"stop"),
         Answer::Yield => text(b"yield"),
-        Answer::Refused(r) => refused(r.number, r.place),
+        Answer::Refused(r) => refused(r.reason.number(), r.place),
     }
 }
 

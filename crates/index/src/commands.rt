@@ -1,5 +1,5 @@
 // The commands of an executing vertex, done on an index. Each looks for the first refusal that is due, as `graph` does on the edge table, and
-// stores only where there is none.
+// stores only where there is none. What has several callers is compiled into the loop of a walk all the same, so that results are not written to memory.
 ghost use Rattle.std.specs.Prelude.{◌≡◌, true, false, List, ℕ, ◌+◌, ◌<◌, ◌≤◌, max};
 ghost use Rattle.graph.specs.Tables.{lent, usable_limit, vertex_rows, edge_rows};
 ghost use Rattle.graph.specs.Sound.{sound};
@@ -23,6 +23,7 @@ use graph::{Answer, Command, Tally};
 use refusal::Reason;
 
 // What was tried, as a command gives it: where it is refused, nothing changes.
+#[inline(always)]
 fn settled(attempt: Result<Changed, Reason>, course: Course) -> Changed
     ensures { result ≡ tried attempt course }
 {
@@ -95,6 +96,7 @@ fn new_edge(
 }
 
 // The refusals that an edge's ends cause: 20, 33, which spares the caller.
+#[inline(always)]
 pub(crate) fn ends_refusal(
     vertices: &[u32],
     course: Course,
@@ -117,6 +119,7 @@ pub(crate) fn ends_refusal(
 }
 
 // An edge from `source` to `target` adds nothing: its source is finished, or it is held already.
+#[inline(always)]
 pub(crate) fn adds_nothing(
     vertices: &[u32],
     index: &[u32],
@@ -133,6 +136,7 @@ pub(crate) fn adds_nothing(
 }
 
 // The refusals of an edge that is to be appended: 35, 32.
+#[inline(always)]
 pub(crate) fn append_refusal(
     index: &[u32],
     limit: u32,
@@ -213,6 +217,7 @@ fn transfer(
 }
 
 // transfer: 20, 37, 38, 35.
+#[inline(always)]
 pub(crate) fn transfer_refusal(
     vertices: &[u32],
     index: &[u32],
@@ -279,6 +284,7 @@ fn yield_caller(
 }
 
 // Any command of an executing vertex, where a row of the index is left.
+#[inline(always)]
 pub fn command(
     vertices: &mut [u32],
     index: &mut [u32],
@@ -293,6 +299,7 @@ pub fn command(
 }
 
 // The same, or why it is refused.
+#[inline(always)]
 fn command_tried(
     vertices: &mut [u32],
     index: &mut [u32],

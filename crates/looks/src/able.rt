@@ -67,14 +67,7 @@ impl<'a> Look<'a> {
             return true;
         }
         let made = self.course.tally.made;
-        match ended_due(
-            self.program.bytes,
-            self.program.ends,
-            self.vertices,
-            made,
-            self.program.edition,
-            vertex,
-        ) {
+        match ended_due(&self.program, self.vertices, made, vertex) {
             Due::Refused(_) => false,
             Due::Job { .. } => true,
             Due::Command { command, .. } => {

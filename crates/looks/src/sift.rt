@@ -100,15 +100,7 @@ impl<'a> Look<'a> {
         {
             return hinging_on(Kind::Nothing);
         }
-        match leaping_due(
-            self.program.bytes,
-            self.program.ends,
-            self.vertices,
-            leaps,
-            made,
-            self.program.edition,
-            vertex,
-        ) {
+        match leaping_due(&self.program, self.vertices, leaps, made, vertex) {
             Due::Refused(_) => hinging_on(Kind::Barred),
             Due::Job { .. } => hinging_on(Kind::Nothing),
             Due::Command { command, .. } => self.hinge_by(command),

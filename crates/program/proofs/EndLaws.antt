@@ -18,14 +18,14 @@ use Rattle.program.specs.Reader.{Reading, program, refusal, reading}
 use Rattle.program.specs.Located.{Code, end_byte_at, job_at, async_at, finish_at, fork_at, future_at, force_at, locate, located, start_of, last}
 use Rattle.program.specs.Located.{code_at, is_some, starts_in, starts_at, end_of, end_in, end_at, MarksEnds}
 use Rattle.program.specs.Claims.{Fits, Encoding, encoding}
-use Rattle.program.specs.Internal.Progress.{is_read, opens_number, in_number, Outside, Clear, end_by, LooksWithin, Ended}
+use Rattle.program.specs.Internal.Progress.{is_read, opens_number, in_number, Outside, end_by, LooksWithin, Ended}
 use Rattle.program.proofs.LocatedLaws.{here_later, Inner, job_rest, async_body, async_rest, finish_body, finish_rest, fork_left, fork_right}
 use Rattle.program.proofs.LocatedLaws.{fork_rest, future_body, future_rest, force_rest, Laid, last-locate, laid_located, laid_le, laid_inner}
 use Rattle.program.proofs.LocatedLaws.{code_place, code_laid, code_range, code_before, code_inner, code_same}
 use Rattle.program.proofs.StartLaws.{Placed, placed, code_bytes, starts, starts_within}
 use Rattle.program.proofs.PlaceLaws.{Loads, loaded, loads_read}
 use Rattle.program.proofs.SkipLaws.{first_behind}
-use Rattle.program.proofs.MarkLaws.{byte_mark, mark_behind, mark_byte}
+use Rattle.program.proofs.MarkLaws.{zero_at, byte_mark, mark_behind, mark_byte}
 
 -- The places from `above` on have their ends in m, and those before still have what they had. `after` is the end from the lowest place on, of
 -- the places that are done, where something starts.
@@ -312,9 +312,10 @@ pub all_zero : (ends : List ℕ) (n : ℕ) → ends ≡ replicate n 0 → (lengt
 all_zero ends n is = let long : length ends ≡ n = ap length is ∙ length-replicate n 0 in (long, is ∙ ap (λ (k : ℕ). replicate k 0) (sym long))
 
 -- the program is refused: nothing starts, and all ends are 0
-pub ends_refused : (ed : Edition) (bytes ends : List ℕ) → is_read (reading ed bytes) ≡ false → Clear ends → MarksEnds ed bytes ends
+pub ends_refused :
+    (ed : Edition) (bytes ends : List ℕ) → is_read (reading ed bytes) ≡ false → ends ≡ replicate (length ends) 0 → MarksEnds ed bytes ends
 unfolding is_read end_at end_in
-ends_refused ed bytes ends is clear p lt = clear p lt ∙ go (reading ed bytes) is
+ends_refused ed bytes ends is zeros p lt = zero_at ends zeros p lt ∙ go (reading ed bytes) is
   where
     go : (r : Reading) → is_read r ≡ false → 0 ≡ end_in r p
     go (program b) is = absurd (true≢false is)

@@ -73,15 +73,3 @@ marked_more xs marks i j m out lt inside p within = go (ltb p i) refl (eqb p i) 
     go false a false b false c =
         let other : p ≢ i = eqb-false p i b in
         get_or-set_other marks i p 1 0 other ∙ m p there ∙ rw (a, c) refl
-
--- the marks of the places before i are 0
-abbrev pub ClearTo : List ℕ → ℕ → Type 0
-ClearTo marks i = (p : ℕ) → p < i → get_or marks p 0 ≡ 0
-
--- one more is set to 0
-pub clear_more : (marks : List ℕ) (i : ℕ) → ClearTo marks i → i < length marks → ClearTo (set marks i 0) (i + 1)
-clear_more marks i clear lt p below = go (eqb p i) refl
-  where
-    go : (t : Bool) → eqb p i ≡ t → get_or (set marks i 0) p 0 ≡ 0
-    go true e = ap (λ (k : ℕ). get_or (set marks i 0) k 0) (eqb-true p i e) ∙ get_or-set_same marks i 0 0 lt
-    go false e = let other : p ≢ i = eqb-false p i e in get_or-set_other marks i p 0 0 other ∙ clear p (omega arith)

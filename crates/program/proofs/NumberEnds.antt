@@ -7,9 +7,11 @@ use native.Mathlib.Nat.{pow-suc}
 use native.Mathlib.Numerals.{add-one}
 use native.Mathlib.Omega.{arith}
 use lib.Dec.{eqb, ltb, leb}
-use lib.ListN.{length, get_or, drop, drop_of_length-le}
+use lib.ListN.{length, get_or, drop}
 use lib.Seq.{drop-cons}
 use borrow.Author.Tests.{lt-ltb, le-ltb, ltb-true, ltb-false, lt-leb, eqb-true, eq-eqb, ne_eqb}
+use Rattle.std.specs.Prelude.{Option, Some, None, MatchOption, position}
+use Rattle.std.specs.List.{position_or_len}
 use Rattle.program.specs.Limits.{number_bytes, job_limit}
 use Rattle.program.specs.Trees.{Body, largest}
 use Rattle.program.specs.Bytes.{job_byte, force_byte, top_bit, group_bytes, encode_number, encode, number_size, size}
@@ -18,11 +20,11 @@ use Rattle.program.specs.Internal.Progress.{number_end, opens_number, in_number}
 use Rattle.program.proofs.NumberLaws.{one_byte, more_bytes}
 use Rattle.program.proofs.StartLaws.{starts_low}
 
--- the end of a number, by its first byte
-end_empty : number_end [] ≡ 0
-unfolding number_end
-end_empty = refl
+-- a byte that is the last of its number
+abbrev pub is_last : ℕ → Bool
+is_last x = ltb x top_bit
 
+-- the end of a number, by its first byte
 end_stop : (x : ℕ) (left : List ℕ) → x < top_bit → number_end (x ∷ left) ≡ 1
 unfolding number_end
 end_stop x left lt = rw (lt-ltb x top_bit lt) refl
@@ -31,32 +33,41 @@ end_further : (x : ℕ) (left : List ℕ) → top_bit ≤ x → number_end (x �
 unfolding number_end
 end_further x left le = rw (le-ltb x top_bit le) refl
 
--- before the first turn
-pub end_none : (xs : List ℕ) → number_end xs ≡ 0 + number_end (drop 0 xs)
-end_none xs = omega arith
+-- it is behind the first byte that is the last of a number, or behind all bytes where none is
+pub end_found : (xs : List ℕ) → position_or_len is_last xs < length xs → position_or_len is_last xs + 1 ≡ number_end xs
+unfolding number_end
+end_found [] lt = absurd (omega arith)
+end_found (x ∷ left) lt = go (is_last x) (λ less. end_found left less) lt
+  where
+    go :
+        (t : Bool) → (position_or_len is_last left < length left → position_or_len is_last left + 1 ≡ number_end left) → cond (not t) (1 + position_or_len is_last left) 0 < suc (length left)
+        → cond (not t) (1 + position_or_len is_last left) 0 + 1 ≡ cond t 1 (suc (number_end left))
+    go true later lt = refl
+    go false later lt = omega (arith, later (omega arith))
 
--- one more byte with its top bit set
-pub end_more :
-    (xs : List ℕ) (i : ℕ) → i < length xs → top_bit ≤ get_or xs i 0 → number_end xs ≡ i + number_end (drop i xs)
-    → number_end xs ≡ (i + 1) + number_end (drop (i + 1) xs)
-end_more xs i lt le inv =
-    let here : number_end (drop i xs) ≡ suc (number_end (drop (suc i) xs))
-    = ap number_end (drop-cons xs i 0 lt) ∙ end_further (get_or xs i 0) (drop (suc i) xs) le in
-    rw (add-one i) (omega arith)
+pub end_nowhere : (xs : List ℕ) → length xs ≤ position_or_len is_last xs → length xs ≡ number_end xs
+unfolding number_end
+end_nowhere [] le = refl
+end_nowhere (x ∷ left) le = go (is_last x) (λ more. end_nowhere left more) le
+  where
+    go :
+        (t : Bool) → (length left ≤ position_or_len is_last left → length left ≡ number_end left) → suc (length left) ≤ cond (not t) (1 + position_or_len is_last left) 0
+        → suc (length left) ≡ cond t 1 (suc (number_end left))
+    go true later le = absurd (omega arith)
+    go false later le = omega (arith, later (omega arith))
 
--- the first byte with its top bit clear is the number's last
-pub end_found :
-    (xs : List ℕ) (i : ℕ) → i < length xs → get_or xs i 0 < top_bit → number_end xs ≡ i + number_end (drop i xs) → i + 1 ≡ number_end xs
-end_found xs i lt le inv =
-    let here : number_end (drop i xs) ≡ 1 = ap number_end (drop-cons xs i 0 lt) ∙ end_stop (get_or xs i 0) (drop (suc i) xs) le in
-    omega arith
-
--- no byte has its top bit clear
-pub end_nowhere :
-    (xs : List ℕ) (i : ℕ) → i ≤ length xs → length xs ≤ i → number_end xs ≡ i + number_end (drop i xs) → length xs ≡ number_end xs
-end_nowhere xs i le ge inv =
-    let here : number_end (drop i xs) ≡ 0 = ap number_end (drop_of_length-le xs ge) ∙ end_empty in
-    omega arith
+-- so for what `position` finds
+pub end_by_position :
+    (xs : List ℕ) (r : Option ℕ) → r ≡ position is_last xs → MatchOption r (length xs ≡ number_end xs) (λ i. i + 1 ≡ number_end xs)
+end_by_position xs r is =
+    subst (λ (o : Option ℕ). MatchOption o (length xs ≡ number_end xs) (λ i. i + 1 ≡ number_end xs)) (sym is)
+    (go (ltb (position_or_len is_last xs) (length xs)) refl)
+  where
+    go :
+        (t : Bool) → ltb (position_or_len is_last xs) (length xs) ≡ t
+        → MatchOption (cond t (Some (position_or_len is_last xs)) None) (length xs ≡ number_end xs) (λ i. i + 1 ≡ number_end xs)
+    go true e = end_found xs (ltb-true _ _ e)
+    go false e = end_nowhere xs (ltb-false _ _ e)
 
 -- one group more: the groups end with the first byte, or where the others do
 groups_further :

@@ -112,6 +112,7 @@ fn opened_behind(first: u8, opened: u32) -> u32
 }
 
 // The place behind the number at a place of the program, if it is read and below the bound.
+#[tactic(auto, using(crate::proofs::CheckLaws::short_over, crate::proofs::CheckLaws::short_below))]
 fn past_number(program: &[u8], from: usize, bound: u64) -> Option<usize>
     requires { (from ≤ length program.now) × (length program.now ≤ program_bytes) }
     ensures { result ≡ past_number (length program.now) bound (number (drop from program.now)) }

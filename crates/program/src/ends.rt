@@ -4,10 +4,11 @@ ghost use Rattle.program.specs.Limits.{program_bytes};
 ghost use Rattle.program.specs.Located.{item_at, MarksEnds};
 ghost use Rattle.program.specs.Answers.{stands, reader_at, handed_back, moved_past};
 ghost use Rattle.program.specs.Claims.{Encoding};
-ghost use Rattle.program.specs.Internal.Progress.{Outside, Clear, Ended, end_by, LooksWithin, BeginsEnded, Shows};
+ghost use Rattle.program.specs.Internal.Progress.{Outside, Ended, end_by, LooksWithin, BeginsEnded, Shows};
 
 use crate::checks::check;
 use crate::format::{ASYNC, END, FINISH, FORCE, FORK, FUTURE, JOB, PROGRAM_BYTES};
+use crate::marked::MarkedProgram;
 use crate::starts::opens_number;
 use crate::{Edition, ItemRead, Reader};
 use refusal::Reason;
@@ -19,19 +20,10 @@ pub fn mark_ends(program: &[u8], edition: Edition, ends: &mut [u16])
     ensures { (length ends.new ≡ program_bytes) × MarksEnds edition program.now ends.new }
 {
     if !check(program, edition, ends) {
-        clear(ends);
+        ends.fill(0);
         return;
     }
     fill_ends(program, ends);
-}
-
-// Sets all marks to 0.
-fn clear(marks: &mut [u16])
-    ensures { (length marks.new ≡ length marks.old) × Clear marks.new }
-{
-    for i in 0..marks.len() {
-        marks[i] = 0;
-    }
 }
 
 // Turns the marks into ends, from the last place to the first. `after` is the end from the lowest place on where something starts, of those
@@ -41,9 +33,7 @@ fn fill_ends(program: &[u8], ends: &mut [u16])
     ensures { (length ends.new ≡ length ends.old) × Ended program.now ends.new }
 {
     let mut after: u16 = 0;
-    let mut place = program.len();
-    while 0 < place {
-        place -= 1;
+    for place in (0..program.len()).rev() {
         if ends[place] != 0 {
             after = end_from(program[place], place, after, ends);
             ends[place] = after;
@@ -53,6 +43,7 @@ fn fill_ends(program: &[u8], ends: &mut [u16])
 
 // The end from a place on, by the byte that starts there. `after` is the end from the next place on where something starts: there stands what
 // follows a job or a force, and the first body of an item that has one or two.
+#[tactic(auto, unfolding(crate::specs::Internal::Progress::end_by, crate::specs::Internal::Progress::opens_number))]
 fn end_from(first: u8, place: usize, after: u16, ends: &[u16]) -> u16
     requires { (place < program_bytes) × LooksWithin first after ends.now }
     ensures { result ≡ end_by first place after ends.now }
@@ -70,16 +61,17 @@ fn end_from(first: u8, place: usize, after: u16, ends: &[u16]) -> u16
     behind
 }
 
-// What stands at a place of a program whose ends these are: all that `item_at` tells, without a search for bodies' ends.
-pub fn item_by_ends(program: &[u8], ends: &[u16], edition: Edition, place: u32) -> ItemRead
-    requires { MarksEnds edition program.now ends.now × (length ends.now ≡ program_bytes) }
-    ensures { (stands result ≡ item_at edition program.now place) × (handed_back result ≡ moved_past (reader_at place) (stands result)) }
-{
-    let from = place as usize;
-    if PROGRAM_BYTES <= from || ends[from] == 0 {
-        return ItemRead::Refused(Reason::NothingStarts.into());
+impl<'a> MarkedProgram<'a> {
+    // What stands at a place: all that `item_at` tells, without a search for bodies' ends.
+    pub fn item_by_ends(&self, place: u32) -> ItemRead
+        ensures { (stands result ≡ item_at self.now.edition self.now.bytes.now place) × (handed_back result ≡ moved_past (reader_at place) (stands result)) }
+    {
+        let from = place as usize;
+        if PROGRAM_BYTES <= from || self.ends[from] == 0 {
+            return ItemRead::Refused(Reason::NothingStarts.into());
+        }
+        Reader::at(place).item_ended(&self.bytes[from..], self.ends)
     }
-    Reader::at(place).item_ended(&program[from..], ends)
 }
 
 impl Reader {

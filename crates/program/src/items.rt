@@ -6,6 +6,7 @@ ghost use Rattle.program.specs.Answers.{Stands, stands, reader_at, handed_back, 
 ghost use Rattle.program.specs.Internal.Progress.{BeginsWithBody, BeginsEnded, EndTold, Shows, ShowsNumbered, Sized, numbered_stands};
 
 use crate::format::{ASYNC, END, FINISH, FORCE, FORK, FUTURE, JOB, PROGRAM_BYTES};
+use crate::marked::MarkedProgram;
 use crate::numbers::number_end;
 use crate::starts::starts_at;
 use crate::{Edition, ItemCounts, ItemRead, Reader};
@@ -21,15 +22,15 @@ pub fn item_at(program: &[u8], edition: Edition, place: u32) -> ItemRead
     item_if_starts(program, &no_ends, edition, place, starts)
 }
 
-// The same for a look, in a program whose ends these are: without a search. The loop of a walk has a reader of its own (`ends::item_by_ends`):
-// what has one caller is compiled into it.
-pub fn item_for_looks(program: &[u8], ends: &[u16], edition: Edition, place: u32) -> ItemRead
-    requires { MarksEnds edition program.now ends.now × (length ends.now ≡ program_bytes) }
-    ensures { (stands result ≡ item_at edition program.now place) × (handed_back result ≡ moved_past (reader_at place) (stands result)) }
-{
-    let from = place as usize;
-    let starts = from < PROGRAM_BYTES && ends[from] != 0;
-    item_if_starts(program, ends, edition, place, starts)
+impl<'a> MarkedProgram<'a> {
+    // The same for a look: without a search. The loop of a walk has a reader of its own (`item_by_ends`): what has one caller is compiled into it.
+    pub fn item_for_looks(&self, place: u32) -> ItemRead
+        ensures { (stands result ≡ item_at self.now.edition self.now.bytes.now place) × (handed_back result ≡ moved_past (reader_at place) (stands result)) }
+    {
+        let from = place as usize;
+        let starts = from < PROGRAM_BYTES && self.ends[from] != 0;
+        item_if_starts(self.bytes, self.ends, self.edition, place, starts)
+    }
 }
 
 // The same, told whether an item or an end byte starts at the place, and the program's ends or none.
@@ -124,16 +125,15 @@ fn body_size(bytes: &[u8]) -> usize
     let mut from = 0;
     while bytes[from] != END {
         let first = bytes[from];
+        from += 1;
         if first == JOB || first == FORCE {
-            from = from + 1 + number_end(&bytes[from + 1..]);
-            continue;
+            from += number_end(&bytes[from..]);
+        } else {
+            from += body_size(&bytes[from..]);
+            if first == FORK {
+                from += body_size(&bytes[from..]);
+            }
         }
-        let behind = from + 1 + body_size(&bytes[from + 1..]);
-        if first != FORK {
-            from = behind;
-            continue;
-        }
-        from = behind + body_size(&bytes[behind..]);
     }
     from + 1
 }

@@ -12,6 +12,7 @@ pub mod ends;
 pub mod format;
 pub mod items;
 pub mod laws;
+pub mod marked;
 mod numbers;
 pub mod reading;
 mod starts;

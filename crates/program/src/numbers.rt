@@ -40,15 +40,14 @@ impl Reader {
         let mut value: u64 = 0;
         let mut weight: u64 = 1;
         for i in 0..NUMBER_BYTES {
-            if bytes.len() <= i {
+            let Some(&group) = bytes.get(i) else {
                 return Err(self.moved(i as u32).refused(Reason::BytesRunOut));
-            }
-            let group = bytes[i];
+            };
             if group < TOP_BIT {
                 return self.number_ended(value + weight * group as u64, group, i as u32);
             }
             value += weight * (group - TOP_BIT) as u64;
-            weight *= 128;
+            weight *= TOP_BIT as u64;
         }
         Err(self.refused(Reason::NumberMalformed))
     }
@@ -73,10 +72,8 @@ impl Reader {
 pub(crate) fn number_end(bytes: &[u8]) -> usize
     ensures { result ≡ number_end bytes.now }
 {
-    for i in 0..bytes.len() {
-        if bytes[i] < TOP_BIT {
-            return i + 1;
-        }
+    match bytes.iter().position(|&byte| byte < TOP_BIT) {
+        Some(last) => last + 1,
+        None => bytes.len(),
     }
-    bytes.len()
 }

@@ -32,6 +32,7 @@ pub fn edge_rows(items: ItemCounts) -> u64
 }
 
 // The vertices that so many forks make.
+#[tactic(auto, unfolding(crate::specs::Encodings::fork_vertices))]
 pub(crate) fn fork_vertices(forks: u16, edition: Edition) -> u64
     ensures { (result ≡ fork_vertices edition * forks) × (result ≤ 3 * forks) }
 {
@@ -54,6 +55,7 @@ pub fn steps(items: ItemCounts, edition: Edition) -> u64
 }
 
 // The steps that so many forks take.
+#[tactic(auto, unfolding(crate::specs::Encodings::fork_steps))]
 fn fork_steps(forks: u16, edition: Edition) -> u64
     ensures { (result ≡ fork_steps edition * forks) × (result ≤ 15 * forks) }
 {
@@ -79,6 +81,7 @@ pub fn read(program: &[u8], edition: Edition) -> Result<ItemCounts, Refusal>
 }
 
 // What a reader behind the main body's end comes to, in a program of this length.
+#[tactic(auto, using(crate::proofs::WholeLaws::bytes_left, crate::proofs::WholeLaws::vertices_over, crate::proofs::WholeLaws::all_read))]
 fn counted(end: Reader, length: usize, edition: Edition) -> Result<ItemCounts, Refusal>
     ensures { said result ≡ finished edition length end.place (item_counts end.seen) }
 {

@@ -20,6 +20,7 @@ pub(crate) fn starts_at(program: &[u8], edition: Edition, place: u32) -> bool
 }
 
 // The byte is a job's first or a force's, unless it is itself one of a number.
+#[tactic(auto, unfolding(crate::specs::Internal::Progress::opens_number))]
 pub(crate) fn opens_number(byte: u8) -> bool
     ensures { result ≡ opens_number byte }
 {
@@ -32,14 +33,12 @@ fn in_number(program: &[u8], place: usize) -> bool
     requires { Encoding program.now × (place ≤ length program.now) }
     ensures { result ≡ in_number program.now place }
 {
-    let mut before = place;
     let mut turned = false;
-    while 0 < before {
-        let byte = program[before - 1];
+    for before in (0..place).rev() {
+        let byte = program[before];
         if !opens_number(byte) {
             return turned != (TOP_BIT <= byte);
         }
-        before -= 1;
         turned = !turned;
     }
     turned

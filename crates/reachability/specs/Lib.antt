@@ -2,7 +2,9 @@
 -- is held to the plain machine's definition (crate `machine`).
 --     Pairs      what is told of a pair
 --     Marks      a bit for each pair, and what the private functions promise one another about these
---     Order      what they promise one another about an order of the rows
+--     Order      what is so of an order of the rows in the making
+--     Making     what the private functions promise one another about it
 pub mod Pairs
 pub mod Marks
 pub mod Order
+pub mod Making

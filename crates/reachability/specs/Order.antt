@@ -1,21 +1,6 @@
--- An order of the rows in the making: what private functions promise one another.
+-- An order of the rows in the making: its first rows are used ones.
 use Rattle.std.specs.Prelude.{ℕ, ◌<◌, ◌≤◌, ◌≡◌, List, length, get_or}
-use Rattle.graph.specs.Tables.{usable_limit, target_word}
-use Rattle.index.specs.Layout.{last_out_base, before_out_base}
-use Rattle.reachability.specs.declared.order.Reached.{Reached}
-use Rattle.reachability.specs.declared.order.Way.{Way}
 use Rattle.reachability.specs.Pairs.{order_words}
-
--- what a search reads is inside an index
-pub record Within (way : Way) : Type 0 where
-  pub lasts : way.last ≤ last_out_base
-  pub befores : way.before ≤ before_out_base
-  pub ends : way.end ≤ target_word
-
--- a search has no more vertices on its stack, and no more finished, than there are
-pub record Counted (reached : Reached) : Type 0 where
-  pub stacked : reached.depth ≤ usable_limit
-  pub ended : reached.finished ≤ usable_limit
 
 -- the first n words are numbers of used rows
 pub record Ordered (used : ℕ) (rows : List ℕ) (n : ℕ) : Type 0 where

@@ -4,10 +4,10 @@
 // vertices were found, from the last to the first, which gathers all labels of the component at the root; and at each vertex the rows out of it.
 // That takes 20 KiB of stack. No proof rests on this order: it decides only how much a pass finds.
 ghost use Rattle.std.specs.Prelude.{◌≡◌, ℕ, ◌<◌, ◌≤◌, length, get_or};
-ghost use Rattle.graph.specs.Tables.{usable_limit};
-ghost use Rattle.index.specs.Layout.{index_words, Indexed};
+ghost use Rattle.graph.specs.Tables.{usable_limit, target_word};
+ghost use Rattle.index.specs.Layout.{index_words, last_out_base, before_out_base, Indexed};
 ghost use Rattle.reachability.specs.Pairs.{order_words};
-ghost use Rattle.reachability.specs.Order.{Within, Counted, Ordered};
+ghost use Rattle.reachability.specs.Order.{Ordered};
 
 use graph::rows::{EDGE_WORDS, SOURCE, TARGET, USABLE_LIMIT};
 use index::layout::{BEFORE_IN, BEFORE_OUT, LAST_IN, LAST_OUT, NOWHERE, ROW_LIMIT};
@@ -15,16 +15,17 @@ use index::layout::{BEFORE_IN, BEFORE_OUT, LAST_IN, LAST_OUT, NOWHERE, ROW_LIMIT
 // Each row once, and again those by which the second search found a vertex.
 pub const ORDER_WORDS: usize = 3 * USABLE_LIMIT;
 
-// The largest number of a row, counted from 1.
+// The largest number of a row, counted from 1. That 0 is none stays: it is the index's layout.
 const LAST_ROW: u32 = 2048;
 
 // No search takes more steps: each follows a row or finishes a vertex.
 const STEPS: usize = ROW_LIMIT + USABLE_LIMIT;
 
-// In place of the next row of a vertex that was not found yet.
+// In place of the next row of a vertex that was not found yet. An `Option` there, or an enum for a root or a row below, takes eight bytes for four, and
+// stack may not rise.
 const UNSEEN: u32 = 4294967295;
 
-// A root, with its vertex added, stands where other vertices have the row by which they were found.
+// A root, with its vertex in the lower bits, stands where other vertices have the row by which they were found.
 const ROOT: u32 = 4096;
 
 // Along the rows or against them: where the last row of each vertex stands, where the row before each, and which end of a row leads on.
@@ -33,325 +34,223 @@ struct Way {
     last: usize,
     before: usize,
     end: usize,
+    ghost lasts: { last ≤ last_out_base },
+    ghost befores: { before ≤ before_out_base },
+    ghost ends: { end ≤ target_word },
 }
 
-// How many vertices are on the stack of a search, were found, and are finished.
-#[derive(Clone, Copy)]
-struct Reached {
-    depth: usize,
-    found: usize,
-    finished: usize,
-}
-
-// Where the next component begins among the found vertices, and how many rows are laid out.
-#[derive(Clone, Copy)]
-struct Laid {
-    block: usize,
-    count: usize,
-}
-
-// Puts a vertex on the stack, which was found by `row`.
-fn discover(
-    index: &[u32],
-    way: Way,
-    vertex: u32,
-    row: u32,
-    next: &mut [u32; USABLE_LIMIT],
-    stack: &mut [u32; USABLE_LIMIT],
-    found: &mut [u32; USABLE_LIMIT],
-    reached: Reached,
-) -> Reached
-    requires { (length index.now ≡ index_words) × Within way × (vertex < usable_limit) × Counted reached }
-    ensures { Counted result }
-{
-    let last = way.last;
-    let depth = reached.depth;
-    let place = reached.found;
-    if USABLE_LIMIT <= depth {
-        return reached;
-    }
-    if USABLE_LIMIT <= place {
-        return reached;
-    }
-    next[vertex as usize] = index[last + vertex as usize];
-    stack[depth] = vertex;
-    found[place] = row;
-    Reached {
-        depth: depth + 1,
-        found: place + 1,
-        finished: reached.finished,
-    }
-}
-
-// Takes a vertex off the stack.
-fn finish(vertex: u32, finished: &mut [u32; USABLE_LIMIT], reached: Reached) -> Reached
-    requires { Counted reached × (0 < reached.depth) }
-    ensures { Counted result }
-{
-    let place = reached.finished;
-    if USABLE_LIMIT <= place {
-        return reached;
-    }
-    finished[place] = vertex;
-    Reached {
-        depth: reached.depth - 1,
-        found: reached.found,
-        finished: place + 1,
-    }
-}
-
-// Follows the next row of the vertex on top of the stack, or finishes it where there is none.
-fn step(
-    index: &[u32],
-    way: Way,
-    next: &mut [u32; USABLE_LIMIT],
-    stack: &mut [u32; USABLE_LIMIT],
-    found: &mut [u32; USABLE_LIMIT],
-    finished: &mut [u32; USABLE_LIMIT],
-    reached: Reached,
-) -> Reached
-    requires { (length index.now ≡ index_words) × Within way × Counted reached × (0 < reached.depth) }
-    ensures { Counted result }
-{
-    let top = reached.depth - 1;
-    let vertex = stack[top];
-    if NOWHERE <= vertex {
-        return reached;
-    }
-    let row = next[vertex as usize];
-    if row == 0 {
-        return finish(vertex, finished, reached);
-    }
-    if LAST_ROW < row {
-        return reached;
-    }
-    let i = (row - 1) as usize;
-    let before = way.before;
-    let end = way.end;
-    next[vertex as usize] = index[before + i];
-    let onward = index[EDGE_WORDS * i + end];
-    if NOWHERE <= onward {
-        return reached;
-    }
-    if next[onward as usize] != UNSEEN {
-        return reached;
-    }
-    discover(index, way, onward, row, next, stack, found, reached)
-}
-
-// Begins a search at `root`, where `count` vertices are found and finished, unless the root is one of them.
-fn begin(
-    index: &[u32],
-    way: Way,
-    root: u32,
-    next: &mut [u32; USABLE_LIMIT],
-    stack: &mut [u32; USABLE_LIMIT],
-    found: &mut [u32; USABLE_LIMIT],
-    count: usize,
-) -> Reached
-    requires { (length index.now ≡ index_words) × Within way × (count ≤ usable_limit) }
-    ensures { Counted result }
-{
-    let reached = Reached {
-        depth: 0,
-        found: count,
-        finished: count,
+impl Way {
+    const ALONG: Self = Self {
+        last: LAST_OUT,
+        before: BEFORE_OUT,
+        end: TARGET,
     };
-    if NOWHERE <= root {
-        return reached;
-    }
-    if next[root as usize] != UNSEEN {
-        return reached;
-    }
-    discover(index, way, root, ROOT + root, next, stack, found, reached)
+
+    const AGAINST: Self = Self {
+        last: LAST_IN,
+        before: BEFORE_IN,
+        end: SOURCE,
+    };
 }
 
-// Searches from `root` to the end, and says how many vertices are finished then.
-fn explore(
-    index: &[u32],
-    way: Way,
-    root: u32,
-    next: &mut [u32; USABLE_LIMIT],
-    stack: &mut [u32; USABLE_LIMIT],
-    found: &mut [u32; USABLE_LIMIT],
-    finished: &mut [u32; USABLE_LIMIT],
+// A list with room for each vertex once.
+#[derive(Drop)]
+struct List {
+    words: [u32; USABLE_LIMIT],
     count: usize,
-) -> usize
-    requires { (length index.now ≡ index_words) × Within way × (count ≤ usable_limit) }
-    ensures { result ≤ usable_limit }
-{
-    let mut reached = begin(index, way, root, next, stack, found, count);
-    for _ in 0..STEPS {
-        if reached.depth == 0 {
-            return reached.finished;
-        }
-        reached = step(index, way, next, stack, found, finished, reached);
-    }
-    reached.finished
+    ghost few: { count ≤ usable_limit },
 }
 
-// A depth-first search from each of the first `count` roots, from the last to the first. It lists how each vertex was found, in the order of finding,
-// and the vertices as they finish, and says how many they are.
-fn search(
-    index: &[u32],
-    way: Way,
-    roots: &[u32; USABLE_LIMIT],
-    count: usize,
-    found: &mut [u32; USABLE_LIMIT],
-    finished: &mut [u32; USABLE_LIMIT],
-) -> usize
-    requires { (length index.now ≡ index_words) × Within way × (count ≤ usable_limit) }
-    ensures { result ≤ usable_limit }
-{
-    let mut next = [UNSEEN; USABLE_LIMIT];
-    let mut stack = [0; USABLE_LIMIT];
-    let mut done = 0;
-    for i in 0..count {
-        let root = roots[count - 1 - i];
-        done = explore(
-            index, way, root, &mut next, &mut stack, found, finished, done,
-        );
-    }
-    done
-}
-
-// Appends a row, which is counted from 1, if it is used and there is room.
-fn put(row: u32, used: usize, rows: &mut [u32], count: usize) -> usize
-    requires { Ordered used rows.old count }
-    ensures { Ordered used rows.new result }
-{
-    if row == 0 {
-        return count;
-    }
-    if used < row as usize {
-        return count;
-    }
-    if rows.len() <= count {
-        return count;
-    }
-    rows[count] = row - 1;
-    count + 1
-}
-
-// Where the component ends whose vertices stand from `from` on: at the next root.
-fn component_end(found: &[u32; USABLE_LIMIT], begun: usize, from: usize) -> usize
-    requires { begun ≤ usable_limit }
-    ensures { result ≤ usable_limit }
-{
-    for i in from..begun {
-        if ROOT <= found[i] {
-            return i;
+impl List {
+    fn new() -> Self {
+        List {
+            words: [0; USABLE_LIMIT],
+            count: 0,
         }
     }
-    begun
+
+    fn clear(&mut self) {
+        self.count = 0;
+    }
+
+    fn push(&mut self, word: u32) {
+        if self.count < USABLE_LIMIT {
+            self.words[self.count] = word;
+            self.count += 1;
+        }
+    }
+
+    fn last(&self) -> Option<u32> {
+        match self.count {
+            0 => None,
+            count => Some(self.words[count - 1]),
+        }
+    }
+
+    fn pop(&mut self) {
+        self.count = self.count.saturating_sub(1);
+    }
+
+    fn listed(&self) -> &[u32] {
+        &self.words[..self.count]
+    }
 }
 
-// Lays out the rows by which the other vertices of a component were found, from the last to the first, where `vertex` is the root of the next one.
-fn gather(
-    vertex: u32,
-    found: &[u32; USABLE_LIMIT],
-    begun: usize,
-    used: usize,
-    rows: &mut [u32],
-    laid: Laid,
-) -> Laid
-    requires { (vertex < usable_limit) × (begun ≤ usable_limit) × Ordered used rows.old laid.count }
-    ensures { Ordered used rows.new result.count }
-{
-    let block = laid.block;
-    if begun <= block {
-        return laid;
-    }
-    if found[block] != ROOT + vertex {
-        return laid;
-    }
-    let end = component_end(found, begun, block + 1);
-    let mut count = laid.count;
-    for i in block + 1..end {
-        count = put(found[block + end - i], used, rows, count);
-    }
-    Laid { block: end, count }
+// A depth-first search: the row that each vertex follows next, the vertices that are under way, how each vertex was found, in the order of finding, and
+// the vertices as they finish.
+#[derive(Drop)]
+struct Search<'a> {
+    index: &'a [u32],
+    way: Way,
+    next: [u32; USABLE_LIMIT],
+    stack: List,
+    found: &'a mut List,
+    finished: &'a mut List,
+    ghost long: { length index.now ≡ index_words },
 }
 
-// Lays out the rows out of `vertex`.
-fn lay_rows_out(index: &[u32], vertex: u32, used: usize, rows: &mut [u32], laid: usize) -> usize
-    requires { (length index.now ≡ index_words) × (vertex < usable_limit) × Ordered used rows.old laid }
-    ensures { Ordered used rows.new result }
-{
-    let mut count = laid;
-    let mut row = index[LAST_OUT + vertex as usize];
-    for _ in 0..ROW_LIMIT {
+impl<'a> Search<'a> {
+    // Puts a vertex on the stack to which `row` leads, unless it was found before.
+    fn discover(&mut self, vertex: u32, row: u32) {
+        if NOWHERE <= vertex || self.next[vertex as usize] != UNSEEN {
+            return;
+        }
+        self.next[vertex as usize] = self.index[self.way.last + vertex as usize];
+        self.stack.push(vertex);
+        self.found.push(row);
+    }
+
+    // Follows the next row of the vertex on top of the stack, or finishes it where there is none.
+    fn step(&mut self, vertex: u32) {
+        if NOWHERE <= vertex {
+            return;
+        }
+        let row = self.next[vertex as usize];
         if row == 0 {
-            return count;
+            self.stack.pop();
+            self.finished.push(vertex);
+        } else if row <= LAST_ROW {
+            let i = (row - 1) as usize;
+            self.next[vertex as usize] = self.index[self.way.before + i];
+            let onward = self.index[EDGE_WORDS * i + self.way.end];
+            self.discover(onward, row);
         }
-        if LAST_ROW < row {
-            return count;
-        }
-        count = put(row, used, rows, count);
-        row = index[BEFORE_OUT + (row - 1) as usize];
     }
-    count
-}
 
-// Lays out what comes at `vertex`.
-fn lay_vertex(
-    index: &[u32],
-    vertex: u32,
-    found: &[u32; USABLE_LIMIT],
-    begun: usize,
-    used: usize,
-    rows: &mut [u32],
-    laid: Laid,
-) -> Laid
-    requires { (length index.now ≡ index_words) × (begun ≤ usable_limit) × Ordered used rows.old laid.count }
-    ensures { Ordered used rows.new result.count }
-{
-    if NOWHERE <= vertex {
-        return laid;
-    }
-    let gathered = gather(vertex, found, begun, used, rows, laid);
-    let count = lay_rows_out(index, vertex, used, rows, gathered.count);
-    Laid {
-        block: gathered.block,
-        count,
+    // Searches from `root` to the end.
+    fn explore(&mut self, root: u32) {
+        self.discover(root, ROOT | root);
+        for _ in 0..STEPS {
+            let Some(vertex) = self.stack.last() else {
+                return;
+            };
+            self.step(vertex);
+        }
     }
 }
 
-// Lays out all rows, from the last finished vertex to the first.
-fn lay_all(
-    index: &[u32],
-    finished: &[u32; USABLE_LIMIT],
-    ended: usize,
-    found: &[u32; USABLE_LIMIT],
-    begun: usize,
-    used: usize,
-    rows: &mut [u32],
-) -> usize
-    requires { (length index.now ≡ index_words) × (ended ≤ usable_limit) × (begun ≤ usable_limit) × (length rows.old ≡ order_words) }
-    ensures { Ordered used rows.new result }
+// A depth-first search from each of the roots, from the last to the first. It lists how each vertex was found, in the order of finding, and the vertices
+// as they finish.
+fn search_all(index: &[u32], way: Way, roots: &[u32], found: &mut List, finished: &mut List)
+    requires { length index.now ≡ index_words }
 {
-    let mut laid = Laid { block: 0, count: 0 };
-    for i in 0..ended {
-        let vertex = finished[ended - 1 - i];
-        laid = lay_vertex(index, vertex, found, begun, used, rows, laid);
+    let mut search = Search {
+        index,
+        way,
+        next: [UNSEEN; USABLE_LIMIT],
+        stack: List::new(),
+        found,
+        finished,
+    };
+    for &root in roots.iter().rev() {
+        search.explore(root);
     }
-    laid.count
+}
+
+// The order in the making.
+#[derive(Drop)]
+struct Order<'a> {
+    rows: &'a mut [u32],
+    used: usize,
+    count: usize,
+    ghost ordered: { Ordered used rows.now count },
+}
+
+impl<'a> Order<'a> {
+    ghost use Rattle.reachability.specs.Making.{GoesOn};
+
+    // Appends a row, which is counted from 1, if it is used and there is room.
+    fn put(&mut self, row: u32)
+        ensures { GoesOn self.old self.new }
+    {
+        if row == 0 || self.used < row as usize || self.rows.len() <= self.count {
+            return;
+        }
+        self.rows[self.count] = row - 1;
+        self.count += 1;
+    }
+
+    // Where a component begins of which `vertex` is the root, appends the rows by which its other vertices were found, from the last to the first, and leaves
+    // the components behind it.
+    fn gather<'f>(&mut self, vertex: u32, found: &'f [u32]) -> &'f [u32]
+        ensures { GoesOn self.old self.new }
+    {
+        let [root, others @ ..] = found else {
+            return found;
+        };
+        if *root != ROOT | vertex {
+            return found;
+        }
+        let end = others
+            .iter()
+            .position(|&row| ROOT <= row)
+            .unwrap_or(others.len());
+        for &row in others[..end].iter().rev() {
+            self.put(row);
+        }
+        &others[end..]
+    }
+
+    // Appends the rows out of `vertex`.
+    fn put_rows_out(&mut self, index: &[u32], vertex: u32)
+        requires { length index.now ≡ index_words }
+        ensures { GoesOn self.old self.new }
+    {
+        if NOWHERE <= vertex {
+            return;
+        }
+        let mut row = index[LAST_OUT + vertex as usize];
+        for _ in 0..ROW_LIMIT {
+            if row == 0 || LAST_ROW < row {
+                return;
+            }
+            self.put(row);
+            row = index[BEFORE_OUT + (row - 1) as usize];
+        }
+    }
+
+    // Appends all rows, from the last finished vertex to the first.
+    fn put_all(&mut self, index: &[u32], finished: &[u32], found: &[u32])
+        requires { length index.now ≡ index_words }
+        ensures { GoesOn self.old self.new }
+    {
+        let mut components = found;
+        for &vertex in finished.iter().rev() {
+            components = self.gather(vertex, components);
+            self.put_rows_out(index, vertex);
+        }
+    }
 }
 
 // The vertices that rows lead out of.
-fn list_sources(index: &[u32], sources: &mut [u32; USABLE_LIMIT]) -> usize
+fn list_sources(index: &[u32], sources: &mut List)
     requires { length index.now ≡ index_words }
-    ensures { result ≤ usable_limit }
 {
-    let mut count: usize = 0;
-    for i in 0..USABLE_LIMIT {
-        if index[LAST_OUT + i] == 0 {
-            continue;
+    for (vertex, &row) in index[LAST_OUT..LAST_OUT + USABLE_LIMIT].iter().enumerate() {
+        if row != 0 {
+            sources.push(vertex as u32);
         }
-        sources[count] = i as u32;
-        count += 1;
     }
-    count
 }
 
 // Writes the order to `rows`, and says how many words it takes.
@@ -359,21 +258,32 @@ pub fn order_rows(index: &[u32], used: usize, rows: &mut [u32]) -> usize
     requires { Indexed index.now used × (length rows.old ≡ order_words) }
     ensures { (result ≤ order_words) × (length rows.new ≡ order_words) × ((k : ℕ) → k < result → get_or rows.new k 0 < used) }
 {
-    let mut roots = [0; USABLE_LIMIT];
-    let mut finished = [0; USABLE_LIMIT];
-    let mut found = [0; USABLE_LIMIT];
-    let count = list_sources(index, &mut roots);
-    let along = Way {
-        last: LAST_OUT,
-        before: BEFORE_OUT,
-        end: TARGET,
+    let mut sources = List::new();
+    let mut finished = List::new();
+    let mut found = List::new();
+    list_sources(index, &mut sources);
+    search_all(
+        index,
+        Way::ALONG,
+        sources.listed(),
+        &mut found,
+        &mut finished,
+    );
+    // Nobody reads what the second search lists as finished.
+    sources.clear();
+    found.clear();
+    search_all(
+        index,
+        Way::AGAINST,
+        finished.listed(),
+        &mut found,
+        &mut sources,
+    );
+    let mut order = Order {
+        rows,
+        used,
+        count: 0,
     };
-    let ended = search(index, along, &roots, count, &mut found, &mut finished);
-    let against = Way {
-        last: LAST_IN,
-        before: BEFORE_IN,
-        end: SOURCE,
-    };
-    let begun = search(index, against, &finished, ended, &mut found, &mut roots);
-    lay_all(index, &finished, ended, &found, begun, used, rows)
+    order.put_all(index, finished.listed(), found.listed());
+    order.count
 }

@@ -43,6 +43,7 @@ fn held_pairs(
     ensures { Finds index.now used wanted.now labels.now result }
 {
     let mut held = 0;
+    // By the rows' numbers, as `Finds` has them: over `chunks_exact` the proof did not close.
     for i in 0..used {
         let source = index[EDGE_WORDS * i + SOURCE] as usize;
         let target = index[EDGE_WORDS * i + TARGET] as usize;
@@ -70,12 +71,12 @@ fn says(i: usize, held: u64, label: u64) -> Telling
     ensures { Says i held label result }
 {
     if (held >> i) % 2 == 1 {
-        return Telling::Nothing;
+        Telling::Nothing
+    } else if (label >> i) % 2 == 1 {
+        Telling::Joined
+    } else {
+        Telling::NotHeld
     }
-    if (label >> i) % 2 == 1 {
-        return Telling::Joined;
-    }
-    Telling::NotHeld
 }
 
 // Tells it of each pair.
@@ -89,7 +90,8 @@ fn tell_each(goals: &[u32], held: u64, labels: &[u64; SEARCH_LIMIT], told: &mut 
 }
 
 // Tells of each pair whether no row leads from its goal to its start, and whether a path leads from its start to its goal, as far as one pass over
-// `rows` finds it.
+// `rows` finds it. A list of pairs in place of starts and goals is no plainer: `mark_ends` sets marks at one end of the pairs, of either list. The
+// parameters `index` and `used` with their clause stay apart, here and in `order_rows`, as docs/DECISIONS.md names both functions.
 pub fn tell_pairs(
     index: &[u32],
     used: usize,

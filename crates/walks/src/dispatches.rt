@@ -14,10 +14,10 @@ use crate::{DispatchAnswer, DispatchDone, DispatchEnding};
 use engine::next::is_steppable;
 use graph::Tally;
 use graph::rows::vertex_rows;
-use looks::look::MarkedProgram;
 use program::Edition;
 use program::ends::mark_ends;
 use program::format::PROGRAM_BYTES;
+use program::marked::MarkedProgram;
 use refusal::Reason;
 
 // A dispatch, with the tally by value.

@@ -11,19 +11,13 @@ ghost use Rattle.engine.specs.Internal.Underway.{Next};
 ghost use Rattle.walks.specs.Internal.Walking.{DueOn, DoesOn, StepsOn};
 
 use crate::Moved;
-use engine::next::{
-    async_next, end_next, finish_next, force_next, fork_next, future_next, job_next, own_words,
-    yielding_fork_next,
-};
+use engine::next::{Executing, own_words};
 use engine::steps::{counted, store};
-use engine::{Answer, Due, Own};
+use engine::{Answer, Due};
 use graph::rows::{EXECUTING, RELEASED, SCOPE, STATUS, VERTEX_WORDS, set_status};
 use index::Course;
 use index::layout::NOWHERE;
-use looks::look::MarkedProgram;
-use program::ends::item_by_ends;
-use program::{Edition, ItemRead};
-use refusal::Reason;
+use program::marked::MarkedProgram;
 
 // One step of a vertex that may step, where a row of the index is left and steps are.
 pub(crate) fn step_on_index(
@@ -46,17 +40,14 @@ pub(crate) fn step_on_index(
             highest: 0,
         };
     }
-    let own = own_words(vertices, vertex as usize);
-    let next = item_due(
-        program.bytes,
-        item_by_ends(program.bytes, program.ends, program.edition, own.place),
-        vertices,
-        program.edition,
+    let at = Executing {
         vertex,
-        vertices[VERTEX_WORDS * (vertex as usize) + SCOPE],
-        own,
-        course.tally.made,
-    );
+        scope: vertices[VERTEX_WORDS * (vertex as usize) + SCOPE],
+        own: own_words(vertices, vertex as usize),
+        made: course.tally.made,
+    };
+    let item = program.item_by_ends(at.own.place);
+    let next = at.by_item(program.bytes, item, vertices, program.edition);
     do_on_index(vertices, index, limit, course, vertex, next)
 }
 
@@ -68,78 +59,6 @@ fn one_step(course: Course) -> Course
     Course {
         tally: counted(course.tally),
         ..course
-    }
-}
-
-// What is due at the step of an executing vertex with these words, where this stands at its place: as `by_item` tells it to a single step. It has one
-// caller, so that it is compiled into the walk's loop, and what is due is never written to memory.
-fn item_due(
-    program: &[u8],
-    item: ItemRead,
-    vertices: &[u32],
-    edition: Edition,
-    vertex: u32,
-    scope: u32,
-    own: Own,
-    made: u32,
-) -> Due
-    requires { (stands item ≡ item_at edition program.now own.place) × (vertex_words * made ≤ length vertices.now) }
-    ensures { Next edition program.now vertices.now vertex scope (own_words own) made (due_of result) }
-{
-    match item {
-        ItemRead::Refused(_) => Due::Refused(Reason::NothingStarts),
-        ItemRead::End { .. } => end_next(vertex, own),
-        ItemRead::Job { number, past } => job_next(vertex, own, number, past.place),
-        ItemRead::Async { body, past } => async_next(vertex, scope, own, made, body, past.place),
-        ItemRead::Finish { body, past } => {
-            finish_next(
-                vertex,
-                scope,
-                own,
-                made,
-                body,
-                past.place,
-                (program.len() - 1) as u32,
-            )
-        }
-        ItemRead::Fork { left, right, past } => match edition {
-            Edition::First => fork_next(
-                vertex,
-                scope,
-                own,
-                made,
-                left,
-                right,
-                past.place,
-                (program.len() - 1) as u32,
-            ),
-            Edition::Second => yielding_fork_next(
-                vertex, scope, own, made, left, right, past.place,
-            ),
-        },
-        ItemRead::Future { body, past } => {
-            future_next(
-                vertex,
-                scope,
-                own,
-                made,
-                body,
-                past.place,
-                (program.len() - 1) as u32,
-            )
-        }
-        ItemRead::Force { number, past } => {
-            force_next(
-                vertices,
-                vertex,
-                scope,
-                own,
-                made,
-                number,
-                past.place,
-                (program.len() - 1) as u32,
-            )
-        }
     }
 }
 

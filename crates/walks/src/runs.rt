@@ -14,10 +14,10 @@ use crate::{Ending, LastStep, RunAnswer, RunDone};
 use engine::next::is_steppable;
 use graph::Tally;
 use graph::rows::{FINISHED, STATUS, VERTEX_WORDS};
-use looks::look::MarkedProgram;
 use program::Edition;
 use program::ends::mark_ends;
 use program::format::PROGRAM_BYTES;
+use program::marked::MarkedProgram;
 use refusal::Reason;
 
 // A run, with the tally by value.

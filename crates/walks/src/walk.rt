@@ -22,8 +22,9 @@ use graph::rows::{USABLE_LIMIT, clear, edge_rows};
 use index::Course;
 use index::layout::{INDEX_WORDS, ROW_LIMIT};
 use index::rows::{hand_back, take_in};
-use looks::look::{Look, MarkedProgram};
+use looks::look::Look;
 use looks::open::{is_open, may_step, next_open};
+use program::marked::MarkedProgram;
 
 // The words of a row of the list.
 pub const JOB_WORDS: usize = 3;

@@ -150,10 +150,6 @@ in_number xs (suc i) = cond (in_number xs i) (leb top_bit (get_or xs i 0)) (open
 abbrev pub Outside : List ℕ → List ℕ → Type 0
 Outside xs marks = (p : ℕ) → p < length marks → get_or marks p 0 ≡ cond (ltb p (length xs)) (cond (in_number xs p) 0 1) 0
 
--- marks that are all 0
-abbrev pub Clear : List ℕ → Type 0
-Clear marks = (p : ℕ) → p < length marks → get_or marks p 0 ≡ 0
-
 -- Where the body ends from a place on, by the byte that starts there: past an end byte; as what follows a job or a force; and as what follows
 -- an item with bodies, behind the last of them. `after` is the end from the next place on where something starts, and `ends` has the ends from
 -- all places behind.

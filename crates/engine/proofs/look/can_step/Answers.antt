@@ -11,23 +11,23 @@ use Rattle.engine.proofs.CandidateLaws.{start_can, barred, executing_can}
 use Rattle.engine.proofs.look.can_step.Goals as goal
 
 pub returns-then-may_start : goal.returns-then-may_start
-returns-then-may_start c = sym (start_can _ _ _ _ c.args.tables.now.sound c.requires.2 c.requires.3 c.may_start.ensures c.if-may_start.true)
+returns-then-may_start c = sym (start_can _ _ _ _ c.args.tables.now.sound c.requires.0 c.requires.1 c.may_start.ensures c.if-may_start.true)
 
 pub returns-else-vertices-vertex-eq-EXECUTING : goal.returns-else-vertices-vertex-eq-EXECUTING
 returns-else-vertices-vertex-eq-EXECUTING c =
     ne_eqb _ _ c.if-vertices-vertex-eq-EXECUTING.false
-    ∙ sym (barred _ _ _ _ c.args.tables.now.sound c.requires.3 c.may_start.ensures c.if-may_start.false c.if-vertices-vertex-eq-EXECUTING.false)
+    ∙ sym (barred _ _ _ _ c.args.tables.now.sound c.requires.1 c.may_start.ensures c.if-may_start.false c.if-vertices-vertex-eq-EXECUTING.false)
 
 pub returns-then-vertices-vertex-eq-EXECUTING : goal.returns-then-vertices-vertex-eq-EXECUTING
 returns-then-vertices-vertex-eq-EXECUTING c =
-    sym (executing_can _ _ _ _ c.args.tables.now.sound c.requires.2 c.requires.3 c.if-vertices-vertex-eq-EXECUTING.true c.ended_due.ensures c.would_take.ensures)
+    sym (executing_can _ _ _ _ c.args.tables.now.sound c.requires.0 c.requires.1 c.if-vertices-vertex-eq-EXECUTING.true c.ended_due.ensures c.would_take.ensures)
 
 pub may_start-requires : goal.may_start-requires
 may_start-requires c =
     let tables : Lent =
     lent_of c.args.tables.now in
     let row : vertex_words * c.args.vertex + vertex_words ≤ length c.args.tables.now.vertices.now =
-    omega (arith, c.requires.3, (sound_rows tables c.args.tables.now.sound).0) in
+    omega (arith, c.requires.1, (sound_rows tables c.args.tables.now.sound).0) in
     row
 
 pub bounds-vertices-vertex : goal.bounds-vertices-vertex
@@ -35,8 +35,8 @@ bounds-vertices-vertex c =
     let tables : Lent =
     lent_of c.args.tables.now in
     let row : vertex_words * c.args.vertex + vertex_words ≤ length c.args.tables.now.vertices.now =
-    omega (arith, c.requires.3, (sound_rows tables c.args.tables.now.sound).0) in
+    omega (arith, c.requires.1, (sound_rows tables c.args.tables.now.sound).0) in
     omega (arith, row)
 
 pub ended_due-requires : goal.ended_due-requires
-ended_due-requires c = (c.requires.0, c.requires.1, c.requires.3, (sound_rows _ c.args.tables.now.sound).0)
+ended_due-requires c = (c.requires.1, (sound_rows _ c.args.tables.now.sound).0)

@@ -12,8 +12,7 @@ invariant_of-tables c = record { sound = steppable-sound _ (sym c.if-not-is_step
 
 pub lowest_able-requires : goal.lowest_able-requires
 lowest_able-requires c =
-    let marked = c.mark_ends.ensures in
-    (marked.1, marked.0, steppable_few _ (sym c.if-not-is_steppable.ensures))
+    steppable_few _ (sym c.if-not-is_steppable.ensures)
 
 pub returns : goal.returns
 returns c = choice_looks _ _ _ _ (sym c.if-not-is_steppable.ensures) c.lowest_able.ensures

@@ -35,7 +35,7 @@ returns c =
     let takes_steps : steppable tables ≡ true =
     sym c.if-not-is_steppable.ensures in
     due_item _ _ _ _ _ c.requires takes_steps c.if-tally-vertex.false c.if-vertices-at-eq-NEW.false
-    c.if-vertices-at-eq-FINISHED.false c.own_words-own.ensures
+    c.if-vertices-at-eq-FINISHED.false c.own_words.ensures
     c.by_item.ensures
 
 pub bounds-vertices-at : goal.bounds-vertices-at
@@ -62,8 +62,8 @@ bounds-vertices-at-2 c =
     omega (arith, c.if-tally-vertex.false, rows) in
     omega (arith, row)
 
-pub own_words-own-requires : goal.own_words-own-requires
-own_words-own-requires c =
+pub own_words-requires : goal.own_words-requires
+own_words-requires c =
     let tables : Lent =
     lent c.args.vertices.now c.args.edges.now c.args.tally in
     let takes_steps : steppable tables ≡ true =
@@ -94,4 +94,4 @@ by_item-requires c =
     sym c.if-not-is_steppable.ensures in
     let rows : vertex_words * c.args.tally.made ≤ length c.args.vertices.now =
     (sound_rows tables (steppable-sound tables takes_steps)).0 in
-    (c.item_at.ensures.0, rows)
+    (c.item_at-item.ensures.0, rows)

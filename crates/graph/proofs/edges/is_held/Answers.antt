@@ -1,15 +1,12 @@
-use native.Mathlib.Omega.{arith}
-use Rattle.graph.proofs.EdgeLoops.{held_none, held_other_source, held_other_target, held_found}
+-- A row passes the test where it holds the edge.
+use Rattle.std.proofs.Common.{◌∙◌, ◌&&◌, eqb, get_or, rules, tests}
+use Rattle.std.proofs.lemmas.Iterator.{YieldsList-from_slice}
+use Rattle.std.proofs.lemmas.Iterator.Search.{any_from_yields_List}
+use Rattle.graph.proofs.EdgeLoops.{held_of_rows}
 use Rattle.graph.proofs.edges.is_held.Goals as goal
 
-pub loop-i-init : goal.loop-i-init
-loop-i-init c = (omega arith, held_none _ _ _)
-
-pub loop-i-preserved-then-edges-i : goal.loop-i-preserved-then-edges-i
-loop-i-preserved-then-edges-i c = (omega arith, held_other_source _ _ _ _ c.loop-i.invariant.1 c.if-edges-i.true)
-
-pub returns-then-edges-i-2 : goal.returns-then-edges-i-2
-returns-then-edges-i-2 c = held_found _ _ _ _ _ c.loop-i-test.true c.if-edges-i.false c.if-edges-i-2.true
-
-pub loop-i-preserved : goal.loop-i-preserved
-loop-i-preserved c = (omega arith, held_other_target _ _ _ _ c.loop-i.invariant.1 c.if-edges-i-2.false)
+pub returns : goal.returns
+returns c =
+    any_from_yields_List (λ row. eqb (get_or row 0 0) c.args.source && eqb (get_or row 1 0) c.args.target) _ _ _ c.any.ensures.ran
+    (YieldsList-from_slice c.first_rows.result.now cc) (λ x b q k. search (rules, tests))
+    ∙ held_of_rows _ _ c.first_rows.result.now _ _ c.first_rows.ensures

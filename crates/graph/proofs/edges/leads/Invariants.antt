@@ -1,5 +1,4 @@
--- After i turns none of the first i rows has the end.
-use Prim.Native.Nat.{◌≤◌}
+-- Behind the first rows none of them has the end.
 use mathlib.Core.Path.{◌≡◌}
 use mathlib.Core.Bool.{false}
 use lib.Dec.{eqb}
@@ -7,5 +6,5 @@ use Rattle.graph.specs.Tests.{any}
 use Rattle.graph.specs.Tables.{edge_word}
 use Rattle.graph.proofs.edges.leads.Given as goal
 
-abbrev pub invariant-loop-i : goal.invariant-loop-i
-invariant-loop-i l = (l.i ≤ l.held) × (any (λ j. eqb (edge_word l.edges j l.end) l.vertex) l.i ≡ false)
+abbrev pub invariant-loop-row : goal.invariant-loop-row
+invariant-loop-row l = any (λ j. eqb (edge_word l.edges j l.end) l.vertex) l.row-index ≡ false

@@ -1,9 +1,6 @@
-use native.Mathlib.Omega.{arith}
-use Rattle.graph.proofs.ClearLaws.{clear_none, clear_more}
+-- The part that is filled is the part that is cleared.
+use Rattle.graph.proofs.ClearLaws.{filled}
 use Rattle.graph.proofs.rows.clear.Goals as goal
 
-pub loop-i-init : goal.loop-i-init
-loop-i-init c = (omega arith, clear_none _ _)
-
-pub loop-i-preserved : goal.loop-i-preserved
-loop-i-preserved c = (omega arith, clear_more _ _ _ c.loop-i.invariant.1)
+pub returns : goal.returns
+returns c = filled c.args.table.now c.fill.new.self c.args.from c.args.count c.requires (c.fill.ensures.after (λ y h. h))

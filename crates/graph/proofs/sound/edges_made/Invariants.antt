@@ -1,9 +1,7 @@
--- After i turns it is known whether the first i words are made vertices.
-use Prim.Native.Nat.{◌*◌, ◌≤◌}
+-- Behind the first words it is known whether they are made vertices.
 use mathlib.Core.Path.{◌≡◌}
-use Rattle.graph.specs.Tables.{edge_words}
 use Rattle.graph.proofs.SoundChecks.{words_made}
 use Rattle.graph.proofs.sound.edges_made.Given as goal
 
-abbrev pub invariant-loop-i : goal.invariant-loop-i
-invariant-loop-i l = (l.i ≤ edge_words * l.held) × (l.all_made ≡ words_made l.edges l.made l.i)
+abbrev pub invariant-loop-end : goal.invariant-loop-end
+invariant-loop-end l = l.all_made ≡ words_made l.edges l.made l.end-index

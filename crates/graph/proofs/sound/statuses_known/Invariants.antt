@@ -1,8 +1,7 @@
--- After k turns it is known whether the first k statuses are among the four.
-use Prim.Native.Nat.{◌≤◌}
+-- Behind the first rows it is known whether their statuses are among the four.
 use mathlib.Core.Path.{◌≡◌}
 use Rattle.graph.specs.Sound.{statuses_known}
 use Rattle.graph.proofs.sound.statuses_known.Given as goal
 
-abbrev pub invariant-loop-k : goal.invariant-loop-k
-invariant-loop-k l = (l.k ≤ l.made) × (l.all_known ≡ statuses_known l.vertices l.k)
+abbrev pub invariant-loop-row : goal.invariant-loop-row
+invariant-loop-row l = l.all_known ≡ statuses_known l.vertices l.row-index

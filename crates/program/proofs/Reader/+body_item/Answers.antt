@@ -18,9 +18,6 @@ opens : (level opened : ℕ) (xs : List ℕ) (r o : Reader) → false ≡ (lengt
     → (o.place ≡ r.place + 1) × (o.seen ≡ r.seen) → Opened level opened xs r o
 opens level opened xs r o full ready moved = record { some = eqb-false (length xs) 0 (sym full); ready = ready.0; few = ready.1; moved = moved }
 
-pub body-loop-from-init : goal.body-loop-from-init
-body-loop-from-init t c = along_none _ _ _ c.requires.0 c.requires.1
-
 pub body-returns-then-bytes-from-eq-END : goal.body-returns-then-bytes-from-eq-END
 body-returns-then-bytes-from-eq-END t c =
     along_end _ _ _ _ _ _ _ _ c.loop-from.invariant c.loop-from-test.true c.if-bytes-from-eq-END.true c.moved.ensures
@@ -30,9 +27,6 @@ body-returns-in_err-reader t c =
     rw (passed_on _ _ c.from_residual.ensures)
     (along_stopped _ _ _ _ _ _ _ c.in_err-reader.field-0.0 c.loop-from.invariant c.loop-from-test.true c.if-bytes-from-eq-END.false
     c.in_err-reader.was c.item.ensures)
-
-pub body-overflow_add-here : goal.body-overflow_add-here
-body-overflow_add-here t c = record { fits = along_room _ _ _ _ _ _ _ c.loop-from.invariant }
 
 pub body-overflow_sub-from : goal.body-overflow_sub-from
 body-overflow_sub-from t c =

@@ -52,14 +52,6 @@ returns-then-first-gt-FORCE c = (
   λ e. absurd (false≢true e),
 )
 
-pub overflow_add-made : goal.overflow_add-made
-overflow_add-made c =
-    omega (
-      arith,
-      c.loop-place.invariant.n_few,
-      c.loop-place.invariant.small (get_or c.args.program.now c.loop-place.place 0),
-    )
-
 pub returns-in_default : goal.returns-in_default
 returns-in_default c = (
   checked_number c.loop-place.invariant _ _ c.loop-place-test.true (sym c.opens_number.ensures ∙ c.if-opens_number.true)
@@ -90,9 +82,6 @@ returns-then-depth c = (
   ap length c.mark_place.ensures ∙ length-set c.loop-place.marks c.loop-place.place 1 ∙ c.loop-place.invariant.long,
   λ e. absurd (false≢true e),
 )
-
-pub opened_behind-requires : goal.opened_behind-requires
-opened_behind-requires c = omega (arith, c.loop-place.invariant.few)
 
 pub loop-place-preserved : goal.loop-place-preserved
 loop-place-preserved c =

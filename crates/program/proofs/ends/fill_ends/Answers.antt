@@ -37,9 +37,3 @@ pub loop-place-preserved : goal.loop-place-preserved
 loop-place-preserved c =
     let next = turn _ _ _ _ _ c.requires.1 c.requires.2 c.requires.3 c.loop-place.invariant c.loop-place-test.true in
     (omega arith, c.loop-place.invariant.1, filled_past next c.if-ends-place-ne0.false)
-
-pub returns : goal.returns
-returns c = (
-  c.loop-place.invariant.1,
-  λ b fits same p lt. (c.loop-place.invariant.2 b fits same).done p (omega arith) lt,
-)

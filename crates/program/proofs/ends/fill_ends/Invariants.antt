@@ -6,6 +6,3 @@ use Rattle.program.proofs.ends.fill_ends.Given as goal
 abbrev pub invariant-loop-place : goal.invariant-loop-place
 invariant-loop-place l =
     (l.place ≤ length l.program) × (length l.ends ≡ length l.fn.ends) × Filled l.program l.fn.ends l.ends l.place l.after
-
-abbrev pub decreases-loop-place : goal.decreases-loop-place
-decreases-loop-place l = l.place

@@ -6,8 +6,8 @@ use Rattle.program.proofs.ends.mark_ends.Goals as goal
 
 pub returns-then-not-check : goal.returns-then-not-check
 returns-then-not-check c = (
-  c.clear.ensures.0 ∙ c.check.ensures.1 ∙ (all_zero _ _ c.requires).0,
-  ends_refused _ _ c.clear.new.marks (sym c.check.ensures.0 ∙ c.if-not-check.true) c.clear.ensures.1,
+  c.fill.ensures.len ∙ c.check.ensures.1 ∙ (all_zero _ _ c.requires).0,
+  ends_refused _ _ c.fill.new.self (sym c.check.ensures.0 ∙ c.if-not-check.true) (all_zero _ _ (c.fill.ensures.after (λ y same. same))).1,
 )
 
 pub fill_ends-requires : goal.fill_ends-requires

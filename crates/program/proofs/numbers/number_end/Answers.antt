@@ -1,15 +1,21 @@
-use Rattle.std.proofs.Common.{arith}
-use Rattle.program.proofs.NumberEnds.{end_none, end_more, end_found, end_nowhere}
+-- What `position` finds is the number's last byte.
+use Rattle.std.proofs.Common.{ℕ, ◌≡◌, ◌+◌, length, MatchOption, Option, Some, None, subst, rules, tests}
+use Rattle.std.proofs.lemmas.Iterator.{YieldsList-from_slice}
+use Rattle.std.proofs.lemmas.Iterator.Search.{position_from_yields_List}
+use Rattle.program.specs.Internal.Progress.{number_end}
+use Rattle.program.proofs.NumberEnds.{is_last, end_by_position}
 use Rattle.program.proofs.numbers.number_end.Goals as goal
 
-pub loop-i-init : goal.loop-i-init
-loop-i-init c = end_none _
+pub returns-in-Some : goal.returns-in-Some
+returns-in-Some c =
+    let found = position_from_yields_List is_last _ _ c.position.result c.position.ensures.ran (YieldsList-from_slice _ c.iter.ensures.rest)
+    (λ x b q k. search (rules, tests)) in
+    let told = end_by_position c.args.bytes.now _ found in
+    (rw c.in-Some.is at told)
 
-pub returns-then-bytes-i-lt-TOP_BIT : goal.returns-then-bytes-i-lt-TOP_BIT
-returns-then-bytes-i-lt-TOP_BIT c = end_found _ _ (omega arith) c.if-bytes-i-lt-TOP_BIT.true c.loop-i.invariant
-
-pub loop-i-preserved : goal.loop-i-preserved
-loop-i-preserved c = end_more _ _ (omega arith) c.if-bytes-i-lt-TOP_BIT.false c.loop-i.invariant
-
-pub returns : goal.returns
-returns c = end_nowhere _ _ (omega arith) (omega arith) c.loop-i.invariant
+pub returns-in-None : goal.returns-in-None
+returns-in-None c =
+    let found = position_from_yields_List is_last _ _ c.position.result c.position.ensures.ran (YieldsList-from_slice _ c.iter.ensures.rest)
+    (λ x b q k. search (rules, tests)) in
+    let told = end_by_position c.args.bytes.now _ found in
+    (rw c.in-None.is at told)

@@ -2,9 +2,6 @@ use Rattle.std.proofs.Common.{arith, sym, ◌∙◌}
 use Rattle.program.proofs.NumberEnds.{told_here, told_before, told_other, told_first}
 use Rattle.program.proofs.starts.in_number.Goals as goal
 
-pub loop-before-init : goal.loop-before-init
-loop-before-init c = (omega arith, told_here)
-
 pub returns-then-not-opens_number : goal.returns-then-not-opens_number
 returns-then-not-opens_number c =
     told_other c.loop-before.invariant.1 c.requires.0 c.loop-before-test.true (omega arith)

@@ -5,6 +5,3 @@ use Rattle.program.proofs.starts.in_number.Given as goal
 
 abbrev pub invariant-loop-before : goal.invariant-loop-before
 invariant-loop-before l = (l.before ≤ l.place) × ToldBy l.program l.place l.before l.turned
-
-abbrev pub decreases-loop-before : goal.decreases-loop-before
-decreases-loop-before l = l.before

@@ -22,9 +22,9 @@ do_on_index-requires c =
     let runs : Executes c.args.vertices.now c.args.course c.args.vertex =
     (c.requires.3, executing_one _ _ c.requires.4 c.if-vertices-vertex-eq-RELEASED.false) in
     let there : DueThere c.args.program.now.edition c.args.program.now.bytes.now c.args.vertices.now c.args.course.tally.made c.args.vertex
-    (due_of c.item_due-next.result) =
-    there_next _ c.args.program.now.bytes.now c.args.vertices.now _ _ _ c.own_words-own.ensures
-    c.item_due-next.ensures in
+    (due_of c.by_item-next.result) =
+    there_next _ c.args.program.now.bytes.now c.args.vertices.now _ _ _ c.own_words.ensures
+    c.by_item-next.ensures in
     let asks = c.requires in
     let executes = runs in record {
       ready = (asks.0, asks.1, asks.2, executes);
@@ -36,9 +36,9 @@ returns c =
     let runs : Executes c.args.vertices.now c.args.course c.args.vertex =
     (c.requires.3, executing_one _ _ c.requires.4 c.if-vertices-vertex-eq-RELEASED.false) in
     let there : DueThere c.args.program.now.edition c.args.program.now.bytes.now c.args.vertices.now c.args.course.tally.made c.args.vertex
-    (due_of c.item_due-next.result) =
-    there_next _ c.args.program.now.bytes.now c.args.vertices.now _ _ _ c.own_words-own.ensures
-    c.item_due-next.ensures in
+    (due_of c.by_item-next.result) =
+    there_next _ c.args.program.now.bytes.now c.args.vertices.now _ _ _ c.own_words.ensures
+    c.by_item-next.ensures in
     let asks = c.requires in
     steps_on _ _ asks.0 asks.2 runs there c.do_on_index.ensures
 
@@ -54,17 +54,17 @@ set_status-requires c =
     omega (arith, rows_there c.requires.0, c.requires.3) in
     row
 
-pub own_words-own-requires : goal.own_words-own-requires
-own_words-own-requires c =
+pub own_words-requires : goal.own_words-requires
+own_words-requires c =
     let row : vertex_words * c.args.vertex + vertex_words ≤ length c.args.vertices.now =
     omega (arith, rows_there c.requires.0, c.requires.3) in
     row
 
-pub slice_reshared_read-item_due : goal.slice_reshared_read-item_due
-slice_reshared_read-item_due c =
+pub by_item-next-requires : goal.by_item-next-requires
+by_item-next-requires c = (c.item_by_ends-item.ensures.0, omega (arith, rows_there c.requires.0))
+
+pub bounds-vertices-vertex-2 : goal.bounds-vertices-vertex-2
+bounds-vertices-vertex-2 c =
     let row : vertex_words * c.args.vertex + vertex_words ≤ length c.args.vertices.now =
     omega (arith, rows_there c.requires.0, c.requires.3) in
     omega (arith, row)
-
-pub item_due-next-requires : goal.item_due-next-requires
-item_due-next-requires c = (c.item_by_ends.ensures.0, omega (arith, rows_there c.requires.0))

@@ -46,4 +46,4 @@ pub bounds-self-vertex : goal.bounds-self-vertex
 bounds-self-vertex c = omega (arith, (made_rows _ _ _ _ c.args.self.now.ready).0, c.requires.1)
 
 pub ended_due-requires : goal.ended_due-requires
-ended_due-requires c = (c.args.self.now.program.marks_ends, c.args.self.now.program.ends_long, c.requires.1, (made_rows _ _ _ _ c.args.self.now.ready).0)
+ended_due-requires c = (c.requires.1, (made_rows _ _ _ _ c.args.self.now.ready).0)

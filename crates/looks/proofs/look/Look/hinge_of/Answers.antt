@@ -31,4 +31,4 @@ bounds-self-vertex c = omega (arith, (made_rows _ _ _ _ c.args.self.now.ready).0
 
 pub leaping_due-requires : goal.leaping_due-requires
 leaping_due-requires c =
-    (c.args.self.now.program.marks_ends, c.args.self.now.program.ends_long, c.if-made-vertex.false, (made_rows _ _ _ _ c.args.self.now.ready).0, c.requires.leaps)
+    (c.if-made-vertex.false, (made_rows _ _ _ _ c.args.self.now.ready).0, c.requires.leaps)
