@@ -7,7 +7,7 @@ ghost use Rattle.std.specs.Prelude.{◌≡◌, ℕ, ◌<◌, ◌≤◌, length, 
 ghost use Rattle.graph.specs.Tables.{usable_limit};
 ghost use Rattle.index.specs.Layout.{index_words, Indexed};
 ghost use Rattle.reachability.specs.Pairs.{order_words};
-ghost use Rattle.reachability.specs.Order.{Within, Counted, Ordered};
+ghost use Rattle.reachability.specs.Order.{Within, Searching, Ordered};
 
 use graph::rows::{EDGE_WORDS, SOURCE, TARGET, USABLE_LIMIT};
 use index::layout::{BEFORE_IN, BEFORE_OUT, LAST_IN, LAST_OUT, NOWHERE, ROW_LIMIT};
@@ -36,11 +36,24 @@ struct Way {
 }
 
 // How many vertices are on the stack of a search, were found, and are finished.
-#[derive(Clone, Copy)]
+#[derive(Clone, Copy, Default)]
 struct Reached {
     depth: usize,
     found: usize,
     finished: usize,
+}
+
+// A search under way: the next row of each vertex, and the stack; and the lists of the rows by which vertices were found, in the order of finding, and of
+// the vertices as they finish.
+#[derive(Drop)]
+struct Search<'a> {
+    index: &'a [u32],
+    way: Way,
+    next: [u32; USABLE_LIMIT],
+    stack: [u32; USABLE_LIMIT],
+    found: &'a mut [u32; USABLE_LIMIT],
+    finished: &'a mut [u32; USABLE_LIMIT],
+    reached: Reached,
 }
 
 // Where the next component begins among the found vertices, and how many rows are laid out.
@@ -50,169 +63,130 @@ struct Laid {
     count: usize,
 }
 
-// Puts a vertex on the stack, which was found by `row`.
-fn discover(
-    index: &[u32],
-    way: Way,
-    vertex: u32,
-    row: u32,
-    next: &mut [u32; USABLE_LIMIT],
-    stack: &mut [u32; USABLE_LIMIT],
-    found: &mut [u32; USABLE_LIMIT],
-    reached: Reached,
-) -> Reached
-    requires { (length index.now ≡ index_words) × Within way × (vertex < usable_limit) × Counted reached }
-    ensures { Counted result }
-{
-    let last = way.last;
-    let depth = reached.depth;
-    let place = reached.found;
-    if USABLE_LIMIT <= depth {
-        return reached;
-    }
-    if USABLE_LIMIT <= place {
-        return reached;
-    }
-    next[vertex as usize] = index[last + vertex as usize];
-    stack[depth] = vertex;
-    found[place] = row;
-    Reached {
-        depth: depth + 1,
-        found: place + 1,
-        finished: reached.finished,
-    }
-}
-
-// Takes a vertex off the stack.
-fn finish(vertex: u32, finished: &mut [u32; USABLE_LIMIT], reached: Reached) -> Reached
-    requires { Counted reached × (0 < reached.depth) }
-    ensures { Counted result }
-{
-    let place = reached.finished;
-    if USABLE_LIMIT <= place {
-        return reached;
-    }
-    finished[place] = vertex;
-    Reached {
-        depth: reached.depth - 1,
-        found: reached.found,
-        finished: place + 1,
-    }
-}
-
-// Follows the next row of the vertex on top of the stack, or finishes it where there is none.
-fn step(
-    index: &[u32],
-    way: Way,
-    next: &mut [u32; USABLE_LIMIT],
-    stack: &mut [u32; USABLE_LIMIT],
-    found: &mut [u32; USABLE_LIMIT],
-    finished: &mut [u32; USABLE_LIMIT],
-    reached: Reached,
-) -> Reached
-    requires { (length index.now ≡ index_words) × Within way × Counted reached × (0 < reached.depth) }
-    ensures { Counted result }
-{
-    let top = reached.depth - 1;
-    let vertex = stack[top];
-    if NOWHERE <= vertex {
-        return reached;
-    }
-    let row = next[vertex as usize];
-    if row == 0 {
-        return finish(vertex, finished, reached);
-    }
-    if LAST_ROW < row {
-        return reached;
-    }
-    let i = (row - 1) as usize;
-    let before = way.before;
-    let end = way.end;
-    next[vertex as usize] = index[before + i];
-    let onward = index[EDGE_WORDS * i + end];
-    if NOWHERE <= onward {
-        return reached;
-    }
-    if next[onward as usize] != UNSEEN {
-        return reached;
-    }
-    discover(index, way, onward, row, next, stack, found, reached)
-}
-
-// Begins a search at `root`, where `count` vertices are found and finished, unless the root is one of them.
-fn begin(
-    index: &[u32],
-    way: Way,
-    root: u32,
-    next: &mut [u32; USABLE_LIMIT],
-    stack: &mut [u32; USABLE_LIMIT],
-    found: &mut [u32; USABLE_LIMIT],
-    count: usize,
-) -> Reached
-    requires { (length index.now ≡ index_words) × Within way × (count ≤ usable_limit) }
-    ensures { Counted result }
-{
-    let reached = Reached {
-        depth: 0,
-        found: count,
-        finished: count,
-    };
-    if NOWHERE <= root {
-        return reached;
-    }
-    if next[root as usize] != UNSEEN {
-        return reached;
-    }
-    discover(index, way, root, ROOT + root, next, stack, found, reached)
-}
-
-// Searches from `root` to the end, and says how many vertices are finished then.
-fn explore(
-    index: &[u32],
-    way: Way,
-    root: u32,
-    next: &mut [u32; USABLE_LIMIT],
-    stack: &mut [u32; USABLE_LIMIT],
-    found: &mut [u32; USABLE_LIMIT],
-    finished: &mut [u32; USABLE_LIMIT],
-    count: usize,
-) -> usize
-    requires { (length index.now ≡ index_words) × Within way × (count ≤ usable_limit) }
-    ensures { result ≤ usable_limit }
-{
-    let mut reached = begin(index, way, root, next, stack, found, count);
-    for _ in 0..STEPS {
-        if reached.depth == 0 {
-            return reached.finished;
+impl<'a> Search<'a> {
+    // Puts a vertex on the stack, which was found by `row`.
+    fn discover(&mut self, vertex: u32, row: u32)
+        requires { (vertex < usable_limit) × Searching self.old }
+        ensures { Searching self.new }
+    {
+        let reached = self.reached;
+        if USABLE_LIMIT <= reached.depth || USABLE_LIMIT <= reached.found {
+            return;
         }
-        reached = step(index, way, next, stack, found, finished, reached);
+        let last = self.way.last;
+        self.next[vertex as usize] = self.index[last + vertex as usize];
+        self.stack[reached.depth] = vertex;
+        self.found[reached.found] = row;
+        self.reached = Reached {
+            depth: reached.depth + 1,
+            found: reached.found + 1,
+            ..reached
+        };
     }
-    reached.finished
+
+    // Takes a vertex off the stack.
+    fn finish(&mut self, vertex: u32)
+        requires { (0 < self.old.reached.depth) × Searching self.old }
+        ensures { Searching self.new }
+    {
+        let reached = self.reached;
+        if USABLE_LIMIT <= reached.finished {
+            return;
+        }
+        self.finished[reached.finished] = vertex;
+        self.reached = Reached {
+            depth: reached.depth - 1,
+            finished: reached.finished + 1,
+            ..reached
+        };
+    }
+
+    // Follows the next row of the vertex on top of the stack, or finishes it where there is none.
+    fn step(&mut self)
+        requires { (0 < self.old.reached.depth) × Searching self.old }
+        ensures { Searching self.new }
+    {
+        let top = self.reached.depth - 1;
+        let vertex = self.stack[top];
+        if NOWHERE <= vertex {
+            return;
+        }
+        let row = self.next[vertex as usize];
+        if row == 0 {
+            self.finish(vertex);
+            return;
+        }
+        if LAST_ROW < row {
+            return;
+        }
+        let i = (row - 1) as usize;
+        let before = self.way.before;
+        let end = self.way.end;
+        self.next[vertex as usize] = self.index[before + i];
+        let onward = self.index[EDGE_WORDS * i + end];
+        if NOWHERE <= onward || self.next[onward as usize] != UNSEEN {
+            return;
+        }
+        self.discover(onward, row);
+    }
+
+    // Begins at `root`, where all found vertices are finished, unless the root is one of them.
+    fn begin(&mut self, root: u32)
+        requires { Searching self.old }
+        ensures { Searching self.new }
+    {
+        let count = self.reached.finished;
+        self.reached = Reached {
+            depth: 0,
+            found: count,
+            finished: count,
+        };
+        if NOWHERE <= root || self.next[root as usize] != UNSEEN {
+            return;
+        }
+        self.discover(root, ROOT + root);
+    }
+
+    // Searches from `root` to the end.
+    fn explore(&mut self, root: u32)
+        requires { Searching self.old }
+        ensures { Searching self.new }
+    {
+        self.begin(root);
+        for _ in 0..STEPS {
+            if self.reached.depth == 0 {
+                return;
+            }
+            self.step();
+        }
+    }
 }
 
-// A depth-first search from each of the first `count` roots, from the last to the first. It lists how each vertex was found, in the order of finding,
-// and the vertices as they finish, and says how many they are.
-fn search(
+// A depth-first search from each of these roots, from the last to the first. It lists how each vertex was found, in the order of finding, and the
+// vertices as they finish, and says how many they are.
+fn search_from(
     index: &[u32],
     way: Way,
-    roots: &[u32; USABLE_LIMIT],
-    count: usize,
+    roots: &[u32],
     found: &mut [u32; USABLE_LIMIT],
     finished: &mut [u32; USABLE_LIMIT],
 ) -> usize
-    requires { (length index.now ≡ index_words) × Within way × (count ≤ usable_limit) }
+    requires { (length index.now ≡ index_words) × Within way }
     ensures { result ≤ usable_limit }
 {
-    let mut next = [UNSEEN; USABLE_LIMIT];
-    let mut stack = [0; USABLE_LIMIT];
-    let mut done = 0;
-    for i in 0..count {
-        let root = roots[count - 1 - i];
-        done = explore(
-            index, way, root, &mut next, &mut stack, found, finished, done,
-        );
+    let mut search = Search {
+        index,
+        way,
+        next: [UNSEEN; USABLE_LIMIT],
+        stack: [0; USABLE_LIMIT],
+        found,
+        finished,
+        reached: Reached::default(),
+    };
+    for &root in roots.iter().rev() {
+        search.explore(root);
     }
-    done
+    search.reached.finished
 }
 
 // Appends a row, which is counted from 1, if it is used and there is room.
@@ -220,13 +194,7 @@ fn put(row: u32, used: usize, rows: &mut [u32], count: usize) -> usize
     requires { Ordered used rows.old count }
     ensures { Ordered used rows.new result }
 {
-    if row == 0 {
-        return count;
-    }
-    if used < row as usize {
-        return count;
-    }
-    if rows.len() <= count {
+    if row == 0 || used < row as usize || rows.len() <= count {
         return count;
     }
     rows[count] = row - 1;
@@ -234,38 +202,27 @@ fn put(row: u32, used: usize, rows: &mut [u32], count: usize) -> usize
 }
 
 // Where the component ends whose vertices stand from `from` on: at the next root.
-fn component_end(found: &[u32; USABLE_LIMIT], begun: usize, from: usize) -> usize
-    requires { begun ≤ usable_limit }
-    ensures { result ≤ usable_limit }
+fn component_end(found: &[u32], from: usize) -> usize
+    ensures { result ≤ length found.now }
 {
-    for i in from..begun {
+    for i in from..found.len() {
         if ROOT <= found[i] {
             return i;
         }
     }
-    begun
+    found.len()
 }
 
 // Lays out the rows by which the other vertices of a component were found, from the last to the first, where `vertex` is the root of the next one.
-fn gather(
-    vertex: u32,
-    found: &[u32; USABLE_LIMIT],
-    begun: usize,
-    used: usize,
-    rows: &mut [u32],
-    laid: Laid,
-) -> Laid
-    requires { (vertex < usable_limit) × (begun ≤ usable_limit) × Ordered used rows.old laid.count }
+fn gather(vertex: u32, found: &[u32], used: usize, rows: &mut [u32], laid: Laid) -> Laid
+    requires { (vertex < usable_limit) × Ordered used rows.old laid.count }
     ensures { Ordered used rows.new result.count }
 {
     let block = laid.block;
-    if begun <= block {
+    if found.len() <= block || found[block] != ROOT + vertex {
         return laid;
     }
-    if found[block] != ROOT + vertex {
-        return laid;
-    }
-    let end = component_end(found, begun, block + 1);
+    let end = component_end(found, block + 1);
     let mut count = laid.count;
     for i in block + 1..end {
         count = put(found[block + end - i], used, rows, count);
@@ -281,10 +238,7 @@ fn lay_rows_out(index: &[u32], vertex: u32, used: usize, rows: &mut [u32], laid:
     let mut count = laid;
     let mut row = index[LAST_OUT + vertex as usize];
     for _ in 0..ROW_LIMIT {
-        if row == 0 {
-            return count;
-        }
-        if LAST_ROW < row {
+        if row == 0 || LAST_ROW < row {
             return count;
         }
         count = put(row, used, rows, count);
@@ -297,43 +251,32 @@ fn lay_rows_out(index: &[u32], vertex: u32, used: usize, rows: &mut [u32], laid:
 fn lay_vertex(
     index: &[u32],
     vertex: u32,
-    found: &[u32; USABLE_LIMIT],
-    begun: usize,
+    found: &[u32],
     used: usize,
     rows: &mut [u32],
     laid: Laid,
 ) -> Laid
-    requires { (length index.now ≡ index_words) × (begun ≤ usable_limit) × Ordered used rows.old laid.count }
+    requires { (length index.now ≡ index_words) × Ordered used rows.old laid.count }
     ensures { Ordered used rows.new result.count }
 {
     if NOWHERE <= vertex {
         return laid;
     }
-    let gathered = gather(vertex, found, begun, used, rows, laid);
-    let count = lay_rows_out(index, vertex, used, rows, gathered.count);
+    let gathered = gather(vertex, found, used, rows, laid);
     Laid {
-        block: gathered.block,
-        count,
+        count: lay_rows_out(index, vertex, used, rows, gathered.count),
+        ..gathered
     }
 }
 
 // Lays out all rows, from the last finished vertex to the first.
-fn lay_all(
-    index: &[u32],
-    finished: &[u32; USABLE_LIMIT],
-    ended: usize,
-    found: &[u32; USABLE_LIMIT],
-    begun: usize,
-    used: usize,
-    rows: &mut [u32],
-) -> usize
-    requires { (length index.now ≡ index_words) × (ended ≤ usable_limit) × (begun ≤ usable_limit) × (length rows.old ≡ order_words) }
+fn lay_all(index: &[u32], finished: &[u32], found: &[u32], used: usize, rows: &mut [u32]) -> usize
+    requires { (length index.now ≡ index_words) × (length rows.old ≡ order_words) }
     ensures { Ordered used rows.new result }
 {
     let mut laid = Laid { block: 0, count: 0 };
-    for i in 0..ended {
-        let vertex = finished[ended - 1 - i];
-        laid = lay_vertex(index, vertex, found, begun, used, rows, laid);
+    for &vertex in finished.iter().rev() {
+        laid = lay_vertex(index, vertex, found, used, rows, laid);
     }
     laid.count
 }
@@ -345,11 +288,10 @@ fn list_sources(index: &[u32], sources: &mut [u32; USABLE_LIMIT]) -> usize
 {
     let mut count: usize = 0;
     for i in 0..USABLE_LIMIT {
-        if index[LAST_OUT + i] == 0 {
-            continue;
+        if index[LAST_OUT + i] != 0 {
+            sources[count] = i as u32;
+            count += 1;
         }
-        sources[count] = i as u32;
-        count += 1;
     }
     count
 }
@@ -368,12 +310,12 @@ pub fn order_rows(index: &[u32], used: usize, rows: &mut [u32]) -> usize
         before: BEFORE_OUT,
         end: TARGET,
     };
-    let ended = search(index, along, &roots, count, &mut found, &mut finished);
+    let ended = search_from(index, along, &roots[..count], &mut found, &mut finished);
     let against = Way {
         last: LAST_IN,
         before: BEFORE_IN,
         end: SOURCE,
     };
-    let begun = search(index, against, &finished, ended, &mut found, &mut roots);
-    lay_all(index, &finished, ended, &found, begun, used, rows)
+    let begun = search_from(index, against, &finished[..ended], &mut found, &mut roots);
+    lay_all(index, &finished[..ended], &found[..begun], used, rows)
 }

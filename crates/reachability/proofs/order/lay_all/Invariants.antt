@@ -1,7 +1,6 @@
 -- At each turn rows of the index are laid out, and no others.
-use Prim.Native.Nat.{◌≤◌}
 use Rattle.reachability.specs.Order.{Ordered}
 use Rattle.reachability.proofs.order.lay_all.Given as goal
 
-abbrev pub invariant-loop-i : goal.invariant-loop-i
-invariant-loop-i l = (l.i ≤ l.ended) × Ordered l.used l.rows l.laid.count
+abbrev pub invariant-loop-vertex : goal.invariant-loop-vertex
+invariant-loop-vertex l = Ordered l.used l.rows l.laid.count
