@@ -139,7 +139,8 @@ fn one_step(course: Course) -> Course
 }
 
 // What is due at the step of an executing vertex with these words, where this stands at its place: as `by_item` tells it to a single step. It has one
-// caller, so that it is compiled into the walk's loop, and what is due is never written to memory.
+// caller, so that it is compiled into the walk's loop, and what is due is never written to memory: `by_item`, which has four, is a call (docs/PROVING.md,
+// "Times").
 fn item_due(
     program: &[u8],
     item: ItemRead,
