@@ -11,12 +11,10 @@ pub fn next_open(vertices: &[u32], busy: &[u32], shut: &[u32], made: u32, from: 
     requires { (vertex_words * made ≤ length vertices.now) × (made ≤ length shut.now) }
     ensures { FirstOpen vertices.now busy.now shut.now made from result }
 {
-    let mut vertex = from;
-    while vertex < made {
+    for vertex in from..made {
         if is_open(vertices, busy, shut, vertex) {
             return vertex;
         }
-        vertex += 1;
     }
     made
 }

@@ -41,6 +41,7 @@ impl<'p, 't, 'b> Look<'p, 't, 'b> {
         requires leaps { Leaps self.now.vertices.now self.now.course.tally.made leaps.now × RowsOf self.now.course.used rows.now × (base + pair_limit ≤ usable_limit) }
         ensures { ShutsHere self.now shut.old shut.new }
     {
+        // Three arrays side by side, and not one of hinges: `tell_pairs` marks the starts by themselves, and the goals (`mark_ends`).
         let mut starts = [0; PAIRS];
         let mut goals = [0; PAIRS];
         let mut kinds = [Kind::Nothing; PAIRS];

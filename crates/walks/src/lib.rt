@@ -15,7 +15,7 @@ use index::Course;
 use refusal::Refusal;
 
 // The result of a step on an index: its answer, the course afterwards, and between which numbers the vertices lie that may step now and could not
-// before.
+// before. Two numbers, and no range in an Option: each is found by a minimum or a maximum, without a test whether it is the first.
 #[derive(Clone, Copy)]
 pub struct Moved {
     pub answer: Answer,
@@ -61,7 +61,7 @@ pub struct Rested {
     pub any: bool,
 }
 
-// How a run ends.
+// How a run ends. That, the last step and a dispatch's ending are enums with a case for each answer, as the customer wants them (docs/DECISIONS.md).
 #[derive(Clone, Copy)]
 pub enum Ending {
     Done,
