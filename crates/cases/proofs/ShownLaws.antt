@@ -1,8 +1,8 @@
 -- One byte more is shown.
 use Prim.Native.Nat.{ℕ, ◌+◌, ◌<◌, ◌^◌, ◌-◌}
-use mathlib.Core.Path.{◌≡◌, refl, sym, ap, ◌∙◌}
+use mathlib.Core.Path.{◌≡◌, sym, ap, ◌∙◌}
 use mathlib.Core.Bool.{false}
-use mathlib.Core.List.{List, [], ◌∷◌, ◌++◌}
+use mathlib.Core.List.{List, [], ◌++◌}
 use lib.ListN.{length, get_or, take}
 use lib.Chars.{codes}
 use Rattle.std.specs.Fmt.{padded_integral, format_spec, digits}

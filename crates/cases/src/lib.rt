@@ -11,8 +11,7 @@ ghost use Rattle.cases.specs.Sums.{table_sum};
 
 use graph::Tally;
 use refusal::Refusal;
-use std::fmt;
-use std::io;
+use std::{fmt, io};
 
 // Each byte of a program in two hex digits, with a space before it.
 #[derive(Clone, Copy)]

@@ -10,5 +10,5 @@ loop-byte-preserved g c = λ plain.
     let l = c.loop-byte in
     let bytes = c.args.self.now.0.now in
     has_written_of_eq _ _ _ _ _
-        (byte_more bytes l.byte-index (search rules) (search rules))
-        (has_written_append _ _ _ _ (codes " " ++ in_two_digits (get_or bytes l.byte-index 0)) _ (l.invariant plain) (search rules))
+    (byte_more bytes l.byte-index (search rules) (search rules))
+    (has_written_append _ _ _ _ (codes " " ++ in_two_digits (get_or bytes l.byte-index 0)) _ (l.invariant plain) (search rules))
