@@ -1,13 +1,14 @@
 -- The call: "For a source and a target, write into a lent list the shortest chain .. and answer how many vertices it has."
-use Rattle.std.specs.Prelude.{ℕ, Bool, true, false, List, ◌++◌, length, drop, leb}
+use Rattle.std.specs.Prelude.{ℕ, Bool, true, false, List, ◌++◌, length, drop, leb, Result, Ok, Err}
 use Rattle.std.proofs.Math.Option.{Option, none, some}
+use Rattle.refusal.specs.declared.Reason.{Reason}
+use Rattle.refusal.specs.declared.Refusal.{Refusal}
+use Rattle.refusal.specs.Reasons.{number}
 use Rattle.refusal.specs.Refusals.{unsound_tables, no_such_vertex, no_chain, list_too_short}
 use Rattle.graph.specs.Tests.{both}
 use Rattle.graph.specs.Tables.{Lent}
 use Rattle.graph.specs.Sound.{sound}
 use Rattle.graph.specs.Commands.{is_made}
-use Rattle.chains.specs.declared.Answer.{Answer}
-use Rattle.chains.specs.declared.Answer.TheVariants.{Chain, Refused}
 use Rattle.chains.specs.Chains.{shortest_chain}
 
 -- what the call says: how many vertices the chain has, or a refusal with its number and its place
@@ -16,9 +17,9 @@ pub data ChainSaid : Type 0 where
   chain_refused : ℕ → ℕ → ChainSaid
 
 -- "Where an answer is an enum, a definition gives this paper's number and values for each of its cases"
-abbrev pub chain_said : Answer → ChainSaid
-chain_said (Chain n) = vertices n
-chain_said (Refused r) = chain_refused r.number r.place
+abbrev pub chain_said : Result ℕ Refusal → ChainSaid
+chain_said (Ok n) = vertices n
+chain_said (Err r) = chain_refused (number r.reason) r.place
 
 -- what it says, and the list afterwards; the tables and the tally are only read
 pub record ChainOutcome : Type 0 where
@@ -26,12 +27,17 @@ pub record ChainOutcome : Type 0 where
   pub list : List ℕ
 
 -- the outcome that the code gives: its answer, and the list at exit
-abbrev pub answered : Answer → List ℕ → ChainOutcome
+abbrev pub answered : Result ℕ Refusal → List ℕ → ChainOutcome
 answered a l = record { answer = chain_said a; list = l }
 
 -- "a refusal, here or later, changes nothing that is lent"; these have the place 0
 abbrev pub refused_with : ℕ → List ℕ → ChainOutcome
 refused_with n list = record { answer = chain_refused n 0; list = list }
+
+-- the same of a call that gives its reason where it is refused, at no place in the program
+abbrev pub tried : Result ℕ Reason → List ℕ → ChainOutcome
+tried (Ok n) list = record { answer = vertices n; list = list }
+tried (Err r) list = refused_with (number r) list
 
 -- "Turned away": the refusal n where the test fails, else what follows
 unfoldable pub turned_away_unless : Bool → ℕ → List ℕ → ChainOutcome → ChainOutcome

@@ -5,14 +5,6 @@
 #![tactic(auto)]
 
 pub mod entry;
+pub mod laws;
 mod nearest;
 pub mod showing;
-
-use refusal::Refusal;
-
-// What is answered: how many vertices the chain has, or the refusal.
-#[derive(Clone, Copy)]
-pub enum Answer {
-    Chain(u32),
-    Refused(Refusal),
-}

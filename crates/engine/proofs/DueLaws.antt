@@ -75,6 +75,11 @@ pub both_skip : {a : Bool} (b : Bool) → a ≡ true → b ≡ both a b
 unfolding both
 both_skip b p = subst (λ (x : Bool). b ≡ both x b) (sym p) refl
 
+pub both_first : (a : Bool) {b : Bool} → b ≡ true → a ≡ both a b
+unfolding both
+both_first true p = sym p
+both_first false p = refl
+
 -- an answer no
 pub answers_no : {b : Bool} → b ≡ false → false ≡ b
 answers_no p = sym p
@@ -94,6 +99,8 @@ other_of first {rest = rest} p q = q ∙ ap (λ (x : Bool). cond x first rest) (
 pub ruleset dues = (
   passed,
   halted,
+  both_skip,
+  both_first,
   other_of,
   answers_no,
   both_true,

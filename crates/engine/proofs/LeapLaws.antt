@@ -10,11 +10,17 @@ use lib.Dec.{ltb}
 use lib.ListN.{length, get_or, set}
 use lib.Seq.{get_or-set_same, get_or-set_other}
 use borrow.Author.Tests.{lt-ltb, le-ltb, ltb-true, ltb-false}
+use Rattle.std.specs.Prelude as of_code
+use Rattle.std.specs.Prelude.{Some, None, unwrap_or}
+use mathlib.Core.Option.{Option, none, some}
+use Rattle.graph.specs.Tests.{both}
+use Rattle.machine.specs.Stepping.{or_zero}
 use Rattle.graph.specs.Tables.{usable_limit, future_word, vertex_word}
 use Rattle.graph.proofs.TestLaws.{decide, below_suc}
 use Rattle.machine.proofs.TablesFollow.FutureLaws.{future_named}
-use Rattle.engine.proofs.FollowLaws.{open_beyond, open_zero, none_further, some_further, word_tells}
-use Rattle.engine.specs.Internal.Underway.{outwards, unless_zero, FollowsTo}
+use Rattle.engine.proofs.FollowLaws.{open_beyond, open_zero, none_further, some_further, word_lost, unless_zero, word_tells, named_same, named_tells}
+use Rattle.engine.specs.Answers.{vertex_of}
+use Rattle.engine.specs.Internal.Underway.{outwards, named_future, FollowsTo}
 use Rattle.engine.specs.Internal.Leaping.{hop, hops, HopsAt, Leaps, Within, LeadsTo, LeapsTo, SameBelow, EightTold}
 
 -- HOPS
@@ -32,6 +38,26 @@ pub hop_named : (t : List ℕ) (made v : ℕ) → (v ≡ 0 → ⊥) → vertex_w
 unfolding hop
 hop_named t made zero some_vertex lt = absurd (some_vertex refl)
 hop_named t made (suc v) some_vertex lt = rw (lt-ltb (vertex_word t (suc v) future_word) made lt) refl
+
+-- as the code reads it
+word_or : (made w : ℕ) (b : Bool) → ltb w made ≡ b → or_zero (named_future made w) ≡ cond b w 0
+unfolding named_future or_zero both
+word_or made zero true h = refl
+word_or made zero false h = refl
+word_or made (suc w) true h = rw (lt-ltb 0 (suc w) (omega arith)) (rw h refl)
+word_or made (suc w) false h = rw (lt-ltb 0 (suc w) (omega arith)) (rw h refl)
+
+unwrapped : (o : of_code.Option ℕ) → unwrap_or o 0 ≡ or_zero (vertex_of o)
+unfolding or_zero
+unwrapped (Some v) = refl
+unwrapped None = refl
+
+pub hop_read :
+    (t : List ℕ) (made v : ℕ) (o : of_code.Option ℕ) {r : ℕ} → (v ≡ 0 → ⊥) → vertex_of o ≡ named_future made (vertex_word t v future_word)
+    → r ≡ unwrap_or o 0 → r ≡ hop t made v
+unfolding hop
+hop_read t made zero o some_vertex named is = absurd (some_vertex refl)
+hop_read t made (suc v) o some_vertex named is = is ∙ unwrapped o ∙ ap or_zero named ∙ word_or made (vertex_word t (suc v) future_word) _ refl
 
 -- a hop leads to a made vertex
 hop_below : (t : List ℕ) (made v : ℕ) → v < made → hop t made v < made
@@ -62,38 +88,43 @@ hops_none t made zero = refl
 hops_none t made (suc n) = hops_none t made n
 
 -- nor from a word that names no made vertex
-none_follows : (t : List ℕ) (made word n : ℕ) → made ≤ word → FollowsTo t made word n 0
-unfolding unless_zero
+none_follows : (t : List ℕ) (made word n : ℕ) → made ≤ word → FollowsTo t made word n none
 none_follows t made word n le s e m = none_further s word n (open_beyond s word (omega arith))
 
-zero_follows : (t : List ℕ) (made n : ℕ) → FollowsTo t made 0 n 0
+zero_none : unless_zero 0 ≡ none
 unfolding unless_zero
+zero_none = refl
+
+none_follows_zero : (t : List ℕ) (made word n : ℕ) → made ≤ word → FollowsTo t made word n (unless_zero 0)
+none_follows_zero t made word n le s e m = zero_none ∙ none_follows t made word n le s e m
+
+zero_follows : (t : List ℕ) (made n : ℕ) → FollowsTo t made 0 n none
 zero_follows t made n s e m = none_further s 0 n (open_zero s 0 refl)
 
 -- hops from the vertex that a word names are what a force follows: on from there, by the word of that vertex
 word_follows :
-    (t : List ℕ) (made n v : ℕ) → ((word : ℕ) → word < made → FollowsTo t made word n (hops t made n word)) → (v ≡ 0 → ⊥)
-    → FollowsTo t made (vertex_word t v future_word) n (hops t made n (hop t made v))
+    (t : List ℕ) (made n v : ℕ) → ((word : ℕ) → word < made → FollowsTo t made word n (unless_zero (hops t made n word))) → (v ≡ 0 → ⊥)
+    → FollowsTo t made (vertex_word t v future_word) n (unless_zero (hops t made n (hop t made v)))
 word_follows t made n v known some_vertex = ⊎_elim inside beyond (decide (ltb x made))
   where
     x : ℕ
     x = vertex_word t v future_word
 
-    inside : ltb x made ≡ true → FollowsTo t made x n (hops t made n (hop t made v))
+    inside : ltb x made ≡ true → FollowsTo t made x n (unless_zero (hops t made n (hop t made v)))
     inside h =
         let lt : x < made = ltb-true x made h in
-        subst (λ (y : ℕ). FollowsTo t made x n (hops t made n y)) (hop_named t made v some_vertex lt) (known x lt)
+        subst (λ (y : ℕ). FollowsTo t made x n (unless_zero (hops t made n y))) (hop_named t made v some_vertex lt) (known x lt)
 
-    beyond : ltb x made ≡ false → FollowsTo t made x n (hops t made n (hop t made v))
+    beyond : ltb x made ≡ false → FollowsTo t made x n (unless_zero (hops t made n (hop t made v)))
     beyond h =
         let le : made ≤ x = ltb-false x made h in
-        subst (λ (y : ℕ). FollowsTo t made x n y) (sym (ap (hops t made n) (sym (hop_beyond t made v some_vertex le)) ∙ hops_none t made n))
-        (none_follows t made x n le)
+        subst (λ (y : ℕ). FollowsTo t made x n (unless_zero y)) (sym (ap (hops t made n) (sym (hop_beyond t made v some_vertex le)) ∙ hops_none t made n))
+        (none_follows_zero t made x n le)
 
-hops_follow : (t : List ℕ) (made word n : ℕ) → word < made → FollowsTo t made word n (hops t made n word)
+hops_follow : (t : List ℕ) (made word n : ℕ) → word < made → FollowsTo t made word n (unless_zero (hops t made n word))
 unfolding hops
 hops_follow t made word zero lt s e m = word_tells s word (omega arith)
-hops_follow t made zero (suc n) lt s e m = ap unless_zero (hops_none t made (suc n)) ∙ zero_follows t made (suc n) s e m
+hops_follow t made zero (suc n) lt s e m = ap unless_zero (hops_none t made (suc n)) ∙ zero_none ∙ zero_follows t made (suc n) s e m
 hops_follow t made (suc w) (suc n) lt s e m =
     word_follows t made n (suc w) (λ word below. hops_follow t made word n below) (λ q. absurd (omega arith)) s e m
     ∙ ap (λ (u : List ℕ). outwards s (vertex_word u (suc w) future_word) n) (sym e)
@@ -133,26 +164,29 @@ leaps_within t made l told = (
 )
 
 -- leaps of sixty-four, then of eight, then hops
-pub leapt_none : (made : ℕ) (l : List ℕ) (word n : ℕ) → made ≤ word → LeapsTo made l word n 0
-leapt_none made l word n le t told = none_follows t made word n le
+pub leapt_none : (made : ℕ) (l : List ℕ) (word n : ℕ) → none ≡ named_future made word → LeapsTo made l word n none
+leapt_none made l word n lost t told = word_lost t made word n lost
 
 parts : (n : ℕ) → n / 64 * 64 + n / 8 % 8 * 8 + n % 8 * 1 ≡ n
 parts n = omega arith
 
 pub leapt_all :
-    (made : ℕ) (l : List ℕ) (word n far near r : ℕ) → word < made → LeadsTo made l (2 * usable_limit) word (n / 64) far
-    → LeadsTo made l usable_limit far (n / 8 % 8) near → LeadsTo made l 0 near (n % 8) r → LeapsTo made l word n r
-leapt_all made l word n far near r lt by_64 by_8 by_1 t told =
-    subst (λ (x : ℕ). FollowsTo t made word n x)
+    (made : ℕ) (l : List ℕ) (word n v far near r : ℕ) {o : Option ℕ} → some v ≡ named_future made word → v < made
+    → LeadsTo made l (2 * usable_limit) v (n / 64) far → LeadsTo made l usable_limit far (n / 8 % 8) near → r < made
+    → LeadsTo made l 0 near (n % 8) r → o ≡ named_future made r → LeapsTo made l word n o
+leapt_all made l word n v far near r names lt by_64 by_8 below by_1 is t told =
+    subst (λ (x : Option ℕ). FollowsTo t made word n x)
     (sym
+    (is ∙ named_tells made r below
+    ∙ ap unless_zero
     (by_1 t 1 told.ones
     ∙ ap (hops t made (n % 8 * 1))
     (by_8 t 8 told.eights
     ∙ ap (hops t made (n / 8 % 8 * 8)) (by_64 t 64 told.sixty_fours)
-    ∙ hops_then t made (n / 64 * 64) (n / 8 % 8 * 8) word)
-    ∙ hops_then t made (n / 64 * 64 + n / 8 % 8 * 8) (n % 8 * 1) word
-    ∙ ap (λ (k : ℕ). hops t made k word) (parts n)))
-    (hops_follow t made word n lt)
+    ∙ hops_then t made (n / 64 * 64) (n / 8 % 8 * 8) v)
+    ∙ hops_then t made (n / 64 * 64 + n / 8 % 8 * 8) (n % 8 * 1) v
+    ∙ ap (λ (k : ℕ). hops t made k v) (parts n))))
+    (rw (named_same made word v names) (hops_follow t made v n lt))
 
 -- FILLING
 -- one vertex more is told

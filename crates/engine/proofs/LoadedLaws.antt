@@ -1,7 +1,11 @@
--- Loading, by the code's four returns: the program is refused, too few vertex rows, too few edge rows, or loaded.
+-- Loading: what it answers, by the four returns of `load_refusal`, that is the program is refused, too few vertex rows, too few edge rows, or loaded;
+-- and what it leaves.
 use Prim.Native.Nat.{ℕ, zero, suc, ◌+◌, ◌-◌, ◌*◌, ◌<◌, ◌≤◌}
 use mathlib.Core.Path.{◌≡◌, refl, sym, ◌∙◌, ap}
+use mathlib.Core.Bool.{Bool, true, false}
 use mathlib.Core.List.{List, [], ◌∷◌}
+use Rattle.std.specs.Prelude.{Result, Ok, Err, is_err, ⊤}
+use Rattle.refusal.specs.declared.Refusal.{Refusal}
 use native.Mathlib.Omega.{arith}
 use lib.ListN.{length, set, length-set}
 use Rattle.graph.specs.declared.Tally.{Tally}
@@ -23,12 +27,14 @@ use Rattle.program.specs.Answers.{loads, told, item_counts}
 use Rattle.program.specs.Answers as of_program
 use Rattle.program.proofs.Formulas.{vertices_formula, edge_rows_formula}
 use Rattle.program.proofs.ReadingLaws.{encode_positive}
-use Rattle.program.proofs.Exactness.{reading_sound}
+use Rattle.program.specs.Claims.{Loadable}
+use Rattle.program.proofs.Exactness.{reading_complete}
 use Rattle.machine.specs.Answers.{LoadingSaid, loaded, loading_refused, is_loaded}
 use Rattle.machine.specs.Loading.{placed, loaded_tables, load}
-use Rattle.machine.specs.Demand2.{Unloaded, unread, few_vertex_rows, few_edge_rows}
+use Rattle.machine.specs.Demand2.{Lends, Unloaded, unread, few_vertex_rows, few_edge_rows}
 use Rattle.machine.specs.Traces.{Loaded}
-use Rattle.machine.proofs.LoadLaws.{load_taken, load_refused, load_keeps}
+use Rattle.machine.proofs.LoadLaws.{load_exact, load_taken, load_refused, load_keeps}
+use Rattle.engine.specs.Answers.{loading_said}
 
 -- words stored twice, and the length of a table that was cleared
 set-set : (l : List ℕ) (i x y : ℕ) → set (set l i x) i y ≡ set l i y
@@ -41,6 +47,7 @@ unfolding clear
 clear-length l from zero = refl
 clear-length l from (suc n) = length-set (clear l from n) (from + n) 0 ∙ clear-length l from n
 
+-- WHAT IT ANSWERS
 -- what reading told
 pub unread_is : (r : Reading) {n p : ℕ} → of_program.ProgramSaid.refused n p ≡ told r → r ≡ refusal n p
 unfolding told
@@ -59,21 +66,13 @@ read_is ed bytes (refusal n p) e h = absurd (let z : ◌≡◌ {A = ℕ} 0 1 = c
 
 -- a refusal
 refusing :
-    (ed : Edition) (bytes : List ℕ) (s : Lent) {a : LoadingSaid} {after : Lent} (n p : ℕ) → Unloaded ed bytes s n p → a ≡ loading_refused n p
-    → after ≡ s → Loaded ed bytes s a after
-refusing ed bytes s n p u h k =
-    let o : (load ed bytes s).answer ≡ loading_refused n p = (load_refused ed bytes s n p).1 u in
-    record { says = h ∙ sym o; leaves = k ∙ sym (load_keeps ed bytes s (ap is_loaded o)) }
-
-refused_lent : (v e : List ℕ) {t t' : Tally} → t' ≡ t → lent v e t' ≡ lent v e t
-refused_lent v e p = ap (lent v e) p
+    (ed : Edition) (bytes : List ℕ) (s : Lent) {n p : ℕ} → Unloaded ed bytes s n p → loading_refused n p ≡ (load ed bytes s).answer
+refusing ed bytes s u = sym ((load_refused ed bytes s _ _).1 u)
 
 pub load_unread :
-    (ed : Edition) (bytes v e : List ℕ) (t : Tally) {a : LoadingSaid} {t' : Tally} (n p : ℕ)
-    → of_program.ProgramSaid.refused n p ≡ told (reading ed bytes)
-    → (a ≡ loading_refused n p) × (t' ≡ t) → Loaded ed bytes (lent v e t) a (lent v e t')
-load_unread ed bytes v e t n p is h =
-    refusing ed bytes (lent v e t) n p (unread (unread_is (reading ed bytes) is)) h.0 (refused_lent v e h.1)
+    (ed : Edition) (bytes v e : List ℕ) {n p : ℕ} → of_program.ProgramSaid.refused n p ≡ told (reading ed bytes) → (t : Tally)
+    → loading_refused n p ≡ (load ed bytes (lent v e t)).answer
+load_unread ed bytes v e is t = refusing ed bytes (lent v e t) (unread (unread_is (reading ed bytes) is))
 
 -- the rows that a program needs, as the code counts them
 needs_vertices : (ed : Edition) (b : Body) {c : Counts} {n : ℕ} → c ≡ counts b → n ≡ vertex_formula ed c → n ≡ needs.vertices_made ed b
@@ -87,6 +86,47 @@ below p q h = omega arith
 
 enough : {r r' n n' : ℕ} → r ≡ r' → n ≡ n' → n ≤ r → n' ≤ r'
 enough p q h = omega arith
+
+module _ (ed : Edition) (bytes v e : List ℕ) (c : ItemCounts) (is : loads (item_counts c) ≡ told (reading ed bytes)) {vr vn : ℕ}
+    (rows : vr ≡ vertex_rows v) (need : vn ≡ vertex_formula ed (item_counts c)) where
+  found : Read ed bytes (item_counts c)
+  found = read_is ed bytes (reading ed bytes) refl is
+
+  pub load_few_vertices : vr < vn → (t : Tally) → loading_refused 10 0 ≡ (load ed bytes (lent v e t)).answer
+  load_few_vertices lt t =
+      refusing ed bytes (lent v e t) (few_vertex_rows found.tree found.is_read (below rows (needs_vertices ed found.tree found.counted need) lt))
+
+  there : vn ≤ vr → needs.vertices_made ed found.tree ≤ vertex_rows v
+  there le = enough rows (needs_vertices ed found.tree found.counted need) le
+
+  module _ (le : vn ≤ vr) {er en : ℕ} (erows : er ≡ edge_rows e) (eneed : en ≡ edge_row_formula (item_counts c)) where
+    pub load_few_edges : er < en → (t : Tally) → loading_refused 11 0 ≡ (load ed bytes (lent v e t)).answer
+    load_few_edges lt t =
+        refusing ed bytes (lent v e t)
+        (few_edge_rows found.tree found.is_read (there le) (below erows (needs_edges ed found.tree found.counted eneed) lt))
+
+    pub load_enough : en ≤ er → (t : Tally) → loaded ≡ (load ed bytes (lent v e t)).answer
+    load_enough enough_edges t =
+        ap (λ (x : Outcome LoadingSaid). x.answer)
+        (sym
+        (load_taken ed bytes (lent v e t) found.tree found.is_read
+        (record { enough_vertex_rows = there le; enough_edge_rows = enough erows (needs_edges ed found.tree found.counted eneed) enough_edges })))
+
+-- WHAT IT LEAVES
+-- one that is refused leaves what was lent
+pub not_loaded : (r : Result ⊤ Refusal) {b : Bool} → b ≡ is_err r → b ≡ true → is_loaded (loading_said r) ≡ false
+not_loaded (Ok d) p q = cc
+not_loaded (Err f) p q = refl
+
+pub is_loaded_lem : (r : Result ⊤ Refusal) {b : Bool} → b ≡ is_err r → b ≡ false → is_loaded (loading_said r) ≡ true
+is_loaded_lem (Ok d) p q = refl
+is_loaded_lem (Err f) p q = cc
+
+pub load_turned :
+    (ed : Edition) (bytes : List ℕ) (s : Lent) (r : Result ⊤ Refusal) {b : Bool} → loading_said r ≡ (load ed bytes s).answer → b ≡ is_err r
+    → b ≡ true → Loaded ed bytes s (loading_said r) s
+load_turned ed bytes s r says told h =
+    record { says = says; leaves = sym (load_keeps ed bytes s (sym (ap is_loaded says) ∙ not_loaded r told h)) }
 
 -- what opening leaves, where there are rows
 opened :
@@ -103,80 +143,70 @@ placed_again : (x : List ℕ) (k p : ℕ) → placed (set_status x k RELEASED) k
 placed_again x k p =
     ap (λ (y : List ℕ). set_vertex_word (set_vertex_word y k place_word p) k scope_word 1) (set-set x (vertex_words * k + status_word) RELEASED RELEASED)
 
-module _ (ed : Edition) (bytes v e : List ℕ) (t : Tally) (c : ItemCounts) (is : loads (item_counts c) ≡ told (reading ed bytes)) {vr vn : ℕ}
-    (rows : vr ≡ vertex_rows v) (need : vn ≡ vertex_formula ed (item_counts c)) where
-  found : Read ed bytes (item_counts c)
-  found = read_is ed bytes (reading ed bytes) refl is
+-- another one leaves two vertices and an edge
+module _ (ed : Edition) (bytes v e : List ℕ) (t : Tally) (r : Result ⊤ Refusal) {b : Bool}
+    (says : loading_said r ≡ (load ed bytes (lent v e t)).answer) (told_err : b ≡ is_err r) (h : b ≡ false) where
+  fits : (b : Body) × Loadable ed b × (bytes ≡ encode b) × Lends ed b (lent v e t)
+  fits = (load_exact ed bytes (lent v e t)).0 (sym (ap is_loaded says) ∙ is_loaded_lem r told_err h)
 
-  pub load_few_vertices :
-      {a : LoadingSaid} {t' : Tally} → vr < vn → (a ≡ loading_refused 10 0) × (t' ≡ t) → Loaded ed bytes (lent v e t) a (lent v e t')
-  load_few_vertices lt h =
-      refusing ed bytes (lent v e t) 10 0
-      (few_vertex_rows found.tree found.is_read (below rows (needs_vertices ed found.tree found.counted need) lt)) h.0
-      (refused_lent v e h.1)
+  two_rows : 2 ≤ vertex_rows v
+  two_rows =
+      let (b, loadable, code, lends) = fits in
+      let formula : needs.vertices_made ed b ≡ vertex_formula ed (counts b) = vertices_formula ed b in
+      let some_rows : needs.vertices_made ed b ≤ vertex_rows v = lends.enough_vertex_rows in
+      omega arith
 
-  there : vn ≤ vr → needs.vertices_made ed found.tree ≤ vertex_rows v
-  there le = enough rows (needs_vertices ed found.tree found.counted need) le
+  one_row : 1 ≤ edge_rows e
+  one_row =
+      let (b, loadable, code, lends) = fits in
+      let formula : needs.edge_rows_needed ed b ≡ edge_row_formula (counts b) = edge_rows_formula ed b in
+      let some_rows : needs.edge_rows_needed ed b ≤ edge_rows e = lends.enough_edge_rows in
+      omega arith
 
-  pub load_few_edges :
-      {a : LoadingSaid} {t' : Tally} {er en : ℕ} → vn ≤ vr → er ≡ edge_rows e → en ≡ edge_row_formula (item_counts c) → er < en
-      → (a ≡ loading_refused 11 0) × (t' ≡ t) → Loaded ed bytes (lent v e t) a (lent v e t')
-  load_few_edges le erows eneed lt h =
-      refusing ed bytes (lent v e t) 11 0
-      (few_edge_rows found.tree found.is_read (there le) (below erows (needs_edges ed found.tree found.counted eneed) lt)) h.0
-      (refused_lent v e h.1)
-
-  two_rows : vn ≤ vr → 2 ≤ vertex_rows v
-  two_rows le = omega arith
-
-  pub loaded_length : (1 ≤ length bytes) × (length bytes ≤ program_bytes)
+  loaded_length : (1 ≤ length bytes) × (length bytes ≤ program_bytes)
   unfolding size
-  loaded_length = let (p, q) = reading_sound ed bytes found.tree found.is_read in within found.tree p q.bytes
-    where
-      within : (b : Body) → bytes ≡ encode b → size b ≤ program_bytes → (1 ≤ length bytes) × (length bytes ≤ program_bytes)
-      within b p q = rw p (encode_positive b, q)
+  loaded_length = let (b, loadable, code, lends) = fits in rw code (encode_positive b, loadable.bytes)
 
-  module _ (le : vn ≤ vr) (r : OpenDone) (v' e' : List ℕ) (left : opening_outcome r v' e' ≡ opening (lent v e t)) where
+  module _ (o : OpenDone) (v' e' : List ℕ) (left : opening_outcome o v' e' ≡ opening (lent v e t)) where
     as_opened : (v' ≡ set_status (clear v 0 (vertex_words * vertex_rows v)) 0 RELEASED) × (e' ≡ clear e 0 (edge_words * edge_rows e))
-    as_opened = opened v e t r v' e' left (two_rows le)
+    as_opened = opened v e t o v' e' left two_rows
 
     -- what placing the first two vertices asks for
     pub first_two : (2 ≤ vertex_rows v') × (1 ≤ length bytes) × (length bytes ≤ program_bytes)
     first_two =
         let same : length v' ≡ length v =
         ap length as_opened.0 ∙ length-set (clear v 0 (vertex_words * vertex_rows v)) 0 RELEASED ∙ clear-length v 0 (vertex_words * vertex_rows v) in
-        let two : 2 ≤ vertex_rows v = two_rows le in
+        let two : 2 ≤ vertex_rows v = two_rows in
         let rows_there : 2 ≤ vertex_rows v' = omega arith in
         (rows_there, loaded_length.0, loaded_length.1)
 
-    module _ {er en : ℕ} (erows : er ≡ edge_rows e) (eneed : en ≡ edge_row_formula (item_counts c)) (enough_edges : en ≤ er) where
-      pub edge_there : 1 < length (set e' 0 0)
-      edge_there =
-          let same : length (set e' 0 0) ≡ length e = length-set e' 0 0 ∙ ap length as_opened.1 ∙ clear-length e 0 (edge_words * edge_rows e) in
-          omega arith
+    pub edge_there : 1 < length e'
+    edge_there =
+        let same : length e' ≡ length e = ap length as_opened.1 ∙ clear-length e 0 (edge_words * edge_rows e) in
+        let one : 1 ≤ edge_rows e = one_row in
+        omega arith
 
-      tables :
-          {v'' : List ℕ} → v'' ≡ set_vertex_word (placed (placed v' 0 0) 1 (length bytes - 1)) 1 in_count_word 1
-          → ◌≡◌ {A = Lent} (record { vertices = v''; edges = set (set e' 0 0) 1 1; made = 2; held = 1; steps = 0 }) (loaded_tables bytes (lent v e t))
-      unfolding loaded_tables appended
-      tables placing =
-          λ i. record {
-            vertices =
-                (placing ∙ ap (λ (x : List ℕ). set_vertex_word (placed (placed x 0 0) 1 (length bytes - 1)) 1 in_count_word 1) as_opened.0
-                ∙ ap (λ (x : List ℕ). set_vertex_word (placed x 1 (length bytes - 1)) 1 in_count_word 1)
-                (placed_again (clear v 0 (vertex_words * vertex_rows v)) 0 0))
-                i;
-            edges = ap (λ (x : List ℕ). set (set x 0 0) 1 1) as_opened.1 i;
-            made = 2;
-            held = 1;
-            steps = 0;
-          }
+    tables :
+        {v'' : List ℕ} → v'' ≡ set_vertex_word (placed (placed v' 0 0) 1 (length bytes - 1)) 1 in_count_word 1
+        → ◌≡◌ {A = Lent} (record { vertices = v''; edges = set (set e' 0 0) 1 1; made = 2; held = 1; steps = 0 }) (loaded_tables bytes (lent v e t))
+    unfolding loaded_tables appended
+    tables placing =
+        λ i. record {
+          vertices =
+              (placing ∙ ap (λ (x : List ℕ). set_vertex_word (placed (placed x 0 0) 1 (length bytes - 1)) 1 in_count_word 1) as_opened.0
+              ∙ ap (λ (x : List ℕ). set_vertex_word (placed x 1 (length bytes - 1)) 1 in_count_word 1)
+              (placed_again (clear v 0 (vertex_words * vertex_rows v)) 0 0))
+              i;
+          edges = ap (λ (x : List ℕ). set (set x 0 0) 1 1) as_opened.1 i;
+          made = 2;
+          held = 1;
+          steps = 0;
+        }
 
-      pub load_accepted :
-          {v'' : List ℕ} → v'' ≡ set_vertex_word (placed (placed v' 0 0) 1 (length bytes - 1)) 1 in_count_word 1
-          → Loaded ed bytes (lent v e t) loaded (record { vertices = v''; edges = set (set e' 0 0) 1 1; made = 2; held = 1; steps = 0 })
-      load_accepted placing =
-          let o =
-          load_taken ed bytes (lent v e t) found.tree found.is_read
-          (record { enough_vertex_rows = there le; enough_edge_rows = enough erows (needs_edges ed found.tree found.counted eneed) enough_edges }) in
-          record { says = ap (λ (x : Outcome LoadingSaid). x.answer) (sym o); leaves = tables placing ∙ ap (λ (x : Outcome LoadingSaid). x.after) (sym o) }
+    pub load_accepted :
+        {v'' : List ℕ} → v'' ≡ set_vertex_word (placed (placed v' 0 0) 1 (length bytes - 1)) 1 in_count_word 1
+        → Loaded ed bytes (lent v e t) (loading_said r) (record { vertices = v''; edges = set (set e' 0 0) 1 1; made = 2; held = 1; steps = 0 })
+    load_accepted placing =
+        let (b, loadable, code, lends) = fits in
+        let o = load_taken ed bytes (lent v e t) b (ap (reading ed) code ∙ reading_complete ed b loadable) lends in
+        record { says = says; leaves = tables placing ∙ ap (λ (x : Outcome LoadingSaid). x.after) (sym o) }

@@ -10,7 +10,7 @@ use native.Mathlib.Numerals.{add-one}
 use native.Mathlib.Omega.{arith}
 use lib.Dec.{eqb, ltb}
 use lib.ListN.{get_or, replicate, length-replicate, get_or-replicate, get_or-eq_default}
-use borrow.Author.Tests.{eq-eqb, ne_eqb, ltb-true, ltb-false}
+use borrow.Author.Tests.{ltb-true, ltb-false}
 use Rattle.graph.specs.declared.Command.{Command}
 use Rattle.graph.specs.Tests.{both, lowest_below}
 use Rattle.graph.specs.Tables.{Lent}
@@ -21,27 +21,36 @@ use Rattle.graph.proofs.LowestLaws.{found_is, none_is, found_holds, found_lowest
 use Rattle.refusal.specs.Refusals.{unsound_tables}
 use Rattle.program.specs.declared.Edition.{Edition}
 use Rattle.machine.specs.Stepping.{step_limit, steppable}
-use Rattle.machine.specs.Running.{can_step, lowest, chosen, choice, Choice, choose, no_choice, choice_refused}
+use Rattle.machine.specs.Running.{can_step, lowest, chosen, choice, choice_refused}
 use Rattle.machine.specs.Dispatching.{is_busy, lowest_free}
 use Rattle.machine.proofs.StepDemand2.{can_ready}
-use Rattle.engine.specs.declared.Due as of_code
-use Rattle.engine.specs.Answers.{due_of}
+use Rattle.std.specs.Prelude as of_code
+use Rattle.std.specs.Prelude.{Result, Ok, Err, is_ok, ⊤, Some, None}
+use Rattle.refusal.specs.declared.Reason.{Reason}
+use Rattle.refusal.specs.Reasons.{number, due_number}
+use Rattle.refusal.proofs.ReasonLaws.{number_positive}
+use Rattle.engine.specs.declared.Due as of_engine
+use Rattle.engine.specs.Answers.{due_of, vertex_of, choice_of}
 use Rattle.engine.specs.Internal.Underway.{takes}
 
 -- COMMANDS
--- a command is accepted exactly where its refusal is 0
-pub told : (s : Lent) {r n : ℕ} (said : CommandSaid) (after : Lent) → accepted said ≡ true → r ≡ n → eqb r 0 ≡ accepted (decided s n said after).answer
+-- a command is accepted exactly where no refusal is due
+pub told :
+    (s : Lent) (r : Result ⊤ Reason) {n : ℕ} (said : CommandSaid) (after : Lent) → accepted said ≡ true → due_number r ≡ n
+    → is_ok r ≡ accepted (decided s n said after).answer
 unfolding decided
-told s {r = r} {n = zero} said after q p = eq-eqb r 0 p ∙ sym q
-told s {r = r} {n = suc n} said after q p = ne_eqb r 0 (λ e. omega arith)
+told s (Ok u) {n = zero} said after q p = sym q
+told s (Ok u) {n = suc n} said after q p = absurd (omega arith)
+told s (Err e) {n = zero} said after q p = let above : 0 < number e = number_positive e in absurd (omega arith)
+told s (Err e) {n = suc n} said after q p = refl
 
 -- by its case
 pub told_case : (s : Lent) {given c : Command} {b : Bool} → given ≡ c → b ≡ accepted (command c s).answer → b ≡ accepted (command given s).answer
 told_case s p h = h ∙ ap (λ (x : Command). accepted (command x s).answer) (sym p)
 
 -- what is due, by its case
-pub takes_case : (s : Lent) {next d : of_code.Due} {b : Bool} → next ≡ d → b ≡ takes s (due_of d) → b ≡ takes s (due_of next)
-takes_case s p h = h ∙ ap (λ (x : of_code.Due). takes s (due_of x)) (sym p)
+pub takes_case : (s : Lent) {next d : of_engine.Due} {b : Bool} → next ≡ d → b ≡ takes s (due_of d) → b ≡ takes s (due_of next)
+takes_case s p h = h ∙ ap (λ (x : of_engine.Due). takes s (due_of x)) (sym p)
 
 -- THE LOOK
 module _ (ed : Edition) (bytes : List ℕ) (s : Lent) where
@@ -56,14 +65,14 @@ module _ (ed : Edition) (bytes : List ℕ) (s : Lent) where
       (λ u lt. ⊎_elim (λ e. subst (λ (x : ℕ). can_step ed bytes s x ≡ false) (sym e) (sym p ∙ q)) (λ l. h u l) (below_suc lt))
 
   -- this one can, and none below it
-  pub chosen_this : (k : ℕ) {b : Bool} → k < s.made → NoneCan k → b ≡ can_step ed bytes s k → b ≡ true → choose k ≡ chosen (lowest ed bytes s)
-  unfolding lowest chosen
-  chosen_this k lt h p q = rw (found_is (can_step ed bytes s) s.made k lt (sym p ∙ q) h) refl
+  pub lowest_this : (k : ℕ) {b : Bool} → k < s.made → NoneCan k → b ≡ can_step ed bytes s k → b ≡ true → some k ≡ lowest ed bytes s
+  unfolding lowest
+  lowest_this k lt h p q = sym (found_is (can_step ed bytes s) s.made k lt (sym p ∙ q) h)
 
   -- none can
-  pub chosen_none : (k : ℕ) → s.made ≤ k → NoneCan k → no_choice ≡ chosen (lowest ed bytes s)
-  unfolding lowest chosen
-  chosen_none k le h = rw (none_is (can_step ed bytes s) s.made (λ u lt. h u (omega arith))) refl
+  pub lowest_none : (k : ℕ) → s.made ≤ k → NoneCan k → none ≡ lowest ed bytes s
+  unfolding lowest
+  lowest_none k le h = sym (none_is (can_step ed bytes s) s.made (λ u lt. h u (omega arith)))
 
 -- BUSY VERTICES
 module _ (ed : Edition) (bytes : List ℕ) (s : Lent) (marks : List ℕ) where
@@ -117,13 +126,18 @@ none_marked n v = ap (λ (x : ℕ). not (eqb x 0)) (⊎_elim inside beyond (deci
 
 -- A HOST'S QUESTION
 -- tables that take no step
-pub choice_turned :
-    (ed : Edition) (bytes : List ℕ) (s : Lent) {x : Choice} → steppable s ≡ false → x ≡ choice_refused unsound_tables 0 → x ≡ choice ed bytes s
+pub choice_turned : (ed : Edition) (bytes : List ℕ) (s : Lent) → steppable s ≡ false → choice_refused unsound_tables 0 ≡ choice ed bytes s
 unfolding choice
-choice_turned ed bytes s h p = rw h p
+choice_turned ed bytes s h = rw h refl
 
 -- others
+chosen_vertex : (o : of_code.Option ℕ) → choice_of (Ok o) ≡ chosen (vertex_of o)
+unfolding chosen
+chosen_vertex (Some v) = refl
+chosen_vertex None = refl
+
 pub choice_looks :
-    (ed : Edition) (bytes : List ℕ) (s : Lent) {x : Choice} → steppable s ≡ true → x ≡ chosen (lowest ed bytes s) → x ≡ choice ed bytes s
+    (ed : Edition) (bytes : List ℕ) (s : Lent) (o : of_code.Option ℕ) → steppable s ≡ true → vertex_of o ≡ lowest ed bytes s
+    → choice_of (Ok o) ≡ choice ed bytes s
 unfolding choice
-choice_looks ed bytes s h p = rw h p
+choice_looks ed bytes s o h p = rw h (chosen_vertex o ∙ ap chosen p)

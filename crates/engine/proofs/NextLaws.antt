@@ -1,6 +1,6 @@
 -- What is due at a step of an executing vertex, by the kind of the item at its place and its phase: one law for each return of src/next.rt.
 -- The definition reads the tables; `from` says the same of the vertex's words alone, and computes where the phase is a numeral.
-use Prim.Native.Nat.{ℕ, zero, suc, ◌+◌, ◌<◌, ◌≤◌}
+use Prim.Native.Nat.{ℕ, zero, suc, ◌+◌, ◌≤◌}
 use mathlib.Core.Path.{◌≡◌, refl, sym, ◌∙◌, ap}
 use mathlib.Core.Bool.{Bool, true}
 use mathlib.Core.List.{List, [], ◌∷◌}
@@ -23,8 +23,8 @@ use Rattle.refusal.specs.Refusals.{nothing_starts}
 use Rattle.machine.specs.Stepping.{phase, scope, latest, open_future, further, followed, or_zero, named, is_vertex, stands, all_stand}
 use Rattle.machine.specs.Stepping.{Task, item, ends, nothing, spots, task, nth, Own, own, own_of, with_made, with_kept, with_phase, own_past_item}
 use Rattle.machine.specs.Stepping.{moved_on, Due, refusal_due, job_due, command_due, due_if, filled_in, next_of, next_at}
-use Rattle.engine.specs.Internal.Underway.{NextAt, AlikeAt, AlikeIn, outwards, unless_zero, FollowsTo}
-use Rattle.engine.specs.Internal.Underway.{EndNext, JobNext, AsyncNext, ForkNext, ForkLast}
+use Rattle.engine.specs.Internal.Underway.{NextAt, AlikeAt, outwards, FollowsTo, ForceEdge, idle_own}
+use Rattle.engine.specs.Internal.Underway.{EndNext, JobNext, AsyncNext, ForkNext}
 
 -- what a name stands for, by the vertex, its scope and own words; f is the vertex that a force names
 unfoldable named_from : ℕ → ℕ → Own → Option ℕ → Name → ℕ
@@ -164,16 +164,17 @@ kept_third p φ ψ a b c l x zero h i = absurd (h refl)
 kept_third p φ ψ a b c l x (suc zero) h i = absurd (i refl)
 kept_third p φ ψ a b c l x (suc (suc k)) h i = refl
 
--- a phase below 3
-pub two : {φ : ℕ} → φ < 3 → (φ ≡ 0 → ⊥) → (φ ≡ 1 → ⊥) → φ ≡ 2
-two l h i = omega arith
+pub ruleset kept = (kept_first, kept_second, kept_third, refl)
 
--- a phase that is none of a fork's seven in the second edition
+-- a phase that is none of an item's
 at_least_4 : {φ : ℕ} → (φ ≡ 0 → ⊥) → (φ ≡ 1 → ⊥) → (φ ≡ 2 → ⊥) → (φ ≡ 3 → ⊥) → 4 ≤ φ
 at_least_4 h0 h1 h2 h3 = omega arith
 
 at_least_7 : {φ : ℕ} → 4 ≤ φ → (φ ≡ 4 → ⊥) → (φ ≡ 5 → ⊥) → (φ ≡ 6 → ⊥) → 7 ≤ φ
 at_least_7 h h4 h5 h6 = omega arith
+
+at_least_9 : {φ : ℕ} → 7 ≤ φ → (φ ≡ 7 → ⊥) → (φ ≡ 8 → ⊥) → 9 ≤ φ
+at_least_9 h h7 h8 = omega arith
 
 -- THE ITEMS
 -- an end byte
@@ -185,6 +186,8 @@ pub end_beyond : (v : ℕ) {p φ a b c l : ℕ} → (φ ≡ 0 → ⊥) → EndNe
 unfolding from task due_if
 end_beyond v {p} {φ} {a} {b} {c} {l} q L σ m ed = told ed L v σ (own p φ a b c l) m Stands.end (λ g. rw (ne_eqb φ 0 q) refl)
 
+pub ruleset end_due = (end_stop, end_beyond, refl)
+
 -- so a phase there is refused
 beyond :
     (v σ m : ℕ) (g : ℕ → Option ℕ) (n : ℕ) (row : Row) (spot : Spot → ℕ) (p φ a b c l : ℕ) → length row.commands ≤ φ
@@ -193,15 +196,15 @@ unfolding from next_from
 beyond v σ m g n row spot p φ a b c l h = rw (nth_beyond row.commands φ h) refl
 
 -- a command is due, and the words afterwards are known
-due_with : {d : Due} {x : single.Command} {w w' : Own} → w ≡ w' → d ≡ command_due x w → d ≡ command_due x w'
+pub due_with : {d : Due} {x : single.Command} {w w' : Own} → w ≡ w' → d ≡ command_due x w → d ≡ command_due x w'
 due_with {x = x} e q = q ∙ ap (command_due x) e
 
 -- a job
 pub job_perform :
-    (v n past : ℕ) {p φ a b c l : ℕ} {w : Own} → φ ≡ 0 → w ≡ own past 0 0 0 0 l → JobNext v (own p φ a b c l) n past (job_due n p w)
-unfolding from next_from both due_if filled_from named_from task nth row_of spots moved_on own_past_item with_made with_kept with_phase weight makes
-job_perform v n past {p} {φ} {a} {b} {c} {l} q e L σ m ed =
-    told ed L v σ (own p φ a b c l) m (Stands.job n past) (λ g. ap (job_due n p) e ∙ rw q refl)
+    (v n past : ℕ) {p φ a b c l : ℕ} {d : Due} → φ ≡ 0 → d ≡ job_due n p (idle_own past l) → JobNext v (own p φ a b c l) n past d
+unfolding idle_own from next_from both due_if filled_from named_from task nth row_of spots moved_on own_past_item with_made with_kept with_phase weight makes
+job_perform v n past {p} {φ} {a} {b} {c} {l} q f L σ m ed =
+    told ed L v σ (own p φ a b c l) m (Stands.job n past) (λ g. f ∙ rw q refl)
 
 pub job_beyond : (v n past : ℕ) {p φ a b c l : ℕ} → (φ ≡ 0 → ⊥) → JobNext v (own p φ a b c l) n past (refusal_due nothing_starts)
 unfolding task row_of
@@ -209,27 +212,29 @@ job_beyond v n past {p} {φ} {a} {b} {c} {l} h L σ m ed =
     told ed L v σ (own p φ a b c l) m (Stands.job n past)
     (λ g. beyond v σ m g n (row_of ed jobs) (spots past past past L) p φ a b c l (omega arith))
 
+pub ruleset job_due_laws = (job_perform, job_beyond, refl)
+
 -- an async: the number of a law is the phase
 pub async_0 :
-    (v σ m body past : ℕ) {p φ a b c l : ℕ} {w : Own} {d : Due} → φ ≡ 0 → w ≡ with_phase (φ + 1) (with_made 0 m (own p φ a b c l))
-    → d ≡ command_due (NewTd v body σ) w → AsyncNext v σ (own p φ a b c l) m body past d
+    (v σ m body past : ℕ) {p φ a b c l : ℕ} {d : Due} → φ ≡ 0
+    → d ≡ command_due (NewTd v body σ) (with_phase (φ + 1) (with_made 0 m (own p φ a b c l))) → AsyncNext v σ (own p φ a b c l) m body past d
 unfolding from next_from both due_if filled_from named_from task nth row_of spots moved_on own_past_item with_made with_kept with_phase weight makes
-async_0 v σ m body past {p} {φ} {a} {b} {c} {l} q e f L ed =
-    told ed L v σ (own p φ a b c l) m (Stands.async body past) (λ g. due_with e f ∙ rw q refl)
+async_0 v σ m body past {p} {φ} {a} {b} {c} {l} q f L ed =
+    told ed L v σ (own p φ a b c l) m (Stands.async body past) (λ g. f ∙ rw q refl)
 
 pub async_1 :
-    (v σ m body past : ℕ) {p φ a b c l : ℕ} {w : Own} {d : Due} → φ ≡ 1 → w ≡ with_phase (φ + 1) (own p φ a b c l)
-    → d ≡ command_due (NewEdge v a σ) w → AsyncNext v σ (own p φ a b c l) m body past d
+    (v σ m body past : ℕ) {p φ a b c l : ℕ} {d : Due} → φ ≡ 1
+    → d ≡ command_due (NewEdge v a σ) (with_phase (φ + 1) (own p φ a b c l)) → AsyncNext v σ (own p φ a b c l) m body past d
 unfolding from next_from both due_if filled_from named_from task nth row_of spots moved_on own_past_item with_made with_kept with_phase weight makes
-async_1 v σ m body past {p} {φ} {a} {b} {c} {l} q e f L ed =
-    told ed L v σ (own p φ a b c l) m (Stands.async body past) (λ g. due_with e f ∙ rw q refl)
+async_1 v σ m body past {p} {φ} {a} {b} {c} {l} q f L ed =
+    told ed L v σ (own p φ a b c l) m (Stands.async body past) (λ g. f ∙ rw q refl)
 
 pub async_2 :
-    (v σ m body past : ℕ) {p φ a b c l : ℕ} {w : Own} {d : Due} → φ ≡ 2 → w ≡ own past 0 0 0 0 l
-    → d ≡ command_due (Release v a) w → AsyncNext v σ (own p φ a b c l) m body past d
-unfolding from next_from both due_if filled_from named_from task nth row_of spots moved_on own_past_item with_made with_kept with_phase weight makes
-async_2 v σ m body past {p} {φ} {a} {b} {c} {l} q e f L ed =
-    told ed L v σ (own p φ a b c l) m (Stands.async body past) (λ g. due_with e f ∙ rw q refl)
+    (v σ m body past : ℕ) {p φ a b c l : ℕ} {d : Due} → φ ≡ 2
+    → d ≡ command_due (Release v a) (idle_own past l) → AsyncNext v σ (own p φ a b c l) m body past d
+unfolding idle_own from next_from both due_if filled_from named_from task nth row_of spots moved_on own_past_item with_made with_kept with_phase weight makes
+async_2 v σ m body past {p} {φ} {a} {b} {c} {l} q f L ed =
+    told ed L v σ (own p φ a b c l) m (Stands.async body past) (λ g. f ∙ rw q refl)
 
 pub async_beyond :
     (v σ m body past : ℕ) {p φ a b c l : ℕ} → (φ ≡ 0 → ⊥) → (φ ≡ 1 → ⊥) → (φ ≡ 2 → ⊥)
@@ -239,48 +244,50 @@ async_beyond v σ m body past {p} {φ} {a} {b} {c} {l} h0 h1 h2 L ed =
     told ed L v σ (own p φ a b c l) m (Stands.async body past)
     (λ g. beyond v σ m g 0 (row_of ed asyncs) (spots body body past L) p φ a b c l (omega arith))
 
+pub ruleset async_due = (async_0, async_1, async_2, async_beyond, refl)
+
 -- a finish
 pub finish_0 :
-    (L v σ m body past : ℕ) {p φ a b c l : ℕ} {w : Own} {d : Due} → φ ≡ 0 → w ≡ with_phase (φ + 1) (with_made 0 m (own p φ a b c l))
-    → d ≡ command_due (NewTd v past σ) w → AlikeAt L v σ (own p φ a b c l) m (Stands.finish body past) d
+    (L v σ m body past : ℕ) {p φ a b c l : ℕ} {d : Due} → φ ≡ 0
+    → d ≡ command_due (NewTd v past σ) (with_phase (φ + 1) (with_made 0 m (own p φ a b c l))) → AlikeAt L v σ (own p φ a b c l) m (Stands.finish body past) d
 unfolding from next_from both due_if filled_from named_from task nth row_of spots moved_on own_past_item with_made with_kept with_phase weight makes
-finish_0 L v σ m body past {p} {φ} {a} {b} {c} {l} q e f ed =
-    told ed L v σ (own p φ a b c l) m (Stands.finish body past) (λ g. due_with e f ∙ rw q refl)
+finish_0 L v σ m body past {p} {φ} {a} {b} {c} {l} q f ed =
+    told ed L v σ (own p φ a b c l) m (Stands.finish body past) (λ g. f ∙ rw q refl)
 
 pub finish_1 :
-    (L v σ m body past : ℕ) {p φ a b c l : ℕ} {w : Own} {d : Due} → φ ≡ 1 → w ≡ with_phase (φ + 1) (with_made 1 m (own p φ a b c l))
-    → d ≡ command_due (NewTd v body a) w → AlikeAt L v σ (own p φ a b c l) m (Stands.finish body past) d
+    (L v σ m body past : ℕ) {p φ a b c l : ℕ} {d : Due} → φ ≡ 1
+    → d ≡ command_due (NewTd v body a) (with_phase (φ + 1) (with_made 1 m (own p φ a b c l))) → AlikeAt L v σ (own p φ a b c l) m (Stands.finish body past) d
 unfolding from next_from both due_if filled_from named_from task nth row_of spots moved_on own_past_item with_made with_kept with_phase weight makes
-finish_1 L v σ m body past {p} {φ} {a} {b} {c} {l} q e f ed =
-    told ed L v σ (own p φ a b c l) m (Stands.finish body past) (λ g. due_with e f ∙ rw q refl)
+finish_1 L v σ m body past {p} {φ} {a} {b} {c} {l} q f ed =
+    told ed L v σ (own p φ a b c l) m (Stands.finish body past) (λ g. f ∙ rw q refl)
 
 pub finish_2 :
-    (L v σ m body past : ℕ) {p φ a b c l : ℕ} {w : Own} {d : Due} → φ ≡ 2 → w ≡ with_phase (φ + 1) (own p φ a b c l)
-    → d ≡ command_due (NewEdge v b a) w → AlikeAt L v σ (own p φ a b c l) m (Stands.finish body past) d
+    (L v σ m body past : ℕ) {p φ a b c l : ℕ} {d : Due} → φ ≡ 2
+    → d ≡ command_due (NewEdge v b a) (with_phase (φ + 1) (own p φ a b c l)) → AlikeAt L v σ (own p φ a b c l) m (Stands.finish body past) d
 unfolding from next_from both due_if filled_from named_from task nth row_of spots moved_on own_past_item with_made with_kept with_phase weight makes
-finish_2 L v σ m body past {p} {φ} {a} {b} {c} {l} q e f ed =
-    told ed L v σ (own p φ a b c l) m (Stands.finish body past) (λ g. due_with e f ∙ rw q refl)
+finish_2 L v σ m body past {p} {φ} {a} {b} {c} {l} q f ed =
+    told ed L v σ (own p φ a b c l) m (Stands.finish body past) (λ g. f ∙ rw q refl)
 
 pub finish_3 :
-    (L v σ m body past : ℕ) {p φ a b c l : ℕ} {w : Own} {d : Due} → φ ≡ 3 → w ≡ with_phase (φ + 1) (own p φ a b c l)
-    → d ≡ command_due (Transfer v a) w → AlikeAt L v σ (own p φ a b c l) m (Stands.finish body past) d
+    (L v σ m body past : ℕ) {p φ a b c l : ℕ} {d : Due} → φ ≡ 3
+    → d ≡ command_due (Transfer v a) (with_phase (φ + 1) (own p φ a b c l)) → AlikeAt L v σ (own p φ a b c l) m (Stands.finish body past) d
 unfolding from next_from both due_if filled_from named_from task nth row_of spots moved_on own_past_item with_made with_kept with_phase weight makes
-finish_3 L v σ m body past {p} {φ} {a} {b} {c} {l} q e f ed =
-    told ed L v σ (own p φ a b c l) m (Stands.finish body past) (λ g. due_with e f ∙ rw q refl)
+finish_3 L v σ m body past {p} {φ} {a} {b} {c} {l} q f ed =
+    told ed L v σ (own p φ a b c l) m (Stands.finish body past) (λ g. f ∙ rw q refl)
 
 pub finish_4 :
-    (L v σ m body past : ℕ) {p φ a b c l : ℕ} {w : Own} {d : Due} → φ ≡ 4 → w ≡ with_phase (φ + 1) (own p φ a b c l)
-    → d ≡ command_due (Release v a) w → AlikeAt L v σ (own p φ a b c l) m (Stands.finish body past) d
+    (L v σ m body past : ℕ) {p φ a b c l : ℕ} {d : Due} → φ ≡ 4
+    → d ≡ command_due (Release v a) (with_phase (φ + 1) (own p φ a b c l)) → AlikeAt L v σ (own p φ a b c l) m (Stands.finish body past) d
 unfolding from next_from both due_if filled_from named_from task nth row_of spots moved_on own_past_item with_made with_kept with_phase weight makes
-finish_4 L v σ m body past {p} {φ} {a} {b} {c} {l} q e f ed =
-    told ed L v σ (own p φ a b c l) m (Stands.finish body past) (λ g. due_with e f ∙ rw q refl)
+finish_4 L v σ m body past {p} {φ} {a} {b} {c} {l} q f ed =
+    told ed L v σ (own p φ a b c l) m (Stands.finish body past) (λ g. f ∙ rw q refl)
 
 pub finish_5 :
-    (L v σ m body past : ℕ) {p φ a b c l : ℕ} {w : Own} {d : Due} → φ ≡ 5 → w ≡ own L 0 0 0 0 l
-    → d ≡ command_due (Release v b) w → AlikeAt L v σ (own p φ a b c l) m (Stands.finish body past) d
-unfolding from next_from both due_if filled_from named_from task nth row_of spots moved_on own_past_item with_made with_kept with_phase weight makes
-finish_5 L v σ m body past {p} {φ} {a} {b} {c} {l} q e f ed =
-    told ed L v σ (own p φ a b c l) m (Stands.finish body past) (λ g. due_with e f ∙ rw q refl)
+    (L v σ m body past : ℕ) {p φ a b c l : ℕ} {d : Due} → φ ≡ 5
+    → d ≡ command_due (Release v b) (idle_own L l) → AlikeAt L v σ (own p φ a b c l) m (Stands.finish body past) d
+unfolding idle_own from next_from both due_if filled_from named_from task nth row_of spots moved_on own_past_item with_made with_kept with_phase weight makes
+finish_5 L v σ m body past {p} {φ} {a} {b} {c} {l} q f ed =
+    told ed L v σ (own p φ a b c l) m (Stands.finish body past) (λ g. f ∙ rw q refl)
 
 pub finish_beyond :
     (L v σ m body past : ℕ) {p φ a b c l : ℕ} → (φ ≡ 0 → ⊥) → (φ ≡ 1 → ⊥) → (φ ≡ 2 → ⊥) → (φ ≡ 3 → ⊥) → (φ ≡ 4 → ⊥) → (φ ≡ 5 → ⊥)
@@ -290,127 +297,134 @@ finish_beyond L v σ m body past {p} {φ} {a} {b} {c} {l} h0 h1 h2 h3 h4 h5 ed =
     told ed L v σ (own p φ a b c l) m (Stands.finish body past)
     (λ g. beyond v σ m g 0 (row_of ed finishes) (spots body body past L) p φ a b c l (omega arith))
 
+pub ruleset finish_due = (finish_0, finish_1, finish_2, finish_3, finish_4, finish_5, finish_beyond, refl)
+
 -- a fork of the first edition
 pub fork_0 :
-    (v σ m left right past : ℕ) {p φ a b c l : ℕ} {w : Own} {d : Due} → φ ≡ 0 → w ≡ with_phase (φ + 1) (with_made 0 m (own p φ a b c l))
-    → d ≡ command_due (NewTd v left σ) w → ForkNext First v σ (own p φ a b c l) m left right past d
+    (L v σ m left right past : ℕ) {p φ a b c l : ℕ} {d : Due} → φ ≡ 0
+    → d ≡ command_due (NewTd v left σ) (with_phase (φ + 1) (with_made 0 m (own p φ a b c l))) → NextAt First L v σ (own p φ a b c l) m (Stands.fork left right past) d
 unfolding from next_from both due_if filled_from named_from task nth row_of fork_row spots moved_on own_past_item with_made with_kept with_phase weight makes
-fork_0 v σ m left right past {p} {φ} {a} {b} {c} {l} q e f L =
-    told First L v σ (own p φ a b c l) m (Stands.fork left right past) (λ g. due_with e f ∙ rw q refl)
+fork_0 L v σ m left right past {p} {φ} {a} {b} {c} {l} q f =
+    told First L v σ (own p φ a b c l) m (Stands.fork left right past) (λ g. f ∙ rw q refl)
 
 pub fork_1 :
-    (v σ m left right past : ℕ) {p φ a b c l : ℕ} {w : Own} {d : Due} → φ ≡ 1 → w ≡ with_phase (φ + 1) (with_made 1 m (own p φ a b c l))
-    → d ≡ command_due (NewTd v right σ) w → ForkNext First v σ (own p φ a b c l) m left right past d
+    (L v σ m left right past : ℕ) {p φ a b c l : ℕ} {d : Due} → φ ≡ 1
+    → d ≡ command_due (NewTd v right σ) (with_phase (φ + 1) (with_made 1 m (own p φ a b c l))) → NextAt First L v σ (own p φ a b c l) m (Stands.fork left right past) d
 unfolding from next_from both due_if filled_from named_from task nth row_of fork_row spots moved_on own_past_item with_made with_kept with_phase weight makes
-fork_1 v σ m left right past {p} {φ} {a} {b} {c} {l} q e f L =
-    told First L v σ (own p φ a b c l) m (Stands.fork left right past) (λ g. due_with e f ∙ rw q refl)
+fork_1 L v σ m left right past {p} {φ} {a} {b} {c} {l} q f =
+    told First L v σ (own p φ a b c l) m (Stands.fork left right past) (λ g. f ∙ rw q refl)
 
 pub fork_2 :
-    (v σ m left right past : ℕ) {p φ a b c l : ℕ} {w : Own} {d : Due} → φ ≡ 2 → w ≡ with_phase (φ + 1) (with_made 2 m (own p φ a b c l))
-    → d ≡ command_due (NewTd v past σ) w → ForkNext First v σ (own p φ a b c l) m left right past d
+    (L v σ m left right past : ℕ) {p φ a b c l : ℕ} {d : Due} → φ ≡ 2
+    → d ≡ command_due (NewTd v past σ) (with_phase (φ + 1) (with_made 2 m (own p φ a b c l))) → NextAt First L v σ (own p φ a b c l) m (Stands.fork left right past) d
 unfolding from next_from both due_if filled_from named_from task nth row_of fork_row spots moved_on own_past_item with_made with_kept with_phase weight makes
-fork_2 v σ m left right past {p} {φ} {a} {b} {c} {l} q e f L =
-    told First L v σ (own p φ a b c l) m (Stands.fork left right past) (λ g. due_with e f ∙ rw q refl)
+fork_2 L v σ m left right past {p} {φ} {a} {b} {c} {l} q f =
+    told First L v σ (own p φ a b c l) m (Stands.fork left right past) (λ g. f ∙ rw q refl)
 
 pub fork_3 :
-    (v σ m left right past : ℕ) {p φ a b c l : ℕ} {w : Own} {d : Due} → φ ≡ 3 → w ≡ with_phase (φ + 1) (own p φ a b c l)
-    → d ≡ command_due (NewEdge v a c) w → ForkNext First v σ (own p φ a b c l) m left right past d
+    (L v σ m left right past : ℕ) {p φ a b c l : ℕ} {d : Due} → φ ≡ 3
+    → d ≡ command_due (NewEdge v a c) (with_phase (φ + 1) (own p φ a b c l)) → NextAt First L v σ (own p φ a b c l) m (Stands.fork left right past) d
 unfolding from next_from both due_if filled_from named_from task nth row_of fork_row spots moved_on own_past_item with_made with_kept with_phase weight makes
-fork_3 v σ m left right past {p} {φ} {a} {b} {c} {l} q e f L =
-    told First L v σ (own p φ a b c l) m (Stands.fork left right past) (λ g. due_with e f ∙ rw q refl)
+fork_3 L v σ m left right past {p} {φ} {a} {b} {c} {l} q f =
+    told First L v σ (own p φ a b c l) m (Stands.fork left right past) (λ g. f ∙ rw q refl)
 
 pub fork_4 :
-    (v σ m left right past : ℕ) {p φ a b c l : ℕ} {w : Own} {d : Due} → φ ≡ 4 → w ≡ with_phase (φ + 1) (own p φ a b c l)
-    → d ≡ command_due (NewEdge v b c) w → ForkNext First v σ (own p φ a b c l) m left right past d
+    (L v σ m left right past : ℕ) {p φ a b c l : ℕ} {d : Due} → φ ≡ 4
+    → d ≡ command_due (NewEdge v b c) (with_phase (φ + 1) (own p φ a b c l)) → NextAt First L v σ (own p φ a b c l) m (Stands.fork left right past) d
 unfolding from next_from both due_if filled_from named_from task nth row_of fork_row spots moved_on own_past_item with_made with_kept with_phase weight makes
-fork_4 v σ m left right past {p} {φ} {a} {b} {c} {l} q e f L =
-    told First L v σ (own p φ a b c l) m (Stands.fork left right past) (λ g. due_with e f ∙ rw q refl)
+fork_4 L v σ m left right past {p} {φ} {a} {b} {c} {l} q f =
+    told First L v σ (own p φ a b c l) m (Stands.fork left right past) (λ g. f ∙ rw q refl)
 
 pub fork_5 :
-    (v σ m left right past : ℕ) {p φ a b c l : ℕ} {w : Own} {d : Due} → φ ≡ 5 → w ≡ with_phase (φ + 1) (own p φ a b c l)
-    → d ≡ command_due (Transfer v c) w → ForkNext First v σ (own p φ a b c l) m left right past d
+    (L v σ m left right past : ℕ) {p φ a b c l : ℕ} {d : Due} → φ ≡ 5
+    → d ≡ command_due (Transfer v c) (with_phase (φ + 1) (own p φ a b c l)) → NextAt First L v σ (own p φ a b c l) m (Stands.fork left right past) d
 unfolding from next_from both due_if filled_from named_from task nth row_of fork_row spots moved_on own_past_item with_made with_kept with_phase weight makes
-fork_5 v σ m left right past {p} {φ} {a} {b} {c} {l} q e f L =
-    told First L v σ (own p φ a b c l) m (Stands.fork left right past) (λ g. due_with e f ∙ rw q refl)
+fork_5 L v σ m left right past {p} {φ} {a} {b} {c} {l} q f =
+    told First L v σ (own p φ a b c l) m (Stands.fork left right past) (λ g. f ∙ rw q refl)
 
 pub fork_6 :
-    (L v : ℕ) {p φ a b c l : ℕ} {w : Own} {d : Due} → φ ≡ 6 → w ≡ with_phase (φ + 1) (own p φ a b c l)
-    → d ≡ command_due (Release v c) w → ForkLast L v (own p φ a b c l) d
+    (L v σ m left right past : ℕ) {p φ a b c l : ℕ} {d : Due} → φ ≡ 6
+    → d ≡ command_due (Release v c) (with_phase (φ + 1) (own p φ a b c l)) → NextAt First L v σ (own p φ a b c l) m (Stands.fork left right past) d
 unfolding from next_from both due_if filled_from named_from task nth row_of fork_row spots moved_on own_past_item with_made with_kept with_phase weight makes
-fork_6 L v {p} {φ} {a} {b} {c} {l} q e f σ m left right past =
-    told First L v σ (own p φ a b c l) m (Stands.fork left right past) (λ g. due_with e f ∙ rw q refl)
+fork_6 L v σ m left right past {p} {φ} {a} {b} {c} {l} q f =
+    told First L v σ (own p φ a b c l) m (Stands.fork left right past) (λ g. f ∙ rw q refl)
 
 pub fork_7 :
-    (L v : ℕ) {p φ a b c l : ℕ} {w : Own} {d : Due} → φ ≡ 7 → w ≡ with_phase (φ + 1) (own p φ a b c l)
-    → d ≡ command_due (Release v a) w → ForkLast L v (own p φ a b c l) d
+    (L v σ m left right past : ℕ) {p φ a b c l : ℕ} {d : Due} → φ ≡ 7
+    → d ≡ command_due (Release v a) (with_phase (φ + 1) (own p φ a b c l)) → NextAt First L v σ (own p φ a b c l) m (Stands.fork left right past) d
 unfolding from next_from both due_if filled_from named_from task nth row_of fork_row spots moved_on own_past_item with_made with_kept with_phase weight makes
-fork_7 L v {p} {φ} {a} {b} {c} {l} q e f σ m left right past =
-    told First L v σ (own p φ a b c l) m (Stands.fork left right past) (λ g. due_with e f ∙ rw q refl)
+fork_7 L v σ m left right past {p} {φ} {a} {b} {c} {l} q f =
+    told First L v σ (own p φ a b c l) m (Stands.fork left right past) (λ g. f ∙ rw q refl)
 
 pub fork_8 :
-    (L v : ℕ) {p φ a b c l : ℕ} {w : Own} {d : Due} → φ ≡ 8 → w ≡ own L 0 0 0 0 l
-    → d ≡ command_due (Release v b) w → ForkLast L v (own p φ a b c l) d
-unfolding from next_from both due_if filled_from named_from task nth row_of fork_row spots moved_on own_past_item with_made with_kept with_phase weight makes
-fork_8 L v {p} {φ} {a} {b} {c} {l} q e f σ m left right past =
-    told First L v σ (own p φ a b c l) m (Stands.fork left right past) (λ g. due_with e f ∙ rw q refl)
+    (L v σ m left right past : ℕ) {p φ a b c l : ℕ} {d : Due} → φ ≡ 8
+    → d ≡ command_due (Release v b) (idle_own L l) → NextAt First L v σ (own p φ a b c l) m (Stands.fork left right past) d
+unfolding idle_own from next_from both due_if filled_from named_from task nth row_of fork_row spots moved_on own_past_item with_made with_kept with_phase weight makes
+fork_8 L v σ m left right past {p} {φ} {a} {b} {c} {l} q f =
+    told First L v σ (own p φ a b c l) m (Stands.fork left right past) (λ g. f ∙ rw q refl)
 
 pub fork_beyond :
-    (L v : ℕ) {p φ a b c l : ℕ} → 6 ≤ φ → (φ ≡ 6 → ⊥) → (φ ≡ 7 → ⊥) → (φ ≡ 8 → ⊥)
-    → ForkLast L v (own p φ a b c l) (refusal_due nothing_starts)
+    (L v σ m left right past : ℕ) {p φ a b c l : ℕ} → (φ ≡ 0 → ⊥) → (φ ≡ 1 → ⊥) → (φ ≡ 2 → ⊥) → (φ ≡ 3 → ⊥) → (φ ≡ 4 → ⊥) → (φ ≡ 5 → ⊥)
+    → (φ ≡ 6 → ⊥) → (φ ≡ 7 → ⊥) → (φ ≡ 8 → ⊥)
+    → NextAt First L v σ (own p φ a b c l) m (Stands.fork left right past) (refusal_due nothing_starts)
 unfolding task row_of fork_row
-fork_beyond L v {p} {φ} {a} {b} {c} {l} h0 h1 h2 h3 σ m left right past =
+fork_beyond L v σ m left right past {p} {φ} {a} {b} {c} {l} h0 h1 h2 h3 h4 h5 h6 h7 h8 =
     told First L v σ (own p φ a b c l) m (Stands.fork left right past)
-    (λ g. beyond v σ m g 0 (fork_row First) (spots left right past L) p φ a b c l (omega arith))
+    (λ g.
+    beyond v σ m g 0 (fork_row First) (spots left right past L) p φ a b c l
+    (at_least_9 (at_least_7 (at_least_4 h0 h1 h2 h3) h4 h5 h6) h7 h8))
+
+pub ruleset fork_due = (fork_0, fork_1, fork_2, fork_3, fork_4, fork_5, fork_6, fork_7, fork_8, fork_beyond, refl)
 
 -- a fork of the second edition
 pub yielding_0 :
-    (v σ m left right past : ℕ) {p φ a b c l : ℕ} {w : Own} {d : Due} → φ ≡ 0 → w ≡ with_phase (φ + 1) (with_made 0 m (own p φ a b c l))
-    → d ≡ command_due (NewTd v left σ) w → ForkNext Second v σ (own p φ a b c l) m left right past d
+    (v σ m left right past : ℕ) {p φ a b c l : ℕ} {d : Due} → φ ≡ 0
+    → d ≡ command_due (NewTd v left σ) (with_phase (φ + 1) (with_made 0 m (own p φ a b c l))) → ForkNext Second v σ (own p φ a b c l) m left right past d
 unfolding from next_from both due_if filled_from named_from task nth row_of fork_row spots moved_on own_past_item with_made with_kept with_phase weight makes
-yielding_0 v σ m left right past {p} {φ} {a} {b} {c} {l} q e f L =
-    told Second L v σ (own p φ a b c l) m (Stands.fork left right past) (λ g. due_with e f ∙ rw q refl)
+yielding_0 v σ m left right past {p} {φ} {a} {b} {c} {l} q f L =
+    told Second L v σ (own p φ a b c l) m (Stands.fork left right past) (λ g. f ∙ rw q refl)
 
 pub yielding_1 :
-    (v σ m left right past : ℕ) {p φ a b c l : ℕ} {w : Own} {d : Due} → φ ≡ 1 → w ≡ with_phase (φ + 1) (with_made 1 m (own p φ a b c l))
-    → d ≡ command_due (NewTd v right σ) w → ForkNext Second v σ (own p φ a b c l) m left right past d
+    (v σ m left right past : ℕ) {p φ a b c l : ℕ} {d : Due} → φ ≡ 1
+    → d ≡ command_due (NewTd v right σ) (with_phase (φ + 1) (with_made 1 m (own p φ a b c l))) → ForkNext Second v σ (own p φ a b c l) m left right past d
 unfolding from next_from both due_if filled_from named_from task nth row_of fork_row spots moved_on own_past_item with_made with_kept with_phase weight makes
-yielding_1 v σ m left right past {p} {φ} {a} {b} {c} {l} q e f L =
-    told Second L v σ (own p φ a b c l) m (Stands.fork left right past) (λ g. due_with e f ∙ rw q refl)
+yielding_1 v σ m left right past {p} {φ} {a} {b} {c} {l} q f L =
+    told Second L v σ (own p φ a b c l) m (Stands.fork left right past) (λ g. f ∙ rw q refl)
 
 pub yielding_2 :
-    (v σ m left right past : ℕ) {p φ a b c l : ℕ} {w : Own} {d : Due} → φ ≡ 2 → w ≡ with_phase (φ + 1) (own p φ a b c l)
-    → d ≡ command_due (NewEdge v a v) w → ForkNext Second v σ (own p φ a b c l) m left right past d
+    (v σ m left right past : ℕ) {p φ a b c l : ℕ} {d : Due} → φ ≡ 2
+    → d ≡ command_due (NewEdge v a v) (with_phase (φ + 1) (own p φ a b c l)) → ForkNext Second v σ (own p φ a b c l) m left right past d
 unfolding from next_from both due_if filled_from named_from task nth row_of fork_row spots moved_on own_past_item with_made with_kept with_phase weight makes
-yielding_2 v σ m left right past {p} {φ} {a} {b} {c} {l} q e f L =
-    told Second L v σ (own p φ a b c l) m (Stands.fork left right past) (λ g. due_with e f ∙ rw q refl)
+yielding_2 v σ m left right past {p} {φ} {a} {b} {c} {l} q f L =
+    told Second L v σ (own p φ a b c l) m (Stands.fork left right past) (λ g. f ∙ rw q refl)
 
 pub yielding_3 :
-    (v σ m left right past : ℕ) {p φ a b c l : ℕ} {w : Own} {d : Due} → φ ≡ 3 → w ≡ with_phase (φ + 1) (own p φ a b c l)
-    → d ≡ command_due (NewEdge v b v) w → ForkNext Second v σ (own p φ a b c l) m left right past d
+    (v σ m left right past : ℕ) {p φ a b c l : ℕ} {d : Due} → φ ≡ 3
+    → d ≡ command_due (NewEdge v b v) (with_phase (φ + 1) (own p φ a b c l)) → ForkNext Second v σ (own p φ a b c l) m left right past d
 unfolding from next_from both due_if filled_from named_from task nth row_of fork_row spots moved_on own_past_item with_made with_kept with_phase weight makes
-yielding_3 v σ m left right past {p} {φ} {a} {b} {c} {l} q e f L =
-    told Second L v σ (own p φ a b c l) m (Stands.fork left right past) (λ g. due_with e f ∙ rw q refl)
+yielding_3 v σ m left right past {p} {φ} {a} {b} {c} {l} q f L =
+    told Second L v σ (own p φ a b c l) m (Stands.fork left right past) (λ g. f ∙ rw q refl)
 
 pub yielding_4 :
-    (v σ m left right past : ℕ) {p φ a b c l : ℕ} {w : Own} {d : Due} → φ ≡ 4 → w ≡ with_phase (φ + 1) (own p φ a b c l)
-    → d ≡ command_due (Release v a) w → ForkNext Second v σ (own p φ a b c l) m left right past d
+    (v σ m left right past : ℕ) {p φ a b c l : ℕ} {d : Due} → φ ≡ 4
+    → d ≡ command_due (Release v a) (with_phase (φ + 1) (own p φ a b c l)) → ForkNext Second v σ (own p φ a b c l) m left right past d
 unfolding from next_from both due_if filled_from named_from task nth row_of fork_row spots moved_on own_past_item with_made with_kept with_phase weight makes
-yielding_4 v σ m left right past {p} {φ} {a} {b} {c} {l} q e f L =
-    told Second L v σ (own p φ a b c l) m (Stands.fork left right past) (λ g. due_with e f ∙ rw q refl)
+yielding_4 v σ m left right past {p} {φ} {a} {b} {c} {l} q f L =
+    told Second L v σ (own p φ a b c l) m (Stands.fork left right past) (λ g. f ∙ rw q refl)
 
 pub yielding_5 :
-    (v σ m left right past : ℕ) {p φ a b c l : ℕ} {w : Own} {d : Due} → φ ≡ 5 → w ≡ with_phase (φ + 1) (own p φ a b c l)
-    → d ≡ command_due (Release v b) w → ForkNext Second v σ (own p φ a b c l) m left right past d
+    (v σ m left right past : ℕ) {p φ a b c l : ℕ} {d : Due} → φ ≡ 5
+    → d ≡ command_due (Release v b) (with_phase (φ + 1) (own p φ a b c l)) → ForkNext Second v σ (own p φ a b c l) m left right past d
 unfolding from next_from both due_if filled_from named_from task nth row_of fork_row spots moved_on own_past_item with_made with_kept with_phase weight makes
-yielding_5 v σ m left right past {p} {φ} {a} {b} {c} {l} q e f L =
-    told Second L v σ (own p φ a b c l) m (Stands.fork left right past) (λ g. due_with e f ∙ rw q refl)
+yielding_5 v σ m left right past {p} {φ} {a} {b} {c} {l} q f L =
+    told Second L v σ (own p φ a b c l) m (Stands.fork left right past) (λ g. f ∙ rw q refl)
 
 pub yielding_6 :
-    (v σ m left right past : ℕ) {p φ a b c l : ℕ} {w : Own} {d : Due} → φ ≡ 6 → w ≡ own past 0 0 0 0 l
-    → d ≡ command_due (Yield v) w → ForkNext Second v σ (own p φ a b c l) m left right past d
-unfolding from next_from both due_if filled_from named_from task nth row_of fork_row spots moved_on own_past_item with_made with_kept with_phase weight makes
-yielding_6 v σ m left right past {p} {φ} {a} {b} {c} {l} q e f L =
-    told Second L v σ (own p φ a b c l) m (Stands.fork left right past) (λ g. due_with e f ∙ rw q refl)
+    (v σ m left right past : ℕ) {p φ a b c l : ℕ} {d : Due} → φ ≡ 6
+    → d ≡ command_due (Yield v) (idle_own past l) → ForkNext Second v σ (own p φ a b c l) m left right past d
+unfolding idle_own from next_from both due_if filled_from named_from task nth row_of fork_row spots moved_on own_past_item with_made with_kept with_phase weight makes
+yielding_6 v σ m left right past {p} {φ} {a} {b} {c} {l} q f L =
+    told Second L v σ (own p φ a b c l) m (Stands.fork left right past) (λ g. f ∙ rw q refl)
 
 pub yielding_beyond :
     (v σ m left right past : ℕ) {p φ a b c l : ℕ} → (φ ≡ 0 → ⊥) → (φ ≡ 1 → ⊥) → (φ ≡ 2 → ⊥) → (φ ≡ 3 → ⊥) → (φ ≡ 4 → ⊥) → (φ ≡ 5 → ⊥)
@@ -420,54 +434,43 @@ yielding_beyond v σ m left right past {p} {φ} {a} {b} {c} {l} h0 h1 h2 h3 h4 h
     told Second L v σ (own p φ a b c l) m (Stands.fork left right past)
     (λ g. beyond v σ m g 0 (fork_row Second) (spots left right past L) p φ a b c l (at_least_7 (at_least_4 h0 h1 h2 h3) h4 h5 h6))
 
--- all of them
-pub ruleset yielding = (
-  yielding_0,
-  yielding_1,
-  yielding_2,
-  yielding_3,
-  yielding_4,
-  yielding_5,
-  yielding_6,
-  yielding_beyond,
-  refl,
-)
+pub ruleset yielding_due = (yielding_0, yielding_1, yielding_2, yielding_3, yielding_4, yielding_5, yielding_6, yielding_beyond, refl)
 
 -- a future
 pub future_0 :
-    (L v σ m body past : ℕ) {p φ a b c l : ℕ} {w : Own} {d : Due} → φ ≡ 0 → w ≡ with_phase (φ + 1) (with_made 0 m (own p φ a b c l))
-    → d ≡ command_due (NewTd v L σ) w → AlikeAt L v σ (own p φ a b c l) m (Stands.future body past) d
+    (L v σ m body past : ℕ) {p φ a b c l : ℕ} {d : Due} → φ ≡ 0
+    → d ≡ command_due (NewTd v L σ) (with_phase (φ + 1) (with_made 0 m (own p φ a b c l))) → AlikeAt L v σ (own p φ a b c l) m (Stands.future body past) d
 unfolding from next_from both due_if filled_from named_from task nth row_of spots moved_on own_past_item with_made with_kept with_phase weight makes
-future_0 L v σ m body past {p} {φ} {a} {b} {c} {l} q e f ed =
-    told ed L v σ (own p φ a b c l) m (Stands.future body past) (λ g. due_with e f ∙ rw q refl)
+future_0 L v σ m body past {p} {φ} {a} {b} {c} {l} q f ed =
+    told ed L v σ (own p φ a b c l) m (Stands.future body past) (λ g. f ∙ rw q refl)
 
 pub future_1 :
-    (L v σ m body past : ℕ) {p φ a b c l : ℕ} {w : Own} {d : Due} → φ ≡ 1 → w ≡ with_phase (φ + 1) (with_made 1 m (own p φ a b c l))
-    → d ≡ command_due (NewTd v body a) w → AlikeAt L v σ (own p φ a b c l) m (Stands.future body past) d
+    (L v σ m body past : ℕ) {p φ a b c l : ℕ} {d : Due} → φ ≡ 1
+    → d ≡ command_due (NewTd v body a) (with_phase (φ + 1) (with_made 1 m (own p φ a b c l))) → AlikeAt L v σ (own p φ a b c l) m (Stands.future body past) d
 unfolding from next_from both due_if filled_from named_from task nth row_of spots moved_on own_past_item with_made with_kept with_phase weight makes
-future_1 L v σ m body past {p} {φ} {a} {b} {c} {l} q e f ed =
-    told ed L v σ (own p φ a b c l) m (Stands.future body past) (λ g. due_with e f ∙ rw q refl)
+future_1 L v σ m body past {p} {φ} {a} {b} {c} {l} q f ed =
+    told ed L v σ (own p φ a b c l) m (Stands.future body past) (λ g. f ∙ rw q refl)
 
 pub future_2 :
-    (L v σ m body past : ℕ) {p φ a b c l : ℕ} {w : Own} {d : Due} → φ ≡ 2 → w ≡ with_phase (φ + 1) (own p φ a b c l)
-    → d ≡ command_due (NewEdge v b a) w → AlikeAt L v σ (own p φ a b c l) m (Stands.future body past) d
+    (L v σ m body past : ℕ) {p φ a b c l : ℕ} {d : Due} → φ ≡ 2
+    → d ≡ command_due (NewEdge v b a) (with_phase (φ + 1) (own p φ a b c l)) → AlikeAt L v σ (own p φ a b c l) m (Stands.future body past) d
 unfolding from next_from both due_if filled_from named_from task nth row_of spots moved_on own_past_item with_made with_kept with_phase weight makes
-future_2 L v σ m body past {p} {φ} {a} {b} {c} {l} q e f ed =
-    told ed L v σ (own p φ a b c l) m (Stands.future body past) (λ g. due_with e f ∙ rw q refl)
+future_2 L v σ m body past {p} {φ} {a} {b} {c} {l} q f ed =
+    told ed L v σ (own p φ a b c l) m (Stands.future body past) (λ g. f ∙ rw q refl)
 
 pub future_3 :
-    (L v σ m body past : ℕ) {p φ a b c l : ℕ} {w : Own} {d : Due} → φ ≡ 3 → w ≡ with_phase (φ + 1) (own p φ a b c l)
-    → d ≡ command_due (Release v a) w → AlikeAt L v σ (own p φ a b c l) m (Stands.future body past) d
+    (L v σ m body past : ℕ) {p φ a b c l : ℕ} {d : Due} → φ ≡ 3
+    → d ≡ command_due (Release v a) (with_phase (φ + 1) (own p φ a b c l)) → AlikeAt L v σ (own p φ a b c l) m (Stands.future body past) d
 unfolding from next_from both due_if filled_from named_from task nth row_of spots moved_on own_past_item with_made with_kept with_phase weight makes
-future_3 L v σ m body past {p} {φ} {a} {b} {c} {l} q e f ed =
-    told ed L v σ (own p φ a b c l) m (Stands.future body past) (λ g. due_with e f ∙ rw q refl)
+future_3 L v σ m body past {p} {φ} {a} {b} {c} {l} q f ed =
+    told ed L v σ (own p φ a b c l) m (Stands.future body past) (λ g. f ∙ rw q refl)
 
 pub future_4 :
-    (L v σ m body past : ℕ) {p φ a b c l : ℕ} {w : Own} {d : Due} → φ ≡ 4 → w ≡ own past 0 0 0 0 a
-    → d ≡ command_due (Release v b) w → AlikeAt L v σ (own p φ a b c l) m (Stands.future body past) d
-unfolding from next_from both due_if filled_from named_from task nth row_of spots moved_on own_past_item with_made with_kept with_phase weight makes
-future_4 L v σ m body past {p} {φ} {a} {b} {c} {l} q e f ed =
-    told ed L v σ (own p φ a b c l) m (Stands.future body past) (λ g. due_with e f ∙ rw q refl)
+    (L v σ m body past : ℕ) {p φ a b c l : ℕ} {d : Due} → φ ≡ 4
+    → d ≡ command_due (Release v b) (idle_own past a) → AlikeAt L v σ (own p φ a b c l) m (Stands.future body past) d
+unfolding idle_own from next_from both due_if filled_from named_from task nth row_of spots moved_on own_past_item with_made with_kept with_phase weight makes
+future_4 L v σ m body past {p} {φ} {a} {b} {c} {l} q f ed =
+    told ed L v σ (own p φ a b c l) m (Stands.future body past) (λ g. f ∙ rw q refl)
 
 pub future_beyond :
     (L v σ m body past : ℕ) {p φ a b c l : ℕ} → (φ ≡ 0 → ⊥) → (φ ≡ 1 → ⊥) → (φ ≡ 2 → ⊥) → (φ ≡ 3 → ⊥) → (φ ≡ 4 → ⊥)
@@ -477,12 +480,14 @@ future_beyond L v σ m body past {p} {φ} {a} {b} {c} {l} h0 h1 h2 h3 h4 ed =
     told ed L v σ (own p φ a b c l) m (Stands.future body past)
     (λ g. beyond v σ m g 0 (row_of ed futures) (spots body body past L) p φ a b c l (omega arith))
 
+pub ruleset future_due = (future_0, future_1, future_2, future_3, future_4, future_beyond, refl)
+
 -- a force: its second command follows words
 pub force_0 :
-    (L v σ m n past : ℕ) {p φ a b c l : ℕ} {w : Own} {d : Due} → φ ≡ 0 → w ≡ with_phase (φ + 1) (with_made 0 m (own p φ a b c l))
-    → d ≡ command_due (NewTd v past σ) w → AlikeAt L v σ (own p φ a b c l) m (Stands.force n past) d
+    (L v σ m n past : ℕ) {p φ a b c l : ℕ} {d : Due} → φ ≡ 0
+    → d ≡ command_due (NewTd v past σ) (with_phase (φ + 1) (with_made 0 m (own p φ a b c l))) → AlikeAt L v σ (own p φ a b c l) m (Stands.force n past) d
 unfolding from next_from both due_if filled_from named_from task nth row_of spots moved_on own_past_item with_made with_kept with_phase weight makes
-force_0 L v σ m n past {p} {φ} {a} {b} {c} {l} q e f ed = told ed L v σ (own p φ a b c l) m (Stands.force n past) (λ g. due_with e f ∙ rw q refl)
+force_0 L v σ m n past {p} {φ} {a} {b} {c} {l} q f ed = told ed L v σ (own p φ a b c l) m (Stands.force n past) (λ g. f ∙ rw q refl)
 
 -- the words followed from a vertex are those followed from its own
 outwards_is : (s : Lent) (v n : ℕ) → followed s v n ≡ outwards s (latest s v) n
@@ -495,58 +500,55 @@ unfolding own_of
 latest_is s v h = cc
 
 forced_is :
-    (t : List ℕ) (m v n r : ℕ) {p φ a b c l : ℕ} (s : Lent) → s.vertices ≡ t → own_of s v ≡ own p φ a b c l → s.made ≡ m → FollowsTo t m l n r
-    → unless_zero r ≡ followed s v n
-forced_is t m v n r s e h k to = to s e k ∙ sym (outwards_is s v n ∙ ap (λ (x : ℕ). outwards s x n) (latest_is s v h))
+    (t : List ℕ) (m v n : ℕ) {o : Option ℕ} {p φ a b c l : ℕ} (s : Lent) → s.vertices ≡ t → own_of s v ≡ own p φ a b c l → s.made ≡ m
+    → FollowsTo t m l n o → o ≡ followed s v n
+forced_is t m v n s e h k to = to s e k ∙ sym (outwards_is s v n ∙ ap (λ (x : ℕ). outwards s x n) (latest_is s v h))
 
 abbrev second : Edition → ℕ → ℕ → ℕ → ℕ → ℕ → ℕ → Own → Option ℕ → Due
 second ed L v σ m n past w f =
     next_from v σ w m f (row_of ed forces) n (spots past past past L) (nth (row_of ed forces).commands 1)
 
 second_found :
-    (ed : Edition) (L v σ m n past p a b c l r : ℕ) → (r ≡ 0 → ⊥)
-    → command_due (NewEdge v r a) (own p 2 a b c l) ≡ second ed L v σ m n past (own p 1 a b c l) (unless_zero r)
-unfolding next_from both is_vertex unless_zero or_zero due_if filled_from named_from nth row_of moved_on with_kept with_phase
-second_found ed L v σ m n past p a b c l zero some_vertex = absurd (some_vertex refl)
-second_found ed L v σ m n past p a b c l (suc r) some_vertex = refl
+    (ed : Edition) (L v σ m n past p a b c l r : ℕ)
+    → command_due (NewEdge v r a) (own p 2 a b c l) ≡ second ed L v σ m n past (own p 1 a b c l) (some r)
+unfolding next_from both is_vertex or_zero due_if filled_from named_from nth row_of moved_on with_kept with_phase
+second_found ed L v σ m n past p a b c l r = refl
 
-second_lost :
-    (ed : Edition) (L v σ m n past : ℕ) (w : Own) {r : ℕ} → r ≡ 0 → refusal_due nothing_starts ≡ second ed L v σ m n past w (unless_zero r)
-unfolding next_from both is_vertex unless_zero due_if nth row_of
-second_lost ed L v σ m n past w h = rw h refl
+second_lost : (ed : Edition) (L v σ m n past : ℕ) (w : Own) → refusal_due nothing_starts ≡ second ed L v σ m n past w none
+unfolding next_from both is_vertex due_if nth row_of
+second_lost ed L v σ m n past w = refl
 
 pub force_found :
-    (t : List ℕ) (L v σ m n past : ℕ) {p φ a b c l r : ℕ} {w : Own} {d : Due} → φ ≡ 1 → FollowsTo t m l n r → (r ≡ 0 → ⊥)
-    → w ≡ with_phase (φ + 1) (own p φ a b c l) → d ≡ command_due (NewEdge v r a) w → AlikeIn t L v σ (own p φ a b c l) m (Stands.force n past) d
+    (v : ℕ) {p φ a b c l r : ℕ} {o : Option ℕ} {d : Due} → φ ≡ 1 → o ≡ some r
+    → d ≡ command_due (NewEdge v r a) (with_phase (φ + 1) (own p φ a b c l)) → ForceEdge v (own p φ a b c l) l o d
 unfolding from task with_phase
-force_found t L v σ m n past {p} {φ} {a} {b} {c} {l} {r} q to some_vertex e f ed s k hw hσ hm =
+force_found v {p} {φ} {a} {b} {c} {l} {r} q is f t L σ m n past to ed s k hw hσ hm =
     told_at ed L v σ (own p φ a b c l) m (Stands.force n past) s hw hσ hm
-    (due_with e f
+    (f
     ∙ rw q
-    (second_found ed L v σ m n past p a b c l r some_vertex
-    ∙ ap (second ed L v σ m n past (own p 1 a b c l)) (forced_is t m v n _ s k hw hm to)))
+    (second_found ed L v σ m n past p a b c l r
+    ∙ ap (second ed L v σ m n past (own p 1 a b c l)) (sym is ∙ forced_is t m v n s k hw hm to)))
 
 pub force_lost :
-    (t : List ℕ) (L v σ m n past : ℕ) {p φ a b c l r : ℕ} → φ ≡ 1 → FollowsTo t m l n r → r ≡ 0
-    → AlikeIn t L v σ (own p φ a b c l) m (Stands.force n past) (refusal_due nothing_starts)
+    (v : ℕ) {p φ a b c l : ℕ} {o : Option ℕ} → φ ≡ 1 → o ≡ none → ForceEdge v (own p φ a b c l) l o (refusal_due nothing_starts)
 unfolding from task
-force_lost t L v σ m n past {p} {φ} {a} {b} {c} {l} q to no_vertex ed s k hw hσ hm =
+force_lost v {p} {φ} {a} {b} {c} {l} q is t L σ m n past to ed s k hw hσ hm =
     told_at ed L v σ (own p φ a b c l) m (Stands.force n past) s hw hσ hm
     (rw q
-    (second_lost ed L v σ m n past (own p 1 a b c l) no_vertex
-    ∙ ap (second ed L v σ m n past (own p 1 a b c l)) (forced_is t m v n _ s k hw hm to)))
+    (second_lost ed L v σ m n past (own p 1 a b c l)
+    ∙ ap (second ed L v σ m n past (own p 1 a b c l)) (sym is ∙ forced_is t m v n s k hw hm to)))
 
 pub force_2 :
-    (L v σ m n past : ℕ) {p φ a b c l : ℕ} {w : Own} {d : Due} → φ ≡ 2 → w ≡ with_phase (φ + 1) (own p φ a b c l)
-    → d ≡ command_due (Transfer v a) w → AlikeAt L v σ (own p φ a b c l) m (Stands.force n past) d
+    (L v σ m n past : ℕ) {p φ a b c l : ℕ} {d : Due} → φ ≡ 2
+    → d ≡ command_due (Transfer v a) (with_phase (φ + 1) (own p φ a b c l)) → AlikeAt L v σ (own p φ a b c l) m (Stands.force n past) d
 unfolding from next_from both due_if filled_from named_from task nth row_of spots moved_on own_past_item with_made with_kept with_phase weight makes
-force_2 L v σ m n past {p} {φ} {a} {b} {c} {l} q e f ed = told ed L v σ (own p φ a b c l) m (Stands.force n past) (λ g. due_with e f ∙ rw q refl)
+force_2 L v σ m n past {p} {φ} {a} {b} {c} {l} q f ed = told ed L v σ (own p φ a b c l) m (Stands.force n past) (λ g. f ∙ rw q refl)
 
 pub force_3 :
-    (L v σ m n past : ℕ) {p φ a b c l : ℕ} {w : Own} {d : Due} → φ ≡ 3 → w ≡ own L 0 0 0 0 l
-    → d ≡ command_due (Release v a) w → AlikeAt L v σ (own p φ a b c l) m (Stands.force n past) d
-unfolding from next_from both due_if filled_from named_from task nth row_of spots moved_on own_past_item with_made with_kept with_phase weight makes
-force_3 L v σ m n past {p} {φ} {a} {b} {c} {l} q e f ed = told ed L v σ (own p φ a b c l) m (Stands.force n past) (λ g. due_with e f ∙ rw q refl)
+    (L v σ m n past : ℕ) {p φ a b c l : ℕ} {d : Due} → φ ≡ 3
+    → d ≡ command_due (Release v a) (idle_own L l) → AlikeAt L v σ (own p φ a b c l) m (Stands.force n past) d
+unfolding idle_own from next_from both due_if filled_from named_from task nth row_of spots moved_on own_past_item with_made with_kept with_phase weight makes
+force_3 L v σ m n past {p} {φ} {a} {b} {c} {l} q f ed = told ed L v σ (own p φ a b c l) m (Stands.force n past) (λ g. f ∙ rw q refl)
 
 pub force_beyond :
     (L v σ m n past : ℕ) {p φ a b c l : ℕ} → (φ ≡ 0 → ⊥) → (φ ≡ 1 → ⊥) → (φ ≡ 2 → ⊥) → (φ ≡ 3 → ⊥)
@@ -555,3 +557,5 @@ unfolding task row_of
 force_beyond L v σ m n past {p} {φ} {a} {b} {c} {l} h0 h1 h2 h3 ed =
     told ed L v σ (own p φ a b c l) m (Stands.force n past)
     (λ g. beyond v σ m g n (row_of ed forces) (spots past past past L) p φ a b c l (omega arith))
+
+pub ruleset force_due = (force_0, force_found, force_lost, force_2, force_3, force_beyond, refl)

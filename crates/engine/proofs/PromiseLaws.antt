@@ -7,12 +7,11 @@
 --     refused_promise             a refused loading changes nothing
 use Prim.Native.Nat.{ℕ, ◌+◌, ◌<◌, ◌≤◌}
 use mathlib.Core.Path.{◌≡◌, refl, sym, ◌∙◌, ap, subst}
-use mathlib.Core.Bool.{Bool, true, false, not}
+use mathlib.Core.Bool.{true, false}
 use mathlib.Core.List.{List, [], ◌∷◌, ◌++◌, map-append}
 use native.Mathlib.Numerals.{add-one}
 use lib.ListN.{length, get_or, take}
 use lib.Seq.{take-suc, take_all}
-use borrow.Author.Tests.{not-true, not-false}
 use Rattle.graph.specs.Tables.{Lent}
 use Rattle.program.specs.declared.Edition.{Edition}
 use Rattle.machine.specs.Answers.{StepSaid, LoadingSaid, is_loaded}
@@ -84,17 +83,13 @@ promised {ed} {bytes} says h (came answers q b) =
 
 -- the loading is accepted: demand 3 of the whole list
 pub keeps_promise :
-    {ed : Edition} {bytes : List ℕ} {s₀ u s : Lent} {named : List ℕ} {loading : LoadingSaid} {i : ℕ} {b : Bool} → Loaded ed bytes s₀ loading u
-    → b ≡ not (is_loaded loading) → b ≡ false → Onward ed bytes u named i s → length named ≤ i
+    {ed : Edition} {bytes : List ℕ} {s₀ u s : Lent} {named : List ℕ} {loading : LoadingSaid} {i : ℕ} → Loaded ed bytes s₀ loading u
+    → is_loaded loading ≡ true → Onward ed bytes u named i s → length named ≤ i
     → Promised ed bytes s₀ named loading s.steps s
-keeps_promise l told h o le =
-    let yes = not-false _ (sym told ∙ h) in
-    promised l.says yes (onward_all o le (loaded_came l yes))
+keeps_promise l h o le = promised l.says h (onward_all o le (loaded_came l h))
 
 -- it is refused
 pub refused_promise :
-    {ed : Edition} {bytes : List ℕ} {s₀ u : Lent} {loading : LoadingSaid} {b : Bool} (named : List ℕ) → Loaded ed bytes s₀ loading u
-    → b ≡ not (is_loaded loading) → b ≡ true → Promised ed bytes s₀ named loading 0 u
-refused_promise {ed} {bytes} {s₀} named l told h =
-    let no = not-true _ (sym told ∙ h) in
-    not_loaded l.says no refl (l.leaves ∙ load_keeps ed bytes s₀ (sym (ap is_loaded l.says) ∙ no))
+    {ed : Edition} {bytes : List ℕ} {s₀ u : Lent} {loading : LoadingSaid} (named : List ℕ) → Loaded ed bytes s₀ loading u
+    → is_loaded loading ≡ false → Promised ed bytes s₀ named loading 0 u
+refused_promise {ed} {bytes} {s₀} named l h = not_loaded l.says h refl (l.leaves ∙ load_keeps ed bytes s₀ (sym (ap is_loaded l.says) ∙ h))

@@ -28,9 +28,11 @@ use Rattle.graph.specs.Answers.{Outcome}
 use Rattle.graph.proofs.TakenLaws.{not_refused, after_is}
 use Rattle.graph.proofs.TakenLaws as of_taken
 use Rattle.graph.proofs.Demand2.{refused_keeps, words_stay}
+use Rattle.refusal.specs.declared.Reason.{Reason}
+use Rattle.refusal.specs.Reasons.{number}
 use Rattle.program.specs.declared.Edition.{Edition}
 use Rattle.program.specs.declared.Edition.TheVariants.{First}
-use Rattle.machine.specs.Answers.{StepSaid, one_step, said_as}
+use Rattle.machine.specs.Answers.{StepSaid, accepted, one_step, said_as}
 use Rattle.machine.specs.Stepping as machine
 use Rattle.machine.specs.Stepping.{step_limit, start_due, own_of, Due, due, stored, with_own, do_due}
 use Rattle.machine.specs.Traces.{Stepped}
@@ -65,8 +67,8 @@ ready_is : {s : Lent} {v : ℕ} {d : Due} → IsDue s v d → ReadyFor s v d
 ready_is {s} {v} {d} (is_due ed bytes same) = subst (λ (x : Due). ReadyFor s v x) (sym same) (ready_due ed bytes s v)
 
 -- a refusal is due
-pub refused_path : (s : Lent) (k n : ℕ) (d : code.Due) → d ≡ of_due.Refused n → DoesDue s k (due_of d) (StepSaid.refused n 0) s
-refused_path s k n d is ed bytes same = stepped ed bytes s k (sym same ∙ ap due_of is) refl refl
+pub refused_path : (s : Lent) (k : ℕ) (r : Reason) (d : code.Due) → d ≡ of_due.Refused r → DoesDue s k (due_of d) (StepSaid.refused (number r) 0) s
+refused_path s k r d is ed bytes same = stepped ed bytes s k (sym same ∙ ap due_of is) refl refl
 
 -- a job is due
 module _ (v e : List ℕ) (t : Tally) (k n p : ℕ) (w : Own) (d : code.Due) (is : d ≡ of_due.Job n p w) where
@@ -86,6 +88,20 @@ module _ (v e : List ℕ) (t : Tally) (k : ℕ) (c : Command) (w : Own) (d : cod
   pub command_ready : IsDue (lent v e t) k (due_of d) → Ready (lent v e t) k (either (is_start c) (sound (lent v e t)))
   unfolding ReadyFor
   command_ready h = subst (λ (x : Due). ReadyFor (lent v e t) k x) (ap due_of is) (ready_is h)
+
+-- as a step says it, a command is refused where it is
+said_accepted : (x : of_graph.CommandSaid) → accepted (said_as x) ≡ of_graph.accepted x
+said_accepted of_graph.start = refl
+said_accepted (of_graph.new v) = refl
+said_accepted (of_graph.edge a b) = refl
+said_accepted (of_graph.release v) = refl
+said_accepted (of_graph.transfer v) = refl
+said_accepted of_graph.stop = refl
+said_accepted of_graph.yield = refl
+said_accepted (of_graph.refused n p) = refl
+
+pub refused_told : {a : StepSaid} (x : of_graph.CommandSaid) {b : Bool} → b ≡ not (accepted a) → a ≡ said_as x → b ≡ not (of_graph.accepted x)
+refused_told x p q = p ∙ ap (λ (y : StepSaid). not (accepted y)) q ∙ ap not (said_accepted x)
 
 -- a command that left this
 module _ (v e : List ℕ) (t : Tally) (k : ℕ) (c : Command) (v' e' : List ℕ) (done : Done)

@@ -4,7 +4,7 @@ ghost use Rattle.engine.specs.Answers.{loading_said};
 ghost use Rattle.engine.specs.Promise.{Promised};
 
 use crate::ListDone;
-use crate::load::{load_by_value, loading_refused};
+use crate::load::load_by_value;
 use crate::steps::step_by_value;
 use graph::Tally;
 use program::Edition;
@@ -21,21 +21,19 @@ pub fn load_and_step(
     ensures { Promised edition program.now (lent vertices.old edges.old tally) named.now (loading_said result.loading) result.accepted (lent vertices.new edges.new result.tally) }
 {
     let loaded = load_by_value(program, vertices, edges, tally, edition);
-    let loading = loaded.answer;
     let mut after = loaded.tally;
-    if loading_refused(loading) {
+    if loaded.answer.is_err() {
         return ListDone {
-            loading,
+            loading: loaded.answer,
             accepted: 0,
             tally: after,
         };
     }
-    for i in 0..named.len() {
-        let done = step_by_value(program, vertices, edges, after, edition, named[i]);
-        after = done.tally;
+    for &vertex in named {
+        after = step_by_value(program, vertices, edges, after, edition, vertex).tally;
     }
     ListDone {
-        loading,
+        loading: loaded.answer,
         accepted: after.steps,
         tally: after,
     }

@@ -3,11 +3,12 @@ ghost use Rattle.graph.specs.Tables.{lent};
 ghost use Rattle.machine.specs.Traces.{Loaded, Stepped};
 ghost use Rattle.engine.specs.Answers.{loading_said, said};
 
+use crate::Answer;
 use crate::load::load_by_value;
 use crate::steps::step_by_value;
-use crate::{Answer, Loading};
 use graph::Tally;
 use program::Edition;
+use refusal::Refusal;
 
 pub fn load(
     program: &[u8],
@@ -15,7 +16,7 @@ pub fn load(
     edges: &mut [u32],
     tally: &mut Tally,
     edition: Edition,
-) -> Loading
+) -> Result<(), Refusal>
     ensures { Loaded edition program.now (lent vertices.old edges.old tally.old) (loading_said result) (lent vertices.new edges.new tally.new) }
 {
     let before = *tally;

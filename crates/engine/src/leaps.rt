@@ -4,16 +4,19 @@ ghost use Rattle.std.specs.Prelude.{◌≡◌, ◌+◌, ◌*◌, ◌<◌, ◌≤
 ghost use Rattle.graph.specs.Tables.{usable_limit, vertex_words};
 ghost use Rattle.program.specs.Limits.{program_bytes};
 ghost use Rattle.program.specs.Located.{MarksEnds};
-ghost use Rattle.engine.specs.Answers.{due_of};
+ghost use Rattle.engine.specs.Answers.{due_of, vertex_of};
 ghost use Rattle.engine.specs.Internal.Underway.{DueThere};
 ghost use Rattle.engine.specs.Internal.Leaping as leaping;
 ghost use Rattle.engine.specs.Internal.Leaping.{HopsAt, Leaps, Within, LeadsTo, LeapsTo, SameBelow, EightTold};
 
 use crate::Due;
-use crate::next::{NONE_OPEN, by_item, force_edge, own_words};
+use crate::next::{by_item, force_edge, open_future, own_words};
 use graph::rows::{FUTURE, SCOPE, USABLE_LIMIT, VERTEX_WORDS};
 use program::items::item_for_looks;
 use program::{Edition, ItemRead};
+
+// A table's word where none is open.
+const NONE_OPEN: u32 = 0;
 
 // Three tables one behind the other, with a word for each vertex: where one hop, eight and sixty-four lead.
 pub const LEAP_WORDS: usize = 3 * USABLE_LIMIT;
@@ -34,25 +37,23 @@ pub fn leaping_due(
     let own = own_words(vertices, vertex as usize);
     let scope = vertices[VERTEX_WORDS * (vertex as usize) + SCOPE];
     let item = item_for_looks(program, ends, edition, own.place);
-    if own.phase == 1 {
-        if let ItemRead::Force { number, past } = item {
-            return force_edge(vertex, own, leapt(leaps, made, own.latest, number));
+    match item {
+        ItemRead::Force { number, .. } if own.phase == 1 => {
+            force_edge(vertex, own, leapt(leaps, made, own.latest, number))
         }
+        _ => by_item(program, item, vertices, edition, vertex, scope, own, made),
     }
-    by_item(program, item, vertices, edition, vertex, scope, own, made)
 }
 
 // What a force follows, by its leaps.
-fn leapt(leaps: &[u32], made: u32, latest: u32, number: u32) -> u32
+fn leapt(leaps: &[u32], made: u32, latest: u32, number: u32) -> Option<u32>
     requires { Within made leaps.now 0 × Within made leaps.now usable_limit × Within made leaps.now (2 * usable_limit) }
-    ensures { LeapsTo made leaps.now latest number result }
+    ensures { LeapsTo made leaps.now latest number (vertex_of result) }
 {
-    if made <= latest {
-        return NONE_OPEN;
-    }
-    let far = hopped(leaps, made, 2 * USABLE_LIMIT, latest, number / 64);
+    let from = open_future(made, latest)?;
+    let far = hopped(leaps, made, 2 * USABLE_LIMIT, from, number / 64);
     let near = hopped(leaps, made, USABLE_LIMIT, far, number / 8 % 8);
-    hopped(leaps, made, 0, near, number % 8)
+    open_future(made, hopped(leaps, made, 0, near, number % 8))
 }
 
 // Where so many turns of the table from `from` on lead, from one of the made vertices.
@@ -98,6 +99,7 @@ fn fill_eightfold(made: u32, from: usize, leaps: &mut [u32])
 }
 
 // The future that a vertex's word names, or `NONE_OPEN`.
+#[tactic(auto, using(crate::proofs::LeapLaws::hop_read, crate::proofs::LeapLaws::hop_none))]
 fn hop(vertices: &[u32], made: u32, vertex: u32) -> u32
     requires { (vertex < made) × (vertex_words * made ≤ length vertices.now) }
     ensures { result ≡ leaping.hop vertices.now made vertex }
@@ -105,9 +107,5 @@ fn hop(vertices: &[u32], made: u32, vertex: u32) -> u32
     if vertex == NONE_OPEN {
         return NONE_OPEN;
     }
-    let word = vertices[VERTEX_WORDS * (vertex as usize) + FUTURE];
-    if made <= word {
-        return NONE_OPEN;
-    }
-    word
+    open_future(made, vertices[VERTEX_WORDS * (vertex as usize) + FUTURE]).unwrap_or(NONE_OPEN)
 }

@@ -10,20 +10,18 @@ pub mod look;
 pub mod next;
 pub mod steps;
 
+ghost use Rattle.std.specs.Prelude.{◌≡◌, not};
+ghost use Rattle.graph.specs.Answers as of_graph;
+ghost use Rattle.machine.specs.Answers.{accepted, said_as};
+ghost use Rattle.engine.specs.Answers.{said};
+
 use graph::{Command, Tally};
-use refusal::Refusal;
+use refusal::{Reason, Refusal};
 
-// What loading answers.
-#[derive(Clone, Copy)]
-pub enum Loading {
-    Loaded,
-    Refused(Refusal),
-}
-
-// The result of loading: its answer, and the tally afterwards.
+// The result of loading: whether it is refused, and the tally afterwards.
 #[derive(Clone, Copy)]
 pub struct LoadDone {
-    pub answer: Loading,
+    pub answer: Result<(), Refusal>,
     pub tally: Tally,
 }
 
@@ -39,6 +37,32 @@ pub enum Answer {
     Stop,
     Yield,
     Refused(Refusal),
+}
+
+impl Answer {
+    pub fn is_refused(&self) -> bool
+        ensures { result ≡ not (accepted (said self.now)) }
+    {
+        matches!(self, Answer::Refused(_))
+    }
+}
+
+// What a single command answered, as a step says it.
+impl From<graph::Answer> for Answer {
+    ghost from_gives = { λ answer step. said step ≡ said_as (of_graph.said answer) };
+
+    fn from(answer: graph::Answer) -> Answer {
+        match answer {
+            graph::Answer::Start => Answer::Start,
+            graph::Answer::New(vertex) => Answer::New(vertex),
+            graph::Answer::Edge(source, target) => Answer::Edge(source, target),
+            graph::Answer::Release(vertex) => Answer::Release(vertex),
+            graph::Answer::Transfer(vertex) => Answer::Transfer(vertex),
+            graph::Answer::Stop => Answer::Stop,
+            graph::Answer::Yield => Answer::Yield,
+            graph::Answer::Refused(refusal) => Answer::Refused(refusal),
+        }
+    }
 }
 
 // The result of a step: its answer, and the tally afterwards.
@@ -64,24 +88,16 @@ pub struct Own {
 // calculus. With the last two comes what the vertex's own words are afterwards.
 #[derive(Clone, Copy)]
 pub enum Due {
-    Refused(u32),
+    Refused(Reason),
     Job { number: u32, offset: u32, own: Own },
     Command { command: Command, own: Own },
-}
-
-// The lowest vertex whose step would be accepted; refused as a run is.
-#[derive(Clone, Copy)]
-pub enum Lowest {
-    Vertex(u32),
-    NoVertex,
-    Refused(Refusal),
 }
 
 // The result of loading a program and stepping a list of vertices: what loading answered, how many of the steps were accepted, and the
 // tally afterwards.
 #[derive(Clone, Copy)]
 pub struct ListDone {
-    pub loading: Loading,
+    pub loading: Result<(), Refusal>,
     pub accepted: u32,
     pub tally: Tally,
 }

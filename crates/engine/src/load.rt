@@ -1,19 +1,19 @@
 // Loading a program.
-ghost use Rattle.std.specs.Prelude.{◌≡◌, not, ◌-◌, ◌≤◌};
+ghost use Rattle.std.specs.Prelude.{◌≡◌, ◌-◌, ◌≤◌};
+ghost use Rattle.graph.specs.declared.Tally.{Tally};
 ghost use Rattle.graph.specs.Tables.{lent, in_count_word, vertex_rows, set_vertex_word};
 ghost use Rattle.program.specs.Limits.{program_bytes};
-ghost use Rattle.machine.specs.Loading.{placed};
-ghost use Rattle.machine.specs.Answers.{loading_refused, is_loaded};
+ghost use Rattle.machine.specs.Loading.{placed, load};
 ghost use Rattle.machine.specs.Traces.{Loaded};
 ghost use Rattle.engine.specs.Answers.{loading_said};
 
-use crate::{LoadDone, Loading};
+use crate::LoadDone;
 use graph::Tally;
 use graph::commands::open_by_value;
 use graph::rows::{IN_COUNT, PLACE, RELEASED, SCOPE, STATUS, VERTEX_WORDS, edge_rows, vertex_rows};
+use program::Edition;
 use program::reading::read;
-use program::{Edition, ProgramRead};
-use refusal::{Refusal, TOO_FEW_EDGE_ROWS, TOO_FEW_VERTEX_ROWS};
+use refusal::{Reason, Refusal};
 
 // Loads a program, with the tally by value: clears the usable rows and the tally, then sets vertices 0 and 1 and the edge between them.
 pub fn load_by_value(
@@ -25,48 +25,41 @@ pub fn load_by_value(
 ) -> LoadDone
     ensures { Loaded edition program.now (lent vertices.old edges.old tally) (loading_said result.answer) (lent vertices.new edges.new result.tally) }
 {
-    let reading = read(program, edition);
-    match reading {
-        ProgramRead::Refused(refusal) => refused(refusal.number, refusal.place, tally),
-        ProgramRead::Program(items) => {
-            if (vertex_rows(vertices) as u64) < program::reading::vertices(items, edition) {
-                return refused(TOO_FEW_VERTEX_ROWS, 0, tally);
-            }
-            if (edge_rows(edges) as u64) < program::reading::edge_rows(items) {
-                return refused(TOO_FEW_EDGE_ROWS, 0, tally);
-            }
-            open_by_value(vertices, edges, tally);
-            place_first(vertices, program.len());
-            edges[0] = 0;
-            edges[1] = 1;
-            LoadDone {
-                answer: Loading::Loaded,
-                tally: Tally {
-                    made: 2,
-                    held: 1,
-                    steps: 0,
-                },
-            }
-        }
+    let answer = load_refusal(program, vertices, edges, edition);
+    if answer.is_err() {
+        return LoadDone { answer, tally };
     }
-}
-
-fn refused(number: u32, place: u32, tally: Tally) -> LoadDone
-    ensures { (loading_said result.answer ≡ loading_refused number place) × (result.tally ≡ tally) }
-{
+    open_by_value(vertices, edges, tally);
+    place_first(vertices, program.len());
+    edges[0] = 0;
+    edges[1] = 1;
     LoadDone {
-        answer: Loading::Refused(Refusal { number, place }),
-        tally,
+        answer,
+        tally: Tally {
+            made: 2,
+            held: 1,
+            steps: 0,
+        },
     }
 }
 
-pub(crate) fn loading_refused(answer: Loading) -> bool
-    ensures { result ≡ not (is_loaded (loading_said answer)) }
+// What loading a program onto these tables answers: as reading is refused, or where rows are wanting.
+fn load_refusal(
+    program: &[u8],
+    vertices: &[u32],
+    edges: &[u32],
+    edition: Edition,
+) -> Result<(), Refusal>
+    ensures { (t : Tally) → loading_said result ≡ (load edition program.now (lent vertices.now edges.now t)).answer }
 {
-    match answer {
-        Loading::Refused(refusal) => true,
-        Loading::Loaded => false,
+    let items = read(program, edition)?;
+    if (vertex_rows(vertices) as u64) < program::reading::vertices(items, edition) {
+        return Err(Reason::TooFewVertexRows.into());
     }
+    if (edge_rows(edges) as u64) < program::reading::edge_rows(items) {
+        return Err(Reason::TooFewEdgeRows.into());
+    }
+    Ok(())
 }
 
 // Vertex 0 at the program's first byte and vertex 1 at its last, both released and with the scope 1, and one edge into vertex 1.

@@ -1,8 +1,6 @@
 // A step: what is due is done.
-ghost use Rattle.std.specs.Prelude.{◌≡◌, ◌+◌, ◌<◌, true, not};
+ghost use Rattle.std.specs.Prelude.{◌≡◌, ◌+◌, ◌<◌, true};
 ghost use Rattle.graph.specs.Tables.{lent, vertex_rows};
-ghost use Rattle.graph.specs.Answers as of_graph;
-ghost use Rattle.machine.specs.Answers.{said_as};
 ghost use Rattle.machine.specs.Stepping.{step_limit, start_due, stored};
 ghost use Rattle.machine.specs.Traces.{Stepped};
 ghost use Rattle.engine.specs.Answers.{said, own_words, due_of};
@@ -14,7 +12,6 @@ use graph::Tally;
 use graph::commands::{command_checked, start};
 use graph::rows::{FUTURE, PHASE, PLACE, VERTEX_WORDS};
 use program::Edition;
-use refusal::Refusal;
 
 // One step of `vertex`, with the tally by value.
 pub fn step_by_value(
@@ -40,17 +37,16 @@ pub(crate) fn start_step(vertices: &mut [u32], edges: &[u32], tally: Tally, vert
     ensures { Starts (lent vertices.old edges.now tally) vertex (said result.answer) (lent vertices.new edges.now result.tally) }
 {
     let done = start(vertices, edges, tally, vertex);
-    let answer = done.answer;
-    let after = done.tally;
-    if command_refused(answer) {
+    let answer = Answer::from(done.answer);
+    if answer.is_refused() {
         return Done {
-            answer: as_step(answer),
-            tally: after,
+            answer,
+            tally: done.tally,
         };
     }
     Done {
-        answer: as_step(answer),
-        tally: counted(after),
+        answer,
+        tally: counted(done.tally),
     }
 }
 
@@ -66,8 +62,8 @@ pub(crate) fn do_due(
     ensures { DoesDue (lent vertices.old edges.old tally) vertex (due_of next) (said result.answer) (lent vertices.new edges.new result.tally) }
 {
     match next {
-        Due::Refused(number) => Done {
-            answer: Answer::Refused(Refusal { number, place: 0 }),
+        Due::Refused(reason) => Done {
+            answer: Answer::Refused(reason.into()),
             tally,
         },
         Due::Job {
@@ -83,18 +79,17 @@ pub(crate) fn do_due(
         }
         Due::Command { command, own } => {
             let done = command_checked(vertices, edges, tally, command);
-            let answer = done.answer;
-            let after = done.tally;
-            if command_refused(answer) {
+            let answer = Answer::from(done.answer);
+            if answer.is_refused() {
                 return Done {
-                    answer: as_step(answer),
-                    tally: after,
+                    answer,
+                    tally: done.tally,
                 };
             }
             store(vertices, vertex as usize, own);
             Done {
-                answer: as_step(answer),
-                tally: counted(after),
+                answer,
+                tally: counted(done.tally),
             }
         }
     }
@@ -106,13 +101,13 @@ pub fn counted(tally: Tally) -> Tally
     ensures { (result.made ≡ tally.made) × (result.held ≡ tally.held) × (result.steps ≡ tally.steps + 1) }
 {
     Tally {
-        made: tally.made,
-        held: tally.held,
         steps: tally.steps + 1,
+        ..tally
     }
 }
 
 // Stores a vertex's own words.
+#[tactic(auto, unfolding(machine::specs::Stepping::stored))]
 pub fn store(vertices: &mut [u32], vertex: usize, own: Own)
     requires { vertex < vertex_rows vertices.old }
     ensures { vertices.new ≡ stored vertices.old vertex (own_words own) }
@@ -124,35 +119,4 @@ pub fn store(vertices: &mut [u32], vertex: usize, own: Own)
     vertices[at + SECOND] = own.second;
     vertices[at + THIRD] = own.third;
     vertices[at + FUTURE] = own.latest;
-}
-
-pub fn command_refused(answer: graph::Answer) -> bool
-    ensures { result ≡ not (of_graph.accepted (of_graph.said answer)) }
-{
-    match answer {
-        graph::Answer::Refused(refusal) => true,
-        graph::Answer::Start => false,
-        graph::Answer::New(v) => false,
-        graph::Answer::Edge(a, b) => false,
-        graph::Answer::Release(v) => false,
-        graph::Answer::Transfer(v) => false,
-        graph::Answer::Stop => false,
-        graph::Answer::Yield => false,
-    }
-}
-
-// What a single command answered, as a step says it.
-pub fn as_step(answer: graph::Answer) -> Answer
-    ensures { said result ≡ said_as (of_graph.said answer) }
-{
-    match answer {
-        graph::Answer::Start => Answer::Start,
-        graph::Answer::New(v) => Answer::New(v),
-        graph::Answer::Edge(a, b) => Answer::Edge(a, b),
-        graph::Answer::Release(v) => Answer::Release(v),
-        graph::Answer::Transfer(v) => Answer::Transfer(v),
-        graph::Answer::Stop => Answer::Stop,
-        graph::Answer::Yield => Answer::Yield,
-        graph::Answer::Refused(refusal) => Answer::Refused(refusal),
-    }
 }

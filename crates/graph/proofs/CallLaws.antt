@@ -2,6 +2,7 @@
 use Prim.Native.Nat.{ℕ, zero, suc, ◌+◌, ◌*◌, ◌<◌, ◌≤◌}
 use mathlib.Core.Path.{◌≡◌, refl, sym, ◌∙◌, ap}
 use mathlib.Core.Bool.{Bool, true, false, not, cond}
+use Rattle.std.specs.Prelude.{Result, Ok, Err, IsErrAnd}
 use mathlib.Core.List.{List}
 use native.Mathlib.Omega.{arith}
 use lib.ListN.{length}
@@ -15,7 +16,12 @@ use Rattle.graph.specs.Tests.{either}
 use Rattle.graph.specs.Tables.{Lent, lent, usable_limit, vertex_words, status_word, edge_words, vertex_rows, edge_rows, RELEASED}
 use Rattle.graph.specs.Tables.{in_count_word, target, set_status, clear}
 use Rattle.refusal.specs.Refusals.{too_few_vertex_rows, unsound_tables}
-use Rattle.graph.specs.Answers.{CommandSaid, said, Outcome, outcome, opened, opening_refused, unless, decided}
+use Rattle.refusal.specs.declared.Reason.{Reason}
+use Rattle.refusal.specs.declared.Reason.TheVariants.{TooFewVertexRows}
+use Rattle.refusal.specs.declared.Refusal.{Refusal}
+use Rattle.refusal.specs.Reasons.{number, due_number, at_no_place}
+use Rattle.refusal.proofs.ReasonLaws.{number_positive}
+use Rattle.graph.specs.Answers.{CommandSaid, Outcome, tried, opened, opening_refused, answered_opening, unless, decided}
 use Rattle.graph.specs.Sound.{tally_fits, sound}
 use Rattle.graph.specs.Internal.Checks.{is_start}
 use Rattle.graph.specs.Internal.Gather.{TargetsFit}
@@ -30,23 +36,24 @@ use Rattle.graph.proofs.TakenLaws.{Runs, taken, taken_caller, taken_ends, taken_
 use Rattle.graph.proofs.RefusalLaws.{unless_pass, unless_stop, decided_is}
 
 due :
-    (s : Lent) (k : ℕ) (a : CommandSaid) (s' : Lent) → (k ≡ 0 → ⊥)
+    (s : Lent) (k : ℕ) (a : CommandSaid) (s' : Lent) → 0 < k
     → ◌≡◌ {A = Outcome CommandSaid} (record { answer = CommandSaid.refused k 0; after = s }) (decided s k a s')
 unfolding decided
-due s zero a s' z = absurd (z refl)
+due s zero a s' z = absurd (omega arith)
 due s (suc k) a s' z = refl
 
--- a refused call
+-- a refused call, behind the callee's `?`
 pub refused_outcome :
-    (r : Done) (v e : List ℕ) (t : Tally) {m n : ℕ} (a : CommandSaid) (s' : Lent) → m ≡ n → (m ≡ 0 → ⊥)
-    → (said r.answer ≡ CommandSaid.refused m 0) × (r.tally ≡ t) → outcome r v e ≡ decided (lent v e t) n a s'
-refused_outcome r v e t {m} {n} a s' p q h =
-    (λ i. record { answer = h.0 i; after = lent v e (h.1 i) }) ∙ due (lent v e t) m a s' q ∙ ap (λ (k : ℕ). decided (lent v e t) k a s') p
+    (res : Result Done Reason) (r : Reason) (v e : List ℕ) (t : Tally) {n : ℕ} (a : CommandSaid) (s' : Lent)
+    → IsErrAnd res (λ (x : Reason). x ≡ r) → number r ≡ n → tried res t v e ≡ decided (lent v e t) n a s'
+refused_outcome (Ok d) r v e t a s' h p = absurd h
+refused_outcome (Err x) r v e t a s' h p =
+    ap (λ (y : Reason). tried (Err y) t v e) h ∙ due (lent v e t) (number r) a s' (number_positive r) ∙ ap (λ (k : ℕ). decided (lent v e t) k a s') p
 
 -- an accepted one
 pub accepted_outcome :
-    {o : Outcome CommandSaid} (s : Lent) {m n : ℕ} (a : CommandSaid) (s' : Lent) → m ≡ n → m ≡ 0 → o ≡ record { answer = a; after = s' } → o ≡ decided s n a s'
-accepted_outcome s {n = n} a s' p q h = h ∙ sym (decided_is s n a s' (sym p ∙ q))
+    {o : Outcome CommandSaid} (s : Lent) {n : ℕ} (a : CommandSaid) (s' : Lent) → 0 ≡ n → o ≡ record { answer = a; after = s' } → o ≡ decided s n a s'
+accepted_outcome s {n = n} a s' p h = h ∙ sym (decided_is s n a s' (sym p))
 
 -- A chain of tests, test by test: one that passes hands over to the rest, one that does not answers its number. A `cond` answers
 -- where its test holds.
@@ -113,28 +120,40 @@ unfolding unless
 free_behind true n f z = f z
 free_behind false n f z = absurd (omega arith)
 
--- the refusals that begin the chain of a caller: one of them is due, or none is and the command's own follow
-pub caller_due : (s : Lent) (t a b : ℕ) {m : ℕ} (own : ℕ) → m ≡ caller_refusal s t a b 0 → (m ≡ 0 → ⊥) → m ≡ caller_refusal s t a b own
-unfolding caller_refusal
-caller_due s t a b own p q = p ∙ due_behind _ _ (due_behind _ _ (due_behind _ _ (λ z. absurd (z refl)))) (λ z. q (p ∙ z))
+-- what `?` hands on is the reason that the callee gave
+pub handed_on :
+    {A : Type 0} (res : Result A Reason) (r : Reason) {n : ℕ} → IsErrAnd res (λ (e : Reason). e ≡ r) → number r ≡ n → due_number res ≡ n
+handed_on (Ok x) r h p = absurd h
+handed_on (Err e) r h p = ap number h ∙ p
 
-pub caller_free : (s : Lent) (t a b : ℕ) {m r own : ℕ} → m ≡ caller_refusal s t a b 0 → m ≡ 0 → r ≡ own → r ≡ caller_refusal s t a b own
+-- the refusals that begin the chain of a caller: one of them is due, or none is and the command's own follow
+pub caller_due :
+    (s : Lent) (t a b : ℕ) (r : Reason) (own : ℕ) → number r ≡ caller_refusal s t a b 0 → number r ≡ caller_refusal s t a b own
 unfolding caller_refusal
-caller_free s t a b p q h = free_behind _ _ (free_behind _ _ (free_behind _ _ (λ z. h))) (sym p ∙ q)
+caller_due s t a b r own p =
+    let q : 0 < number r = number_positive r in
+    p ∙ due_behind _ _ (due_behind _ _ (due_behind _ _ (λ z. absurd (z refl)))) (λ z. omega (arith, p, z, q))
+
+pub caller_free : (s : Lent) (t a b : ℕ) {r own : ℕ} → 0 ≡ caller_refusal s t a b 0 → r ≡ own → r ≡ caller_refusal s t a b own
+unfolding caller_refusal
+caller_free s t a b p h = free_behind _ _ (free_behind _ _ (free_behind _ _ (λ z. h))) (sym p)
 
 -- those that begin newEdge's, likewise
-pub ends_due : (s : Lent) (t a b : ℕ) {m : ℕ} (own : ℕ) → m ≡ ends_refusal s t a b 0 → (m ≡ 0 → ⊥) → m ≡ ends_refusal s t a b own
+pub ends_due :
+    (s : Lent) (t a b : ℕ) (r : Reason) (own : ℕ) → number r ≡ ends_refusal s t a b 0 → number r ≡ ends_refusal s t a b own
 unfolding ends_refusal caller_refusal
-ends_due s t a b own p q = p ∙ due_behind _ _ (due_behind _ _ (due_behind _ _ (due_behind _ _ (λ z. absurd (z refl))))) (λ z. q (p ∙ z))
+ends_due s t a b r own p =
+    let q : 0 < number r = number_positive r in
+    p ∙ due_behind _ _ (due_behind _ _ (due_behind _ _ (due_behind _ _ (λ z. absurd (z refl))))) (λ z. omega (arith, p, z, q))
 
-pub ends_free : (s : Lent) (t a b : ℕ) {m r own : ℕ} → m ≡ ends_refusal s t a b 0 → m ≡ 0 → r ≡ own → r ≡ ends_refusal s t a b own
+pub ends_free : (s : Lent) (t a b : ℕ) {r own : ℕ} → 0 ≡ ends_refusal s t a b 0 → r ≡ own → r ≡ ends_refusal s t a b own
 unfolding ends_refusal caller_refusal
-ends_free s t a b p q h = free_behind _ _ (free_behind _ _ (free_behind _ _ (free_behind _ _ (λ z. h)))) (sym p ∙ q)
+ends_free s t a b p h = free_behind _ _ (free_behind _ _ (free_behind _ _ (free_behind _ _ (λ z. h)))) (sym p)
 
 -- what can be read once none of the refusals that begin the chain of a caller is due
-module _ (v e : List ℕ) (s : Tally) (t a b : ℕ) {m : ℕ} (p : m ≡ caller_refusal (lent v e s) t a b 0) (q : m ≡ 0) where
+module _ (v e : List ℕ) (s : Tally) (t a b : ℕ) (p : 0 ≡ caller_refusal (lent v e s) t a b 0) where
   found : Runs (lent v e s) t × (a < s.made) × (b < s.made) × (◌≡◌ {A = ℕ} 0 0)
-  found = (taken_caller (lent v e s) t a b 0).0 (sym p ∙ q)
+  found = (taken_caller (lent v e s) t a b 0).0 (sym p)
 
   pub first_there : vertex_words * a + status_word < length v
   first_there = let k = found.1 in omega (arith, sound_rows (lent v e s) found.0.known)
@@ -149,15 +168,15 @@ module _ (v e : List ℕ) (s : Tally) (t a b : ℕ) {m : ℕ} (p : m ≡ caller_
   path_on = searchable (lent v e s) t a found.0.known found.0.is_made found.1
 
 -- what is known once none of the refusals that begin newEdge's chain is due
-module _ (v e : List ℕ) (s : Tally) (t a b : ℕ) {m : ℕ} (p : m ≡ ends_refusal (lent v e s) t a b 0) (q : m ≡ 0) where
+module _ (v e : List ℕ) (s : Tally) (t a b : ℕ) (p : 0 ≡ ends_refusal (lent v e s) t a b 0) where
   pub source_made : a < s.made
-  source_made = ((taken_ends (lent v e s) t a b 0).0 (sym p ∙ q)).1
+  source_made = ((taken_ends (lent v e s) t a b 0).0 (sym p)).1
 
   pub target_room : vertex_words * b + vertex_words ≤ length v
-  target_room = let k = (taken_ends (lent v e s) t a b 0).0 (sym p ∙ q) in row_room (lent v e s) b k.0.known k.2
+  target_room = let k = (taken_ends (lent v e s) t a b 0).0 (sym p) in row_room (lent v e s) b k.0.known k.2
 
   pub path_back : Searchable e s.held b a
-  path_back = let k = (taken_ends (lent v e s) t a b 0).0 (sym p ∙ q) in searchable (lent v e s) b a k.0.known k.2 k.1
+  path_back = let k = (taken_ends (lent v e s) t a b 0).0 (sym p) in searchable (lent v e s) b a k.0.known k.2 k.1
 
 -- The code asks the definition's tests in the definition's order. So from the tests that it has passed `search chain` proves each answer
 -- of a refusal, and that what it reads next is there. Behind four tests and more it may take `depth 12`.
@@ -180,6 +199,7 @@ pub ruleset chain = (
   answered_no,
   answered_full,
   answered_free,
+  handed_on,
   caller_due,
   caller_free,
   ends_due,
@@ -245,6 +265,11 @@ pub opening_stops :
 unfolding opening
 opening_stops s p q = rw (le-ltb 0 (vertex_rows s.vertices) (omega arith)) refl
 
+pub stopped_opening :
+    (r : Refusal) (v e : List ℕ) (t : Tally) {rows : ℕ} → at_no_place TooFewVertexRows r → rows ≡ vertex_rows v → rows ≡ 0
+    → answered_opening (Err r) v e t ≡ opening (lent v e t)
+stopped_opening r v e t h p q = ap (λ (x : Refusal). answered_opening (Err x) v e t) h ∙ opening_stops (lent v e t) p q
+
 pub opening_opens :
     (s : Lent) {rows : ℕ} → rows ≡ vertex_rows s.vertices → (rows ≡ 0 → ⊥)
     → record { answer = opened; after = opened_tables s } ≡ opening s
@@ -268,6 +293,6 @@ sound_given s p q h = either_skip _ (ap is_start p ∙ q) ∙ h
 
 -- a command other than start that is refused at the door
 pub unsound_outcome :
-    (r : Done) (v e : List ℕ) (t : Tally) (c : Command) → is_start c ≡ false → sound (lent v e t) ≡ false
-    → (said r.answer ≡ CommandSaid.refused unsound_tables 0) × (r.tally ≡ t) → outcome r v e ≡ command c (lent v e t)
-unsound_outcome r v e t c q p h = (λ i. record { answer = h.0 i; after = lent v e (h.1 i) }) ∙ sym (unsound c (lent v e t) q p)
+    {o : Outcome CommandSaid} (v e : List ℕ) (t : Tally) (c : Command) → is_start c ≡ false → sound (lent v e t) ≡ false
+    → o ≡ record { answer = CommandSaid.refused unsound_tables 0; after = lent v e t } → o ≡ command c (lent v e t)
+unsound_outcome v e t c q p h = h ∙ sym (unsound c (lent v e t) q p)

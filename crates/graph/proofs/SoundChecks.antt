@@ -1,33 +1,32 @@
 -- Refusal 12: what each look at the tables tells of it, and the room that sound tables have.
 use Prim.Native.Nat.{ℕ, ◌+◌, ◌*◌, ◌<◌, ◌≤◌}
-use mathlib.Core.Path.{◌≡◌, sym, ◌∙◌}
-use mathlib.Core.Bool.{Bool, true, false, ◌&&◌}
+use mathlib.Core.Path.{◌≡◌, refl, sym, ◌∙◌}
+use mathlib.Core.Bool.{Bool, true, ◌&&◌}
 use mathlib.Core.List.{List}
 use native.Mathlib.Omega.{arith}
 use lib.ListN.{length, get_or}
 use lib.Dec.{leb, ltb}
 use borrow.Author.Tests.{lt-ltb, le-leb, lt-leb, leb-true}
-use Rattle.graph.specs.Tests.{both, every}
+use Rattle.graph.specs.Tests.{every}
 use Rattle.graph.specs.Tables.{Lent, NEW, FINISHED, usable_limit, vertex_words, edge_words, vertex_rows, edge_rows, status, source, target}
 use Rattle.graph.specs.Sound.{tally_fits, status_known, statuses_known, ends_made, edges_made, sound}
 use Rattle.graph.specs.Internal.Search.{search_limit, Rows, Searchable}
 use Rattle.graph.proofs.PathLaws.{holds_at}
 use Rattle.graph.proofs.SoundLaws.{sound_fits}
-use Rattle.graph.proofs.TestLaws.{both_true, both_left, both_right, both-false_left, both-false_right, every_all, every_none, at_end}
+use Rattle.graph.proofs.TestLaws.{both_true, both_left, both_right, both_first, both_second, every_all, every_none, at_end}
 use Rattle.graph.proofs.TestLaws.{every_next, every_next_both, every_pairs}
 
 -- the tally
-pub tally_fits_lem : (v e : List ℕ) (made held : ℕ) → made ≤ vertex_rows v → held ≤ edge_rows e → true ≡ tally_fits v e made held
+pub fits_first :
+    (v e : List ℕ) (made held : ℕ) {rows : ℕ} → rows ≡ vertex_rows v → rows < made → leb made rows ≡ tally_fits v e made held
 unfolding tally_fits
-tally_fits_lem v e made held p q = sym (both_true (le-leb made (vertex_rows v) p) (le-leb held (edge_rows e) q))
+fits_first v e made held p q = rw p (both_first _ (lt-leb made (vertex_rows v) (omega arith)))
 
-pub made_over : (v e : List ℕ) (made held : ℕ) → vertex_rows v < made → false ≡ tally_fits v e made held
+pub fits_second :
+    (v e : List ℕ) (made held : ℕ) {rows rows' : ℕ} → rows ≡ vertex_rows v → made ≤ rows → rows' ≡ edge_rows e
+    → leb held rows' ≡ tally_fits v e made held
 unfolding tally_fits
-made_over v e made held p = sym (both-false_left _ (lt-leb made (vertex_rows v) p))
-
-pub held_over : (v e : List ℕ) (made held : ℕ) → edge_rows e < held → false ≡ tally_fits v e made held
-unfolding tally_fits
-held_over v e made held p = sym (both-false_right _ (lt-leb held (edge_rows e) p))
+fits_second v e made held p q r = rw r (both_second (le-leb made (vertex_rows v) (omega arith)) refl)
 
 -- the statuses
 pub statuses_none : (v : List ℕ) → true ≡ statuses_known v 0
@@ -55,21 +54,6 @@ pub words_all :
     (e : List ℕ) (made : ℕ) {b : Bool} (n i : ℕ) → i ≤ edge_words * n → edge_words * n ≤ i → b ≡ words_made e made i → b ≡ edges_made e made n
 unfolding words_made edges_made ends_made
 words_all e made {b} n i p q h = at_end (λ k. b ≡ words_made e made k) p q h ∙ every_pairs (λ i. ltb (get_or e i 0) made) n
-
--- the three together
-pub unsound_tally : (s : Lent) → tally_fits s.vertices s.edges s.made s.held ≡ false → false ≡ sound s
-unfolding sound
-unsound_tally s h = sym (both-false_left _ h)
-
-pub unsound_statuses : (s : Lent) → statuses_known s.vertices s.made ≡ false → false ≡ sound s
-unfolding sound
-unsound_statuses s h = sym (both-false_right _ (both-false_left _ h))
-
-pub sound_by_edges :
-    (s : Lent) {b : Bool} → tally_fits s.vertices s.edges s.made s.held ≡ true → statuses_known s.vertices s.made ≡ true
-    → b ≡ edges_made s.edges s.made s.held → b ≡ sound s
-unfolding sound both
-sound_by_edges s p q r = rw (p, q) r
 
 -- what the code needs of sound tables
 pub fits_rows : (v e : List ℕ) (made held : ℕ) → tally_fits v e made held ≡ true → (made ≤ vertex_rows v) × (held ≤ edge_rows e)

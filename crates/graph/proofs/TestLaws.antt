@@ -6,8 +6,8 @@ use mathlib.Core.Logic.{◌⊎◌, inl, inr, ⊎_elim, ◌↔◌}
 use native.Mathlib.Nat.{eq-or-lt_of_le, le_of_suc-le-suc}
 use native.Mathlib.Numerals.{add-one}
 use native.Mathlib.Omega.{arith}
-use lib.Dec.{eqb}
-use borrow.Author.Tests.{eqb-true, eqb-false}
+use lib.Dec.{eqb, leb}
+use borrow.Author.Tests.{eqb-true, eqb-false, le-leb, lt-leb}
 use Rattle.graph.specs.Tests.{both, either, every, any, how_many}
 
 pub true-false : {A : Type 0} {b : Bool} → b ≡ true → b ≡ false → A
@@ -64,6 +64,18 @@ unfolding both
 both-false_right true p = p
 both-false_right false p = refl
 
+-- between two bounds, or on one of their sides
+pub inside : (a b n : ℕ) → a ≤ n → n ≤ b → true ≡ both (leb a n) (leb n b)
+inside a b n p q = sym (both_true (le-leb a n p) (le-leb n b q))
+
+pub below : (a b n : ℕ) → n < a → false ≡ both (leb a n) (leb n b)
+below a b n p = sym (both-false_left _ (lt-leb a n p))
+
+pub above : (a b n : ℕ) → b < n → false ≡ both (leb a n) (leb n b)
+above a b n p = sym (both-false_right _ (lt-leb n b p))
+
+pub ruleset in_range = (inside, below, above)
+
 both_turned : (a b c : Bool) → both a (both b c) ≡ both (both b a) c
 unfolding both
 both_turned true true c = refl
@@ -75,6 +87,13 @@ both_skip : {a : Bool} (b : Bool) → a ≡ true → both a b ≡ b
 unfolding both
 both_skip b p = subst (λ (x : Bool). both x b ≡ b) (sym p) refl
 
+-- `a && b` of the code, by the way that it went
+pub both_first : {a : Bool} (b : Bool) → a ≡ false → a ≡ both a b
+both_first b p = p ∙ sym (both-false_left b p)
+
+pub both_second : {a b r : Bool} → a ≡ true → r ≡ b → r ≡ both a b
+both_second p q = q ∙ sym (both_skip _ p)
+
 pub either_left : {a : Bool} (b : Bool) → a ≡ true → either a b ≡ true
 unfolding either
 either_left b p = subst (λ (x : Bool). either x b ≡ true) (sym p) refl
@@ -82,6 +101,13 @@ either_left b p = subst (λ (x : Bool). either x b ≡ true) (sym p) refl
 pub either_skip : {a : Bool} (b : Bool) → a ≡ false → b ≡ either a b
 unfolding either
 either_skip b p = subst (λ (x : Bool). b ≡ either x b) (sym p) refl
+
+-- `a || b` of the code, by the way that it went
+pub either_first : {a : Bool} (b : Bool) → a ≡ true → a ≡ either a b
+either_first b p = p ∙ sym (either_left b p)
+
+pub either_second : {a b r : Bool} → a ≡ false → r ≡ b → r ≡ either a b
+either_second p q = q ∙ either_skip _ p
 
 pub either_right : (a : Bool) {b : Bool} → b ≡ true → either a b ≡ true
 unfolding either

@@ -1,10 +1,11 @@
 -- What a call answers, and the outcome of a call: its answer and what is lent afterwards.
-use Rattle.std.specs.Prelude.{ℕ, zero, suc, Bool, true, false, List}
+use Rattle.std.specs.Prelude.{ℕ, zero, suc, Bool, true, false, List, Result, Ok, Err, ⊤}
+use Rattle.refusal.specs.declared.Reason.{Reason}
+use Rattle.refusal.specs.declared.Refusal.{Refusal}
+use Rattle.refusal.specs.Reasons.{number}
 use Rattle.graph.specs.declared.Answer.{Answer}
 use Rattle.graph.specs.declared.Answer.TheVariants.{Start, New, Edge, Release, Transfer, Stop, Yield, Refused}
 use Rattle.graph.specs.declared.Done.{Done}
-use Rattle.graph.specs.declared.Opening.{Opening}
-use Rattle.graph.specs.declared.Opening.TheVariants as of_opening
 use Rattle.graph.specs.declared.OpenDone.{OpenDone}
 use Rattle.graph.specs.declared.Tally.{Tally}
 use Rattle.graph.specs.Tables.{Lent, lent}
@@ -29,7 +30,7 @@ said (Release v) = CommandSaid.release v
 said (Transfer v) = CommandSaid.transfer v
 said Stop = CommandSaid.stop
 said Yield = CommandSaid.yield
-said (Refused r) = CommandSaid.refused r.number r.place
+said (Refused r) = CommandSaid.refused (number r.reason) r.place
 
 abbrev pub accepted : CommandSaid → Bool
 accepted start = true
@@ -54,16 +55,21 @@ answered a v e t = record { answer = said a; after = lent v e t }
 abbrev pub outcome : Done → List ℕ → List ℕ → Outcome CommandSaid
 outcome r v e = answered r.answer v e r.tally
 
+-- the outcome of a command that gives its reason where it is refused, at no place in the program
+abbrev pub tried : Result Done Reason → Tally → List ℕ → List ℕ → Outcome CommandSaid
+tried (Ok r) t v e = outcome r v e
+tried (Err n) t v e = record { answer = CommandSaid.refused (number n) 0; after = lent v e t }
+
 -- What the opening says, and its outcome: the same, for an answer of its own.
 pub data OpeningSaid : Type 0 where
   opened : OpeningSaid
   opening_refused : ℕ → ℕ → OpeningSaid
 
-abbrev pub opening_said : Opening → OpeningSaid
-opening_said of_opening.Opened = opened
-opening_said (of_opening.Refused r) = opening_refused r.number r.place
+abbrev pub opening_said : Result ⊤ Refusal → OpeningSaid
+opening_said (Ok u) = opened
+opening_said (Err r) = opening_refused (number r.reason) r.place
 
-abbrev pub answered_opening : Opening → List ℕ → List ℕ → Tally → Outcome OpeningSaid
+abbrev pub answered_opening : Result ⊤ Refusal → List ℕ → List ℕ → Tally → Outcome OpeningSaid
 answered_opening a v e t = record { answer = opening_said a; after = lent v e t }
 
 abbrev pub opening_outcome : OpenDone → List ℕ → List ℕ → Outcome OpeningSaid

@@ -9,9 +9,11 @@
 --     Rules      the rules of the dag-calculus, as the slides and the article print them
 --     InCounts   the word that start reads: when it is true, and the full search that it stands for
 --     Demand2    the words in which demand 2 is stated of a single command, and the reasons of its refusals
+--     Theorems   the theorems, which the functions of src/laws.rt promise
 -- Nobody has to believe what stands in Internal: contracts of private functions cite it.
 pub mod Tests
 pub mod Tables
+pub mod OfTables
 pub mod Answers
 pub mod Sound
 pub mod Paths
@@ -20,3 +22,4 @@ pub mod Rules
 pub mod InCounts
 pub mod Demand2
 pub mod Internal
+pub mod Theorems

@@ -1,33 +1,33 @@
 // The opening and the seven commands, with the tally by value. Each looks for the first refusal that is due, and stores only where there
 // is none.
-ghost use Rattle.std.specs.Prelude.{◌≡◌, true};
+ghost use Rattle.std.specs.Prelude.{◌≡◌, true, ℕ, List};
 ghost use Rattle.graph.specs.Tables.{lent};
 ghost use Rattle.graph.specs.Sound.{sound};
-ghost use Rattle.graph.specs.Answers.{CommandSaid, said, outcome, opening_outcome};
+ghost use Rattle.graph.specs.Answers.{outcome, tried, opening_outcome};
 ghost use Rattle.graph.specs.Tests.{either};
 ghost use Rattle.graph.specs.Internal.Checks.{is_start};
 ghost use Rattle.graph.specs.Commands.{opening, new_td, new_edge, release, transfer, start, stop, yield, command};
 
 use crate::edges::{drop_edges, move_sources};
-use crate::refusals::{
-    ACCEPTED, adds_nothing, append_refusal, ends_refusal, new_td_refusal, release_refusal,
-    start_refusal, stop_refusal, transfer_refusal, yield_refusal,
-};
+use crate::refusals::{append_refusal, start_refusal};
 use crate::rows::{
     EDGE_WORDS, EXECUTING, FINISHED, FUTURE, RELEASED, VERTEX_WORDS, append_edge, clear, edge_rows,
     make_row, more_into, set_status, vertex_rows,
 };
-use crate::sound::is_sound;
-use crate::{Answer, Command, Done, OpenDone, Opening, Tally};
-use refusal::{Refusal, TOO_FEW_VERTEX_ROWS, UNSOUND_TABLES};
+use crate::sound::{SoundTables, is_sound};
+use crate::{Answer, Command, Done, OpenDone, Tally};
+use refusal::Reason;
 
-// A refused command: the tally is as it was.
-fn refused(number: u32, tally: Tally) -> Done
-    ensures { (said result.answer ≡ CommandSaid.refused number 0) × (result.tally ≡ tally) }
+// What was tried, as a call gives it: a refused command leaves the tally as it was.
+fn settled(attempt: Result<Done, Reason>, tally: Tally) -> Done
+    ensures { (v e : List ℕ) → outcome result v e ≡ tried attempt tally v e }
 {
-    Done {
-        answer: Answer::Refused(Refusal { number, place: 0 }),
-        tally,
+    match attempt {
+        Ok(done) => done,
+        Err(reason) => Done {
+            answer: Answer::Refused(reason.into()),
+            tally,
+        },
     }
 }
 
@@ -38,10 +38,7 @@ pub fn open_by_value(vertices: &mut [u32], edges: &mut [u32], tally: Tally) -> O
     let rows = vertex_rows(vertices);
     if rows == 0 {
         return OpenDone {
-            answer: Opening::Refused(Refusal {
-                number: TOO_FEW_VERTEX_ROWS,
-                place: 0,
-            }),
+            answer: Err(Reason::TooFewVertexRows.into()),
             tally,
         };
     }
@@ -50,7 +47,7 @@ pub fn open_by_value(vertices: &mut [u32], edges: &mut [u32], tally: Tally) -> O
     let edge_rows = edge_rows(edges);
     clear(edges, 0, EDGE_WORDS * edge_rows);
     OpenDone {
-        answer: Opening::Opened,
+        answer: Ok(()),
         tally: Tally {
             made: 1,
             held: 0,
@@ -67,25 +64,26 @@ fn new_td(
     caller: u32,
     place: u32,
     scope: u32,
-) -> Done
+) -> Result<Done, Reason>
     requires { sound (lent vertices.old edges.now tally) ≡ true }
-    ensures { outcome result vertices.new edges.now ≡ new_td (lent vertices.old edges.now tally) caller place scope }
+    ensures { tried result tally vertices.new edges.now ≡ new_td (lent vertices.old edges.now tally) caller place scope }
 {
-    let refusal = new_td_refusal(vertices, edges, tally, caller);
-    if refusal != ACCEPTED {
-        return refused(refusal, tally);
+    SoundTables {
+        vertices,
+        edges,
+        tally,
     }
+    .new_td_refusal(caller)?;
     let made = tally.made;
     let future = vertices[VERTEX_WORDS * (caller as usize) + FUTURE];
     make_row(vertices, made as usize, place, scope, future);
-    Done {
+    Ok(Done {
         answer: Answer::New(made),
         tally: Tally {
             made: made + 1,
-            held: tally.held,
-            steps: tally.steps,
+            ..tally
         },
-    }
+    })
 }
 
 // Adds the edge from `source` to `target`. Out of a finished vertex, or held already, it adds nothing and is accepted.
@@ -96,119 +94,150 @@ fn new_edge(
     caller: u32,
     source: u32,
     target: u32,
-) -> Done
+) -> Result<Done, Reason>
     requires { sound (lent vertices.old edges.old tally) ≡ true }
-    ensures { outcome result vertices.new edges.new ≡ new_edge (lent vertices.old edges.old tally) caller source target }
+    ensures { tried result tally vertices.new edges.new ≡ new_edge (lent vertices.old edges.old tally) caller source target }
 {
-    let first = ends_refusal(vertices, edges, tally, caller, source, target);
-    if first != ACCEPTED {
-        return refused(first, tally);
-    }
-    if adds_nothing(vertices, edges, tally, source, target) {
-        return Done {
+    let tables = SoundTables {
+        vertices,
+        edges,
+        tally,
+    };
+    tables.ends_refusal(caller, source, target)?;
+    if tables.adds_nothing(source, target) {
+        return Ok(Done {
             answer: Answer::Edge(source, target),
             tally,
-        };
+        });
     }
     let held = tally.held;
-    let last = append_refusal(edges, held as usize, source, target);
-    if last != ACCEPTED {
-        return refused(last, tally);
-    }
+    append_refusal(edges, held as usize, source, target)?;
     append_edge(edges, held as usize, source, target);
     more_into(vertices, target as usize);
-    Done {
+    Ok(Done {
         answer: Answer::Edge(source, target),
         tally: Tally {
-            made: tally.made,
             held: held + 1,
-            steps: tally.steps,
+            ..tally
         },
-    }
+    })
 }
 
 // Turns a new vertex released.
-fn release(vertices: &mut [u32], edges: &[u32], tally: Tally, caller: u32, vertex: u32) -> Done
+fn release(
+    vertices: &mut [u32],
+    edges: &[u32],
+    tally: Tally,
+    caller: u32,
+    vertex: u32,
+) -> Result<Done, Reason>
     requires { sound (lent vertices.old edges.now tally) ≡ true }
-    ensures { outcome result vertices.new edges.now ≡ release (lent vertices.old edges.now tally) caller vertex }
+    ensures { tried result tally vertices.new edges.now ≡ release (lent vertices.old edges.now tally) caller vertex }
 {
-    let refusal = release_refusal(vertices, edges, tally, caller, vertex);
-    if refusal != ACCEPTED {
-        return refused(refusal, tally);
-    }
-    set_status(vertices, vertex as usize, RELEASED);
-    Done {
-        answer: Answer::Release(vertex),
+    SoundTables {
+        vertices,
+        edges,
         tally,
     }
+    .release_refusal(caller, vertex)?;
+    set_status(vertices, vertex as usize, RELEASED);
+    Ok(Done {
+        answer: Answer::Release(vertex),
+        tally,
+    })
 }
 
 // Gives each edge out of `caller` the source `vertex`, which is new and has no edge out.
-fn transfer(vertices: &[u32], edges: &mut [u32], tally: Tally, caller: u32, vertex: u32) -> Done
+fn transfer(
+    vertices: &[u32],
+    edges: &mut [u32],
+    tally: Tally,
+    caller: u32,
+    vertex: u32,
+) -> Result<Done, Reason>
     requires { sound (lent vertices.now edges.old tally) ≡ true }
-    ensures { outcome result vertices.now edges.new ≡ transfer (lent vertices.now edges.old tally) caller vertex }
+    ensures { tried result tally vertices.now edges.new ≡ transfer (lent vertices.now edges.old tally) caller vertex }
 {
-    let refusal = transfer_refusal(vertices, edges, tally, caller, vertex);
-    if refusal != ACCEPTED {
-        return refused(refusal, tally);
-    }
-    move_sources(edges, tally.held as usize, caller, vertex);
-    Done {
-        answer: Answer::Transfer(vertex),
+    SoundTables {
+        vertices,
+        edges,
         tally,
     }
+    .transfer_refusal(caller, vertex)?;
+    move_sources(edges, tally.held as usize, caller, vertex);
+    Ok(Done {
+        answer: Answer::Transfer(vertex),
+        tally,
+    })
 }
 
 // Turns a released vertex with no edge into it executing. It looks for 12 itself.
-pub fn start(vertices: &mut [u32], edges: &[u32], tally: Tally, vertex: u32) -> Done
-    ensures { outcome result vertices.new edges.now ≡ start (lent vertices.old edges.now tally) vertex }
+fn start_vertex(
+    vertices: &mut [u32],
+    edges: &[u32],
+    tally: Tally,
+    vertex: u32,
+) -> Result<Done, Reason>
+    ensures { tried result tally vertices.new edges.now ≡ start (lent vertices.old edges.now tally) vertex }
 {
-    let refusal = start_refusal(vertices, edges, tally, vertex);
-    if refusal != ACCEPTED {
-        return refused(refusal, tally);
-    }
+    start_refusal(vertices, edges, tally, vertex)?;
     set_status(vertices, vertex as usize, EXECUTING);
-    Done {
+    Ok(Done {
         answer: Answer::Start,
         tally,
-    }
+    })
 }
 
 // Finishes `caller` and drops its edges out.
-fn stop(vertices: &mut [u32], edges: &mut [u32], tally: Tally, caller: u32) -> Done
+fn stop(vertices: &mut [u32], edges: &mut [u32], tally: Tally, caller: u32) -> Result<Done, Reason>
     requires { sound (lent vertices.old edges.old tally) ≡ true }
-    ensures { outcome result vertices.new edges.new ≡ stop (lent vertices.old edges.old tally) caller }
+    ensures { tried result tally vertices.new edges.new ≡ stop (lent vertices.old edges.old tally) caller }
 {
-    let refusal = stop_refusal(vertices, edges, tally, caller);
-    if refusal != ACCEPTED {
-        return refused(refusal, tally);
+    SoundTables {
+        vertices,
+        edges,
+        tally,
     }
+    .stop_or_yield_refusal(caller)?;
     set_status(vertices, caller as usize, FINISHED);
     let kept = drop_edges(vertices, edges, tally.held as usize, caller);
-    Done {
+    Ok(Done {
         answer: Answer::Stop,
         tally: Tally {
-            made: tally.made,
             held: kept as u32,
-            steps: tally.steps,
+            ..tally
         },
-    }
+    })
 }
 
 // Turns `caller` released, so that it can start again. Its edges stay.
-fn yield_caller(vertices: &mut [u32], edges: &[u32], tally: Tally, caller: u32) -> Done
+fn yield_caller(
+    vertices: &mut [u32],
+    edges: &[u32],
+    tally: Tally,
+    caller: u32,
+) -> Result<Done, Reason>
     requires { sound (lent vertices.old edges.now tally) ≡ true }
-    ensures { outcome result vertices.new edges.now ≡ yield (lent vertices.old edges.now tally) caller }
+    ensures { tried result tally vertices.new edges.now ≡ yield (lent vertices.old edges.now tally) caller }
 {
-    let refusal = yield_refusal(vertices, edges, tally, caller);
-    if refusal != ACCEPTED {
-        return refused(refusal, tally);
-    }
-    set_status(vertices, caller as usize, RELEASED);
-    Done {
-        answer: Answer::Yield,
+    SoundTables {
+        vertices,
+        edges,
         tally,
     }
+    .stop_or_yield_refusal(caller)?;
+    set_status(vertices, caller as usize, RELEASED);
+    Ok(Done {
+        answer: Answer::Yield,
+        tally,
+    })
+}
+
+// The same, as a call.
+pub fn start(vertices: &mut [u32], edges: &[u32], tally: Tally, vertex: u32) -> Done
+    ensures { outcome result vertices.new edges.now ≡ start (lent vertices.old edges.now tally) vertex }
+{
+    settled(start_vertex(vertices, edges, tally, vertex), tally)
 }
 
 // Any single command.
@@ -220,10 +249,8 @@ pub fn command_by_value(
 ) -> Done
     ensures { outcome result vertices.new edges.new ≡ command given (lent vertices.old edges.old tally) }
 {
-    if !is_start(given) {
-        if !is_sound(vertices, edges, tally) {
-            return refused(UNSOUND_TABLES, tally);
-        }
+    if !is_start(given) && !is_sound(vertices, edges, tally) {
+        return settled(Err(Reason::UnsoundTables), tally);
     }
     command_checked(vertices, edges, tally, given)
 }
@@ -231,23 +258,7 @@ pub fn command_by_value(
 fn is_start(given: Command) -> bool
     ensures { result ≡ is_start given }
 {
-    match given {
-        Command::Start { vertex } => true,
-        Command::NewTd {
-            caller,
-            place,
-            scope,
-        } => false,
-        Command::NewEdge {
-            caller,
-            source,
-            target,
-        } => false,
-        Command::Release { caller, vertex } => false,
-        Command::Transfer { caller, vertex } => false,
-        Command::Stop { caller } => false,
-        Command::Yield { caller } => false,
-    }
+    matches!(given, Command::Start { .. })
 }
 
 // The same where a start is given, or the tables are known to be sound.
@@ -259,6 +270,18 @@ pub fn command_checked(
 ) -> Done
     requires { either (is_start given) (sound (lent vertices.old edges.old tally)) ≡ true }
     ensures { outcome result vertices.new edges.new ≡ command given (lent vertices.old edges.old tally) }
+{
+    settled(checked(vertices, edges, tally, given), tally)
+}
+
+fn checked(
+    vertices: &mut [u32],
+    edges: &mut [u32],
+    tally: Tally,
+    given: Command,
+) -> Result<Done, Reason>
+    requires { either (is_start given) (sound (lent vertices.old edges.old tally)) ≡ true }
+    ensures { tried result tally vertices.new edges.new ≡ command given (lent vertices.old edges.old tally) }
 {
     match given {
         Command::NewTd {
@@ -273,7 +296,7 @@ pub fn command_checked(
         } => new_edge(vertices, edges, tally, caller, source, target),
         Command::Release { caller, vertex } => release(vertices, edges, tally, caller, vertex),
         Command::Transfer { caller, vertex } => transfer(vertices, edges, tally, caller, vertex),
-        Command::Start { vertex } => start(vertices, edges, tally, vertex),
+        Command::Start { vertex } => start_vertex(vertices, edges, tally, vertex),
         Command::Stop { caller } => stop(vertices, edges, tally, caller),
         Command::Yield { caller } => yield_caller(vertices, edges, tally, caller),
     }

@@ -5,9 +5,10 @@ ghost use Rattle.graph.specs.Answers.{answered, answered_opening};
 ghost use Rattle.graph.specs.Commands.{opening, command};
 
 use crate::commands::{command_by_value, open_by_value};
-use crate::{Answer, Command, Opening, Tally};
+use crate::{Answer, Command, Tally};
+use refusal::Refusal;
 
-pub fn open(vertices: &mut [u32], edges: &mut [u32], tally: &mut Tally) -> Opening
+pub fn open(vertices: &mut [u32], edges: &mut [u32], tally: &mut Tally) -> Result<(), Refusal>
     ensures { answered_opening result vertices.new edges.new tally.new ≡ opening (lent vertices.old edges.old tally.old) }
 {
     let before = *tally;

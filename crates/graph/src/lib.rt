@@ -5,9 +5,13 @@
 // definition of specs/.
 #![tactic(auto)]
 
+ghost use Rattle.std.specs.Prelude.{◌≡◌, not};
+ghost use Rattle.graph.specs.Answers.{said, accepted};
+
 pub mod commands;
 mod edges;
 pub mod entry;
+pub mod laws;
 pub mod paths;
 pub mod refusals;
 pub mod rows;
@@ -17,7 +21,7 @@ use refusal::Refusal;
 
 // The tally: how much of the tables is in use. Single commands leave `steps` alone.
 #[repr(C)]
-#[derive(Clone, Copy)]
+#[derive(Clone, Copy, Debug, PartialEq, Eq)]
 pub struct Tally {
     pub made: u32,
     pub held: u32,
@@ -25,7 +29,7 @@ pub struct Tally {
 }
 
 // A single command, with the vertices that it names.
-#[derive(Clone, Copy)]
+#[derive(Clone, Copy, Debug, PartialEq, Eq)]
 pub enum Command {
     NewTd {
         caller: u32,
@@ -56,22 +60,15 @@ pub enum Command {
     },
 }
 
-// What the opening answers.
-#[derive(Clone, Copy)]
-pub enum Opening {
-    Opened,
-    Refused(Refusal),
-}
-
 // The result of the opening: its answer, and the tally afterwards.
-#[derive(Clone, Copy)]
+#[derive(Clone, Copy, Debug, PartialEq, Eq)]
 pub struct OpenDone {
-    pub answer: Opening,
+    pub answer: Result<(), Refusal>,
     pub tally: Tally,
 }
 
 // What a single command answers.
-#[derive(Clone, Copy)]
+#[derive(Clone, Copy, Debug, PartialEq, Eq)]
 pub enum Answer {
     Start,
     New(u32),
@@ -83,8 +80,16 @@ pub enum Answer {
     Refused(Refusal),
 }
 
+impl Answer {
+    pub fn is_refused(&self) -> bool
+        ensures { result ≡ not (accepted (said self.now)) }
+    {
+        matches!(self, Answer::Refused(_))
+    }
+}
+
 // The result of a command: its answer, and the tally afterwards.
-#[derive(Clone, Copy)]
+#[derive(Clone, Copy, Debug, PartialEq, Eq)]
 pub struct Done {
     pub answer: Answer,
     pub tally: Tally,

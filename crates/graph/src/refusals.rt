@@ -1,7 +1,9 @@
 // Which refusal is due first, for each command on sound tables. Unsound ones are refused at the door (`commands::command_by_value`, or a
 // step); start alone looks for 12 itself.
 ghost use Rattle.std.specs.Prelude.{◌≡◌, true, ◌<◌, eqb};
+ghost use Rattle.refusal.specs.Reasons.{due_number};
 ghost use Rattle.graph.specs.Tests.{either};
+ghost use Rattle.graph.specs.OfTables.{lent_of};
 ghost use Rattle.graph.specs.Tables.{lent, NEW, RELEASED};
 ghost use Rattle.graph.specs.Sound.{sound};
 ghost use Rattle.graph.specs.Paths.{reaches};
@@ -16,60 +18,109 @@ use crate::rows::{
     EXECUTING, FINISHED, IN_COUNT, NEW, RELEASED, SOURCE, STATUS, VERTEX_WORDS, edge_rows,
     vertex_rows,
 };
-use crate::sound::{is_status, tally_fits};
-use refusal::{
-    CALLER_NOT_EXECUTING, CLOSES_CYCLE, EDGE_LEADS_IN, NO_EDGE_ROW, NO_SUCH_VERTEX, NO_VERTEX_ROW,
-    RELEASE_NOT_NEW, TARGET_NOT_WAITING, TRANSFER_HAS_EDGE_OUT, TRANSFER_NOT_NEW, UNSOUND_TABLES,
-    VERTEX_IS_EXECUTING, VERTEX_IS_FINISHED, VERTEX_IS_NEW,
-};
+use crate::sound::{SoundTables, is_status, tally_fits};
+use refusal::Reason;
 
-// No refusal is due.
-pub const ACCEPTED: u32 = 0;
+impl<'a> SoundTables<'a> {
+    // 20 and 30 of a command of `caller` that names `a` and `b` besides.
+    fn caller_refusal(&self, caller: u32, a: u32, b: u32) -> Result<(), Reason>
+        ensures { due_number result ≡ caller_refusal (lent_of self.now) caller a b 0 }
+    {
+        let made = self.tally.made;
+        if made <= caller || made <= a || made <= b {
+            return Err(Reason::NoSuchVertex);
+        }
+        if self.vertices[VERTEX_WORDS * (caller as usize) + STATUS] != EXECUTING {
+            return Err(Reason::CallerNotExecuting);
+        }
+        Ok(())
+    }
 
-// 20 and 30 of a command of `caller` that names `a` and `b` besides.
-fn caller_refusal(vertices: &[u32], edges: &[u32], tally: Tally, caller: u32, a: u32, b: u32) -> u32
-    requires { sound (lent vertices.now edges.now tally) ≡ true }
-    ensures { result ≡ caller_refusal (lent vertices.now edges.now tally) caller a b 0 }
-{
-    let made = tally.made;
-    if made <= caller {
-        return NO_SUCH_VERTEX;
+    // newTd: 20, 30, 31.
+    pub fn new_td_refusal(&self, caller: u32) -> Result<(), Reason>
+        ensures { due_number result ≡ new_td_refusal (lent_of self.now) caller }
+    {
+        self.caller_refusal(caller, caller, caller)?;
+        if vertex_rows(self.vertices) <= self.tally.made as usize {
+            return Err(Reason::NoVertexRow);
+        }
+        Ok(())
     }
-    if made <= a {
-        return NO_SUCH_VERTEX;
-    }
-    if made <= b {
-        return NO_SUCH_VERTEX;
-    }
-    if vertices[VERTEX_WORDS * (caller as usize) + STATUS] != EXECUTING {
-        return CALLER_NOT_EXECUTING;
-    }
-    ACCEPTED
-}
 
-// newTd: 20, 30, 31.
-pub fn new_td_refusal(vertices: &[u32], edges: &[u32], tally: Tally, caller: u32) -> u32
-    requires { sound (lent vertices.now edges.now tally) ≡ true }
-    ensures { result ≡ new_td_refusal (lent vertices.now edges.now tally) caller }
-{
-    let first = caller_refusal(vertices, edges, tally, caller, caller, caller);
-    if first != ACCEPTED {
-        return first;
+    // newEdge's refusals that its caller and its ends cause: 20, 30, 33, which spares the caller.
+    pub(crate) fn ends_refusal(&self, caller: u32, source: u32, target: u32) -> Result<(), Reason>
+        ensures { due_number result ≡ ends_refusal (lent_of self.now) caller source target 0 }
+    {
+        self.caller_refusal(caller, source, target)?;
+        if waits(self.vertices[VERTEX_WORDS * (target as usize) + STATUS]) || target == caller {
+            return Ok(());
+        }
+        Err(Reason::TargetNotWaiting)
     }
-    if vertex_rows(vertices) <= tally.made as usize {
-        return NO_VERTEX_ROW;
+
+    // An edge from `source` to `target` adds nothing: its source is finished, or it is held already.
+    pub(crate) fn adds_nothing(&self, source: u32, target: u32) -> bool
+        requires { source < self.now.tally.made }
+        ensures { result ≡ adds_nothing (lent_of self.now) source target }
+    {
+        self.vertices[VERTEX_WORDS * (source as usize) + STATUS] == FINISHED
+            || is_held(self.edges, self.tally.held as usize, source, target)
     }
-    ACCEPTED
+
+    // newEdge: 20, 30, 33, then none for an edge that adds nothing, 35, 32.
+    pub fn new_edge_refusal(&self, caller: u32, source: u32, target: u32) -> Result<(), Reason>
+        ensures { due_number result ≡ new_edge_refusal (lent_of self.now) caller source target }
+    {
+        self.ends_refusal(caller, source, target)?;
+        if self.adds_nothing(source, target) {
+            return Ok(());
+        }
+        append_refusal(self.edges, self.tally.held as usize, source, target)
+    }
+
+    // release: 20, 30, 36.
+    pub fn release_refusal(&self, caller: u32, vertex: u32) -> Result<(), Reason>
+        ensures { due_number result ≡ release_refusal (lent_of self.now) caller vertex }
+    {
+        self.caller_refusal(caller, vertex, vertex)?;
+        if self.vertices[VERTEX_WORDS * (vertex as usize) + STATUS] != NEW {
+            return Err(Reason::ReleaseNotNew);
+        }
+        Ok(())
+    }
+
+    // transfer: 20, 30, 37, 38, 35.
+    pub fn transfer_refusal(&self, caller: u32, vertex: u32) -> Result<(), Reason>
+        ensures { due_number result ≡ transfer_refusal (lent_of self.now) caller vertex }
+    {
+        let held = self.tally.held as usize;
+        self.caller_refusal(caller, vertex, vertex)?;
+        if self.vertices[VERTEX_WORDS * (vertex as usize) + STATUS] != NEW {
+            return Err(Reason::TransferNotNew);
+        }
+        if leads(self.edges, held, SOURCE, vertex) {
+            return Err(Reason::TransferHasEdgeOut);
+        }
+        if reaches(self.edges, held, caller, vertex) {
+            return Err(Reason::ClosesCycle);
+        }
+        Ok(())
+    }
+
+    // stop and yield, which refuse alike: 20, 30.
+    pub fn stop_or_yield_refusal(&self, caller: u32) -> Result<(), Reason>
+        ensures stop { due_number result ≡ stop_refusal (lent_of self.now) caller }
+        ensures yields { due_number result ≡ yield_refusal (lent_of self.now) caller }
+    {
+        self.caller_refusal(caller, caller, caller)
+    }
 }
 
 // A vertex of this status may get an edge in, whoever calls.
 fn waits(status: u32) -> bool
     ensures { result ≡ either (eqb status NEW) (eqb status RELEASED) }
 {
-    if status == NEW {
-        return true;
-    }
-    status == RELEASED
+    status == NEW || status == RELEASED
 }
 
 // An edge from `source` to `target` would close a cycle.
@@ -77,181 +128,59 @@ fn closes_cycle(edges: &[u32], held: usize, source: u32, target: u32) -> bool
     requires { Searchable edges.now held target source }
     ensures { result ≡ either (eqb source target) (reaches edges.now held target source) }
 {
-    if source == target {
-        return true;
-    }
-    reaches(edges, held, target, source)
-}
-
-// newEdge's refusals that its caller and its ends cause: 20, 30, 33, which spares the caller.
-pub(crate) fn ends_refusal(
-    vertices: &[u32],
-    edges: &[u32],
-    tally: Tally,
-    caller: u32,
-    source: u32,
-    target: u32,
-) -> u32
-    requires { sound (lent vertices.now edges.now tally) ≡ true }
-    ensures { result ≡ ends_refusal (lent vertices.now edges.now tally) caller source target 0 }
-{
-    let first = caller_refusal(vertices, edges, tally, caller, source, target);
-    if first != ACCEPTED {
-        return first;
-    }
-    if waits(vertices[VERTEX_WORDS * (target as usize) + STATUS]) {
-        return ACCEPTED;
-    }
-    if target == caller {
-        return ACCEPTED;
-    }
-    TARGET_NOT_WAITING
-}
-
-// An edge from `source` to `target` adds nothing: its source is finished, or it is held already.
-pub(crate) fn adds_nothing(
-    vertices: &[u32],
-    edges: &[u32],
-    tally: Tally,
-    source: u32,
-    target: u32,
-) -> bool
-    requires { (sound (lent vertices.now edges.now tally) ≡ true) × (source < tally.made) }
-    ensures { result ≡ adds_nothing (lent vertices.now edges.now tally) source target }
-{
-    if vertices[VERTEX_WORDS * (source as usize) + STATUS] == FINISHED {
-        return true;
-    }
-    is_held(edges, tally.held as usize, source, target)
+    source == target || reaches(edges, held, target, source)
 }
 
 // The refusals of an edge that is to be appended: 35, 32.
-pub(crate) fn append_refusal(edges: &[u32], held: usize, source: u32, target: u32) -> u32
-    requires { Searchable edges.now held target source }
-    ensures { result ≡ append_refusal edges.now held source target }
-{
-    if closes_cycle(edges, held, source, target) {
-        return CLOSES_CYCLE;
-    }
-    if edge_rows(edges) <= held {
-        return NO_EDGE_ROW;
-    }
-    ACCEPTED
-}
-
-// newEdge: 20, 30, 33, then none for an edge that adds nothing, 35, 32.
-pub fn new_edge_refusal(
-    vertices: &[u32],
+pub(crate) fn append_refusal(
     edges: &[u32],
-    tally: Tally,
-    caller: u32,
+    held: usize,
     source: u32,
     target: u32,
-) -> u32
-    requires { sound (lent vertices.now edges.now tally) ≡ true }
-    ensures { result ≡ new_edge_refusal (lent vertices.now edges.now tally) caller source target }
+) -> Result<(), Reason>
+    requires { Searchable edges.now held target source }
+    ensures { due_number result ≡ append_refusal edges.now held source target }
 {
-    let first = ends_refusal(vertices, edges, tally, caller, source, target);
-    if first != ACCEPTED {
-        return first;
+    if closes_cycle(edges, held, source, target) {
+        return Err(Reason::ClosesCycle);
     }
-    if adds_nothing(vertices, edges, tally, source, target) {
-        return ACCEPTED;
+    if edge_rows(edges) <= held {
+        return Err(Reason::NoEdgeRow);
     }
-    append_refusal(edges, tally.held as usize, source, target)
-}
-
-// release: 20, 30, 36.
-pub fn release_refusal(
-    vertices: &[u32],
-    edges: &[u32],
-    tally: Tally,
-    caller: u32,
-    vertex: u32,
-) -> u32
-    requires { sound (lent vertices.now edges.now tally) ≡ true }
-    ensures { result ≡ release_refusal (lent vertices.now edges.now tally) caller vertex }
-{
-    let first = caller_refusal(vertices, edges, tally, caller, vertex, vertex);
-    if first != ACCEPTED {
-        return first;
-    }
-    if vertices[VERTEX_WORDS * (vertex as usize) + STATUS] != NEW {
-        return RELEASE_NOT_NEW;
-    }
-    ACCEPTED
-}
-
-// transfer: 20, 30, 37, 38, 35.
-pub fn transfer_refusal(
-    vertices: &[u32],
-    edges: &[u32],
-    tally: Tally,
-    caller: u32,
-    vertex: u32,
-) -> u32
-    requires { sound (lent vertices.now edges.now tally) ≡ true }
-    ensures { result ≡ transfer_refusal (lent vertices.now edges.now tally) caller vertex }
-{
-    let held = tally.held as usize;
-    let first = caller_refusal(vertices, edges, tally, caller, vertex, vertex);
-    if first != ACCEPTED {
-        return first;
-    }
-    if vertices[VERTEX_WORDS * (vertex as usize) + STATUS] != NEW {
-        return TRANSFER_NOT_NEW;
-    }
-    if leads(edges, held, SOURCE, vertex) {
-        return TRANSFER_HAS_EDGE_OUT;
-    }
-    if reaches(edges, held, caller, vertex) {
-        return CLOSES_CYCLE;
-    }
-    ACCEPTED
+    Ok(())
 }
 
 // start, on any tables: 12 by the tally, 20, 12 by the vertex's status, 22, 39, 23, 21.
-pub fn start_refusal(vertices: &[u32], edges: &[u32], tally: Tally, vertex: u32) -> u32
-    ensures { result ≡ start_refusal (lent vertices.now edges.now tally) vertex }
+pub fn start_refusal(
+    vertices: &[u32],
+    edges: &[u32],
+    tally: Tally,
+    vertex: u32,
+) -> Result<(), Reason>
+    ensures { due_number result ≡ start_refusal (lent vertices.now edges.now tally) vertex }
 {
     let made = tally.made;
     if !tally_fits(vertices, edges, made, tally.held) {
-        return UNSOUND_TABLES;
+        return Err(Reason::UnsoundTables);
     }
     if made <= vertex {
-        return NO_SUCH_VERTEX;
+        return Err(Reason::NoSuchVertex);
     }
     let status = vertices[VERTEX_WORDS * (vertex as usize) + STATUS];
     if !is_status(status) {
-        return UNSOUND_TABLES;
+        return Err(Reason::UnsoundTables);
     }
     if status == NEW {
-        return VERTEX_IS_NEW;
+        return Err(Reason::VertexIsNew);
     }
     if status == EXECUTING {
-        return VERTEX_IS_EXECUTING;
+        return Err(Reason::VertexIsExecuting);
     }
     if status == FINISHED {
-        return VERTEX_IS_FINISHED;
+        return Err(Reason::VertexIsFinished);
     }
     if vertices[VERTEX_WORDS * (vertex as usize) + IN_COUNT] != 0 {
-        return EDGE_LEADS_IN;
+        return Err(Reason::EdgeLeadsIn);
     }
-    ACCEPTED
-}
-
-// stop: 20, 30.
-pub fn stop_refusal(vertices: &[u32], edges: &[u32], tally: Tally, caller: u32) -> u32
-    requires { sound (lent vertices.now edges.now tally) ≡ true }
-    ensures { result ≡ stop_refusal (lent vertices.now edges.now tally) caller }
-{
-    caller_refusal(vertices, edges, tally, caller, caller, caller)
-}
-
-// yield: 20, 30.
-pub fn yield_refusal(vertices: &[u32], edges: &[u32], tally: Tally, caller: u32) -> u32
-    requires { sound (lent vertices.now edges.now tally) ≡ true }
-    ensures { result ≡ yield_refusal (lent vertices.now edges.now tally) caller }
-{
-    caller_refusal(vertices, edges, tally, caller, caller, caller)
+    Ok(())
 }

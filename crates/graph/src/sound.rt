@@ -1,5 +1,5 @@
 // Refusal 12: whether lent tables and tally can be those of a task graph at all.
-ghost use Rattle.std.specs.Prelude.{◌≡◌, ◌*◌, ◌≤◌, length, leb};
+ghost use Rattle.std.specs.Prelude.{◌≡◌, true, ◌*◌, ◌≤◌, length, leb};
 ghost use Rattle.graph.specs.Tests.{both};
 ghost use Rattle.graph.specs.Tables.{vertex_words, edge_words, lent, NEW, FINISHED};
 ghost use Rattle.graph.specs.Sound.{tally_fits, statuses_known, edges_made, sound};
@@ -13,22 +13,14 @@ use crate::rows::{
 pub fn tally_fits(vertices: &[u32], edges: &[u32], made: u32, held: u32) -> bool
     ensures { result ≡ tally_fits vertices.now edges.now made held }
 {
-    if vertex_rows(vertices) < made as usize {
-        return false;
-    }
-    if edge_rows(edges) < held as usize {
-        return false;
-    }
-    true
+    made as usize <= vertex_rows(vertices) && held as usize <= edge_rows(edges)
 }
 
+#[tactic(auto, using(crate::proofs::TestLaws::in_range), unfolding(crate::specs::Tests::both))]
 pub(crate) fn is_status(status: u32) -> bool
     ensures { result ≡ both (leb NEW status) (leb status FINISHED) }
 {
-    if status < NEW {
-        return false;
-    }
-    status <= FINISHED
+    matches!(status, NEW..=FINISHED)
 }
 
 // Each made vertex has one of the four statuses. Here and in `edges_made` no row ends the loop: such a loop is compiled to look at several rows
@@ -61,13 +53,17 @@ pub(crate) fn edges_made(edges: &[u32], made: u32, held: usize) -> bool
 pub fn is_sound(vertices: &[u32], edges: &[u32], tally: Tally) -> bool
     ensures { result ≡ sound (lent vertices.now edges.now tally) }
 {
-    let made = tally.made;
-    let held = tally.held;
-    if !tally_fits(vertices, edges, made, held) {
-        return false;
-    }
-    if !statuses_known(vertices, made as usize) {
-        return false;
-    }
-    edges_made(edges, made, held as usize)
+    let Tally { made, held, .. } = tally;
+    tally_fits(vertices, edges, made, held)
+        && statuses_known(vertices, made as usize)
+        && edges_made(edges, made, held as usize)
+}
+
+// Lent tables with their tally that refusal 12 spares. What is asked of them need not look for 12 any more.
+#[derive(Clone, Copy)]
+pub struct SoundTables<'a> {
+    pub vertices: &'a [u32],
+    pub edges: &'a [u32],
+    pub tally: Tally,
+    pub ghost sound: { sound (lent vertices.now edges.now tally) ≡ true },
 }

@@ -1,19 +1,23 @@
 -- A command on an index: the refusals of a caller that executes, what is known where a run is under way, and the two ways in which a command ends.
+use Rattle.std.specs.Prelude.{Result, Ok, Err, IsErrAnd, is_ok, is_err}
 use Prim.Native.Nat.{ℕ, ◌*◌, ◌<◌, ◌≤◌}
 use mathlib.Core.Path.{◌≡◌, refl, sym, ◌∙◌, ap, subst}
-use mathlib.Core.Bool.{Bool, true}
+use mathlib.Core.Bool.{Bool, true, false}
 use mathlib.Core.List.{List}
 use native.Mathlib.Omega.{arith}
 use lib.ListN.{replicate, length-replicate}
-use borrow.Author.Tests.{lt-ltb, le-ltb, eq-eqb}
+use lib.Dec.{eqb}
+use borrow.Author.Tests.{lt-ltb, le-ltb, eq-eqb, ne_eqb}
 use Rattle.graph.specs.declared.Command.{Command}
-use Rattle.graph.specs.declared.Answer.TheVariants.{Refused}
 use Rattle.graph.specs.Tables.{Lent, EXECUTING, usable_limit, edge_words, vertex_rows, edge_rows, status}
 use Rattle.graph.specs.Sound.{sound}
 use Rattle.graph.specs.Paths.{holds, leads_out_of, reaches}
 use Rattle.graph.specs.Answers.{CommandSaid, said, accepted, Outcome}
 use Rattle.graph.specs.Commands.{caller_refusal, command}
+use Rattle.refusal.specs.declared.Reason.{Reason}
 use Rattle.refusal.specs.Refusals.{no_such_vertex}
+use Rattle.refusal.specs.Reasons.{number, due_number}
+use Rattle.refusal.proofs.ReasonLaws.{number_positive}
 use Rattle.graph.proofs.TestLaws.{true-false, both_true, both-false_left, both-false_right}
 use Rattle.graph.proofs.SoundLaws.{sound_fits, fits_sound}
 use Rattle.graph.proofs.TakenLaws.{refusal, says, says-accepted, leaves, Runs, Taken, taken, taken_is, answer_refused, after_refused}
@@ -21,11 +25,24 @@ use Rattle.graph.proofs.KeepLaws.{leaves_fits}
 use Rattle.graph.proofs.CallLaws.{pass, halt, answered}
 use Rattle.index.specs.declared.Course.{Course}
 use Rattle.index.specs.declared.Changed.{Changed}
-use Rattle.index.specs.Layout.{Indexed}
+use Rattle.index.specs.Layout.{nowhere, Indexed}
 use Rattle.index.specs.Table.{live_rows, table_of}
-use Rattle.index.specs.Underway.{state_of, Ready, Executes, Widens, Changes, caller_of}
+use Rattle.index.specs.Underway.{state_of, tried, Ready, Executes, Widens, Changes, caller_of}
 use Rattle.index.proofs.StandsFor.{edge_rows-table_of, holds-table_of, out_table_of, reaches-table_of}
 use Rattle.index.proofs.Widening.{widens_same}
+
+-- a refusal is due exactly where its number is not 0
+pub due_told : {A : Type 0} (r : Result A Reason) → is_ok r ≡ eqb (due_number r) 0
+due_told (Ok x) = refl
+due_told (Err e) = sym (ne_eqb (number e) 0 (λ z. let p = number_positive e in omega arith))
+
+pub is_due : {A : Type 0} (r : Result A Reason) → is_err r ≡ true → (e : Reason) × (due_number r ≡ number e)
+is_due (Ok x) h = true-false h refl
+is_due (Err e) h = (e, refl)
+
+pub none_due : {A : Type 0} (r : Result A Reason) → is_err r ≡ false → due_number r ≡ 0
+none_due (Ok x) h = refl
+none_due (Err e) h = true-false refl h
 
 -- a command that is refused with the number that is due
 refused_is :
@@ -86,19 +103,18 @@ module _ {v x : List ℕ} {k : Course} {limit : ℕ} (ready : Ready v x k limit)
   pub runs : (t : ℕ) → Executes v k t → (e : List ℕ) → edge_rows e ≡ limit → Runs (state_of v x k e) t
   runs t h e rows = record { known = ready.sound e rows; is_made = h.0; executing = h.1 }
 
-  -- a refused command
+  -- a refused command, behind the callee's `?`
   pub refused_changes :
-      (c : Command) (r : Changed) {n lowest highest : ℕ} → ((e : List ℕ) → edge_rows e ≡ limit → n ≡ refusal c (state_of v x k e)) → (n ≡ 0 → ⊥)
-      → r ≡ record { answer = Refused (record { number = n; place = 0 }); course = k; lowest = lowest; highest = highest }
-      → Changes c v x k limit r v x
-  refused_changes c r {n} {lowest} {highest} due some h =
-      rw h
-      (record {
-        does = λ e rows. refused_is c (state_of v x k e) (due e rows) some;
+      (c : Command) (res : Result Changed Reason) (r : Reason) → IsErrAnd res (λ (e : Reason). e ≡ r)
+      → ((e : List ℕ) → edge_rows e ≡ limit → number r ≡ refusal c (state_of v x k e)) → Changes c v x k limit (tried res k) v x
+  refused_changes c (Ok d) r h due = absurd h
+  refused_changes c (Err n) r h due =
+      record {
+        does = λ e rows. refused_is c (state_of v x k e) (ap number h ∙ due e rows) (λ z. let q = number_positive n in omega arith);
         ready = ready;
-        widens = widens_same v k.tally.made lowest highest;
+        widens = widens_same v k.tally.made nowhere 0;
         turned = λ no. (refl, refl);
-      })
+      }
 
   -- a command that is taken
   module _ (c : Command) (r : Changed) (v' x' : List ℕ) (take : (e : List ℕ) → edge_rows e ≡ limit → Taken c (state_of v x k e)) where

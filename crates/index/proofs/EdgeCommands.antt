@@ -142,7 +142,7 @@ module _ {v x : List ℕ} {k : Course} {limit : ℕ} (ready : Ready v x k limit)
         pub edge_due : (e : List ℕ) → edge_rows e ≡ limit → n ≡ new_edge_refusal (state_of v x k e) t a b
         unfolding new_edge_refusal
         edge_due e rows =
-            ends_free (state_of v x k e) t a b (sym (ends_taken e rows)) refl (pass_over 0 (answered (looked e) some) (last e rows))
+            ends_free (state_of v x k e) t a b (sym (ends_taken e rows)) (pass_over 0 (answered (looked e) some) (last e rows))
 
         -- or a row is free for it
         module _ (none : n ≡ 0) where

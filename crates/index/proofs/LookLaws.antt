@@ -1,5 +1,6 @@
 -- A look at a command before it is given. Whether it would be accepted is told by what is known if no refusal is due, and what it hinges on by
 -- what is known besides if it is accepted.
+use Rattle.std.specs.Prelude.{Option, Some}
 use Prim.Native.Nat.{ℕ, ◌<◌}
 use mathlib.Core.Path.{◌≡◌, refl, sym, ◌∙◌, ap, subst}
 use mathlib.Core.Bool.{Bool, true, false}
@@ -8,6 +9,9 @@ use mathlib.Core.List.{List}
 use native.Mathlib.Omega.{arith}
 use lib.Dec.{eqb, ltb}
 use borrow.Author.Tests.{lt-ltb, ltb-true, eq-eqb, ne_eqb, eqb-true}
+use Rattle.refusal.specs.declared.Reason.{Reason}
+use Rattle.refusal.specs.Reasons.{number}
+use Rattle.refusal.proofs.ReasonLaws.{number_positive}
 use Rattle.graph.specs.declared.Command.{Command}
 use Rattle.graph.specs.declared.Command.TheVariants.{NewTd, NewEdge, Release, Transfer, Stop, Yield}
 use Rattle.graph.specs.Tests.{both}
@@ -21,8 +25,7 @@ use Rattle.graph.proofs.CycleLaws.{target_reaches_lem}
 use Rattle.graph.proofs.TakenLaws.{refusal, Taken, taken, not_refused, is_accepted}
 use Rattle.graph.proofs.CallLaws.{settle, answered, ends_due, ends_free}
 use Rattle.index.specs.declared.Course.{Course}
-use Rattle.index.specs.declared.Asked.{Asked}
-use Rattle.index.specs.declared.Asked.TheVariants.{Pair}
+use Rattle.index.specs.declared.Pair.{Pair}
 use Rattle.index.specs.Underway.{state_of, Ready, Executes, caller_of}
 use Rattle.index.specs.Asking.{Foretells, Asks}
 use Rattle.index.proofs.CommandLaws.{held_found, path_found, rows_there, made_rows, runs}
@@ -34,7 +37,7 @@ module _ (v : List ℕ) (k : Course) {given c : Command} (is : given ≡ c) wher
   executes_case h = subst (λ (d : Command). Executes v k (caller_of d)) is h
 
   pub asked_case :
-      (r : Asked) → ((x : List ℕ) (limit : ℕ) → Ready v x k limit → Asks v x k limit c r)
+      (r : Option Pair) → ((x : List ℕ) (limit : ℕ) → Ready v x k limit → Asks v x k limit c r)
       → (x : List ℕ) (limit : ℕ) → Ready v x k limit → Asks v x k limit given r
   asked_case r h x limit ready = subst (λ (d : Command). Asks v x k limit d r) (sym is) (h x limit ready)
 
@@ -89,23 +92,23 @@ module _ {v x : List ℕ} {k : Course} {limit : ℕ} (ready : Ready v x k limit)
 
   -- newEdge: its ends are refused, or it adds nothing
   module _ (t a b : ℕ) {m : ℕ} (first : (e : List ℕ) → sound (lent v e k.tally) ≡ true → m ≡ ends_refusal (lent v e k.tally) t a b 0) where
-    pub ends_foretold : (m ≡ 0 → ⊥) → Foretells v x k limit (NewEdge t a b) false
+    pub ends_foretold : (r : Reason) → m ≡ number r → Foretells v x k limit (NewEdge t a b) false
     unfolding new_edge_refusal
-    ends_foretold some =
+    ends_foretold r is =
         λ e rows.
-        sym (ne_eqb m 0 some)
-        ∙ number_foretells (NewEdge t a b) (λ e' rows'. ends_due _ _ _ _ _ (first _ (ready.sound e' rows')) some) e rows
+        sym (ne_eqb (number r) 0 (λ z. let p = number_positive r in omega arith))
+        ∙ number_foretells (NewEdge t a b) (λ e' rows'. ends_due _ _ _ _ r _ (sym is ∙ first _ (ready.sound e' rows'))) e rows
 
     pub nothing_foretold :
         m ≡ 0 → {y : Bool} → ((e : List ℕ) → y ≡ adds_nothing (state_of v x k e) a b) → y ≡ true → Foretells v x k limit (NewEdge t a b) true
     unfolding new_edge_refusal
     nothing_foretold free looked none =
         number_foretells (NewEdge t a b)
-        (λ e rows. ends_free _ _ _ _ (first _ (ready.sound e rows)) free (settle 0 _ (answered (looked e) none)))
+        (λ e rows. ends_free _ _ _ _ (sym free ∙ first _ (ready.sound e rows)) (settle 0 _ (answered (looked e) none)))
 
     -- or it hinges on a path back, and on a row
     pub edge_asks :
-        m ≡ 0 → both (ltb a k.tally.made) (eqb (status v a) FINISHED) ≡ false → Asks v x k limit (NewEdge t a b) (Pair b a true)
+        m ≡ 0 → both (ltb a k.tally.made) (eqb (status v a) FINISHED) ≡ false → Asks v x k limit (NewEdge t a b) (Some (record { start = b; goal = a; appends = true }))
     edge_asks free unfinished =
         let (source_made, target_made) = ends_there ready t a b first free in
         let from : a < usable_limit = omega (arith, made_rows ready) in
@@ -136,7 +139,7 @@ module _ {v x : List ℕ} {k : Course} {limit : ℕ} (ready : Ready v x k limit)
   -- transfer to a new vertex hinges on a path to it
   pub transfer_asks :
       (t u : ℕ) → Executes v k t → both (ltb u k.tally.made) (eqb (status v u) NEW) ≡ true
-      → Asks v x k limit (Transfer t u) (Pair t u false)
+      → Asks v x k limit (Transfer t u) (Some (record { start = t; goal = u; appends = false }))
   transfer_asks t u executes new =
       let is_made : u < k.tally.made = ltb-true _ _ (both_left _ _ new) in
       let is_new : status v u ≡ NEW = eqb-true _ _ (both_right _ _ new) in

@@ -1,5 +1,6 @@
 -- The rows out of a vertex, taken off the in-counts of their targets one by one from the last to the first.
-use Prim.Native.Nat.{ℕ, zero, suc, ◌+◌, ◌-◌, ◌*◌, ◌≤◌, ◌<◌, max}
+use Rattle.std.specs.Ordering.{nat_cmp, ord_max}
+use Prim.Native.Nat.{ℕ, zero, suc, ◌+◌, ◌-◌, ◌*◌, ◌≤◌, ◌<◌, min, max}
 use mathlib.Core.Path.{◌≡◌, refl, sym, ◌∙◌, ap, subst}
 use mathlib.Core.Bool.{Bool, cond}
 use mathlib.Core.Logic.{◌⊎◌, inl, inr, ⊎_elim}
@@ -157,3 +158,10 @@ module _ (x : List ℕ) (n t : ℕ) (v₀ : List ℕ) (h : Indexed x n) (lt : t 
     λ i l r. all.between i (omega arith) l r,
     all.top,
   )
+
+-- the lower and the higher of two numbers
+pub lower_told : (a b : ℕ) {r : ℕ} → r ≡ min a b → (r ≤ a) × (r ≤ b)
+lower_told a b h = (omega arith, omega arith)
+
+pub higher_told : (a b : ℕ) {r : ℕ} → r ≡ ord_max nat_cmp a b → (a ≤ r) × (b ≤ r) × (r ≤ max a b)
+higher_told a b h = (grind arith, grind arith, grind arith)

@@ -1,5 +1,7 @@
 -- A run under way: the vertex table as it is lent, an index for its edges, and its course; and what these stand for.
-use Rattle.std.specs.Prelude.{ℕ, ◌<◌, ◌≤◌, ◌≡◌, Bool, true, false, ◌⊎◌, List, eqb}
+use Rattle.std.specs.Prelude.{ℕ, ◌<◌, ◌≤◌, ◌≡◌, Bool, true, false, ◌⊎◌, List, eqb, Result, Ok, Err}
+use Rattle.refusal.specs.declared.Reason.{Reason}
+use Rattle.graph.specs.declared.Answer.TheVariants.{Refused}
 use Rattle.graph.specs.declared.Command.{Command}
 use Rattle.graph.specs.declared.Command.TheVariants.{NewTd, NewEdge, Release, Transfer, Start, Stop, Yield}
 use Rattle.graph.specs.Tests.{both, either}
@@ -9,7 +11,7 @@ use Rattle.graph.specs.Answers.{CommandSaid, said, accepted, Outcome}
 use Rattle.graph.specs.Commands.{command}
 use Rattle.index.specs.declared.Course.{Course}
 use Rattle.index.specs.declared.Changed.{Changed}
-use Rattle.index.specs.Layout.{Indexed}
+use Rattle.index.specs.Layout.{nowhere, Indexed}
 use Rattle.index.specs.Table.{live_rows, table_of}
 
 -- all that is lent, where the index x of this course stands for the edge table, and e was lent for one
@@ -31,6 +33,11 @@ pub record Ready (v x : List ℕ) (k : Course) (limit : ℕ) : Type 0 where
   pub within : k.peak ≤ limit
   pub few : limit ≤ usable_limit
   pub sound : (e : List ℕ) → edge_rows e ≡ limit → of_graph.sound (state_of v x k e) ≡ true
+
+-- what a command changes that gives its reason where it is refused: then nothing, and nobody may step who could not before
+abbrev pub tried : Result Changed Reason → Course → Changed
+tried (Ok r) k = r
+tried (Err n) k = record { answer = Refused (record { reason = n; place = 0 }); course = k; lowest = nowhere; highest = 0 }
 
 -- who does a command; a start has no caller
 unfoldable pub caller_of : Command → ℕ

@@ -4,34 +4,37 @@ ghost use Rattle.std.specs.Prelude.{◌≡◌, true, false, List, ℕ, ◌+◌, 
 ghost use Rattle.graph.specs.Tables.{lent, usable_limit, vertex_rows, edge_rows};
 ghost use Rattle.graph.specs.Sound.{sound};
 ghost use Rattle.graph.specs.Commands.{ends_refusal, adds_nothing, append_refusal, transfer_refusal};
-ghost use Rattle.graph.specs.declared.Answer.TheVariants.{Refused};
 ghost use Rattle.graph.specs.declared.Command.TheVariants.{NewTd, NewEdge, Release, Transfer, Stop, Yield};
 ghost use Rattle.graph.specs.Internal.Checks.{is_start};
 ghost use Rattle.index.specs.Layout.{row_limit, nowhere, Indexed};
 ghost use Rattle.index.specs.Table.{live_rows, table_of};
-ghost use Rattle.index.specs.Underway.{state_of, Ready, Executes, Changes, caller_of};
+ghost use Rattle.index.specs.Underway.{state_of, tried, Ready, Executes, Changes, caller_of};
+ghost use Rattle.refusal.specs.Reasons.{due_number};
 
 use crate::layout::NOWHERE;
 use crate::rows::{append, is_held, leads_out, lower_targets, move_out};
 use crate::search::reaches;
 use crate::{Changed, Course};
-use graph::refusals::ACCEPTED;
 use graph::rows::{
     FINISHED, FUTURE, NEW, RELEASED, STATUS, VERTEX_WORDS, make_row, more_into, set_status,
     vertex_rows,
 };
 use graph::{Answer, Command, Tally};
-use refusal::{
-    CLOSES_CYCLE, NO_EDGE_ROW, NO_SUCH_VERTEX, NO_VERTEX_ROW, RELEASE_NOT_NEW, Refusal,
-    TARGET_NOT_WAITING, TRANSFER_HAS_EDGE_OUT, TRANSFER_NOT_NEW, UNSOUND_TABLES,
-};
+use refusal::Reason;
 
-// A refused command: nothing changes, and nobody may step who could not before.
-fn refused(number: u32, course: Course) -> Changed
-    ensures { result ≡ record { answer = Refused (record { number = number; place = 0 }); course = course; lowest = nowhere; highest = 0 } }
+// What was tried, as a command gives it: where it is refused, nothing changes.
+fn settled(attempt: Result<Changed, Reason>, course: Course) -> Changed
+    ensures { result ≡ tried attempt course }
+{
+    attempt.unwrap_or_else(|reason| opening_nobody(Answer::Refused(reason.into()), course))
+}
+
+// Nobody may step after it who could not before.
+fn opening_nobody(answer: Answer, course: Course) -> Changed
+    ensures { result ≡ record { answer = answer; course = course; lowest = nowhere; highest = 0 } }
 {
     Changed {
-        answer: Answer::Refused(Refusal { number, place: 0 }),
+        answer,
         course,
         lowest: NOWHERE,
         highest: 0,
@@ -47,31 +50,25 @@ fn new_td(
     caller: u32,
     place: u32,
     scope: u32,
-) -> Changed
+) -> Result<Changed, Reason>
     requires { Ready vertices.old index.now course limit × Executes vertices.old course caller }
-    ensures { Changes (NewTd caller place scope) vertices.old index.now course limit result vertices.new index.now }
+    ensures { Changes (NewTd caller place scope) vertices.old index.now course limit (tried result course) vertices.new index.now }
 {
     let tally = course.tally;
     let made = tally.made;
     if vertex_rows(vertices) <= made as usize {
-        return refused(NO_VERTEX_ROW, course);
+        return Err(Reason::NoVertexRow);
     }
     let future = vertices[VERTEX_WORDS * (caller as usize) + FUTURE];
     make_row(vertices, made as usize, place, scope, future);
-    Changed {
-        answer: Answer::New(made),
-        course: Course {
-            tally: Tally {
-                made: made + 1,
-                held: tally.held,
-                steps: tally.steps,
-            },
-            used: course.used,
-            peak: course.peak,
+    let grown = Course {
+        tally: Tally {
+            made: made + 1,
+            ..tally
         },
-        lowest: NOWHERE,
-        highest: 0,
-    }
+        ..course
+    };
+    Ok(opening_nobody(Answer::New(made), grown))
 }
 
 // Adds the edge from `source` to `target`. Out of a finished vertex, or held already, it adds nothing and is accepted.
@@ -83,34 +80,18 @@ fn new_edge(
     caller: u32,
     source: u32,
     target: u32,
-) -> Changed
+) -> Result<Changed, Reason>
     requires { Ready vertices.old index.old course limit × Executes vertices.old course caller × (course.used < row_limit) }
-    ensures { Changes (NewEdge caller source target) vertices.old index.old course limit result vertices.new index.new }
+    ensures { Changes (NewEdge caller source target) vertices.old index.old course limit (tried result course) vertices.new index.new }
 {
-    let first = ends_refusal(vertices, course, caller, source, target);
-    if first != ACCEPTED {
-        return refused(first, course);
-    }
+    ends_refusal(vertices, course, caller, source, target)?;
     if adds_nothing(vertices, index, course, source, target) {
-        return Changed {
-            answer: Answer::Edge(source, target),
-            course,
-            lowest: NOWHERE,
-            highest: 0,
-        };
+        return Ok(opening_nobody(Answer::Edge(source, target), course));
     }
-    let last = append_refusal(index, limit, course, source, target);
-    if last != ACCEPTED {
-        return refused(last, course);
-    }
+    append_refusal(index, limit, course, source, target)?;
     append(index, course.used as usize, source, target);
     more_into(vertices, target as usize);
-    Changed {
-        answer: Answer::Edge(source, target),
-        course: one_more_edge(course),
-        lowest: NOWHERE,
-        highest: 0,
-    }
+    Ok(opening_nobody(Answer::Edge(source, target), one_more_edge(course)))
 }
 
 // The refusals that an edge's ends cause: 20, 33, which spares the caller.
@@ -120,25 +101,19 @@ pub(crate) fn ends_refusal(
     caller: u32,
     source: u32,
     target: u32,
-) -> u32
+) -> Result<(), Reason>
     requires { Executes vertices.now course caller × (course.tally.made ≤ vertex_rows vertices.now) }
-    ensures { (e : List ℕ) → sound (lent vertices.now e course.tally) ≡ true → result ≡ ends_refusal (lent vertices.now e course.tally) caller source target 0 }
+    ensures { (e : List ℕ) → sound (lent vertices.now e course.tally) ≡ true → due_number result ≡ ends_refusal (lent vertices.now e course.tally) caller source target 0 }
 {
     let tally = course.tally;
-    if tally.made <= source {
-        return NO_SUCH_VERTEX;
-    }
-    if tally.made <= target {
-        return NO_SUCH_VERTEX;
+    if tally.made <= source || tally.made <= target {
+        return Err(Reason::NoSuchVertex);
     }
     let status = vertices[VERTEX_WORDS * (target as usize) + STATUS];
-    if status == NEW || status == RELEASED {
-        return ACCEPTED;
+    if status == NEW || status == RELEASED || target == caller {
+        return Ok(());
     }
-    if target == caller {
-        return ACCEPTED;
-    }
-    TARGET_NOT_WAITING
+    Err(Reason::TargetNotWaiting)
 }
 
 // An edge from `source` to `target` adds nothing: its source is finished, or it is held already.
@@ -153,10 +128,8 @@ pub(crate) fn adds_nothing(
     requires source_lt_made { (source < course.tally.made) × (course.tally.made ≤ vertex_rows vertices.now) }
     ensures { (e : List ℕ) → result ≡ adds_nothing (state_of vertices.now index.now course e) source target }
 {
-    if vertices[VERTEX_WORDS * (source as usize) + STATUS] == FINISHED {
-        return true;
-    }
-    is_held(index, course.used as usize, source, target)
+    vertices[VERTEX_WORDS * (source as usize) + STATUS] == FINISHED
+        || is_held(index, course.used as usize, source, target)
 }
 
 // The refusals of an edge that is to be appended: 35, 32.
@@ -166,22 +139,18 @@ pub(crate) fn append_refusal(
     course: Course,
     source: u32,
     target: u32,
-) -> u32
+) -> Result<(), Reason>
     requires indexed { Indexed index.now course.used × (course.tally.held ≡ live_rows index.now course.used) }
     requires held_le_peak { (course.tally.held ≤ course.peak) × (course.peak ≤ limit) × (source < usable_limit) × (target < usable_limit) }
-    ensures { (e : List ℕ) → edge_rows e ≡ limit → result ≡ append_refusal (table_of index.now course.used course.peak e) course.tally.held source target }
+    ensures { (e : List ℕ) → edge_rows e ≡ limit → due_number result ≡ append_refusal (table_of index.now course.used course.peak e) course.tally.held source target }
 {
-    if source == target {
-        return CLOSES_CYCLE;
+    if source == target || reaches(index, course.used as usize, target, source) {
+        return Err(Reason::ClosesCycle);
     }
-    if reaches(index, course.used as usize, target, source) {
-        return CLOSES_CYCLE;
+    if limit <= course.tally.held {
+        return Err(Reason::NoEdgeRow);
     }
-    let tally = course.tally;
-    if limit <= tally.held {
-        return NO_EDGE_ROW;
-    }
-    ACCEPTED
+    Ok(())
 }
 
 // A row more is used, and an edge more is held.
@@ -191,18 +160,10 @@ fn one_more_edge(course: Course) -> Course
 {
     let tally = course.tally;
     let held = tally.held + 1;
-    let mut peak = course.peak;
-    if peak < held {
-        peak = held;
-    }
     Course {
-        tally: Tally {
-            made: tally.made,
-            held,
-            steps: tally.steps,
-        },
+        tally: Tally { held, ..tally },
         used: course.used + 1,
-        peak,
+        peak: course.peak.max(held),
     }
 }
 
@@ -214,24 +175,24 @@ fn release(
     course: Course,
     caller: u32,
     vertex: u32,
-) -> Changed
+) -> Result<Changed, Reason>
     requires { Ready vertices.old index.now course limit × Executes vertices.old course caller }
-    ensures { Changes (Release caller vertex) vertices.old index.now course limit result vertices.new index.now }
+    ensures { Changes (Release caller vertex) vertices.old index.now course limit (tried result course) vertices.new index.now }
 {
     let tally = course.tally;
     if tally.made <= vertex {
-        return refused(NO_SUCH_VERTEX, course);
+        return Err(Reason::NoSuchVertex);
     }
     if vertices[VERTEX_WORDS * (vertex as usize) + STATUS] != NEW {
-        return refused(RELEASE_NOT_NEW, course);
+        return Err(Reason::ReleaseNotNew);
     }
     set_status(vertices, vertex as usize, RELEASED);
-    Changed {
+    Ok(Changed {
         answer: Answer::Release(vertex),
         course,
         lowest: vertex,
         highest: vertex,
-    }
+    })
 }
 
 // Gives each edge out of `caller` the source `vertex`, which is new and has no edge out.
@@ -242,21 +203,13 @@ fn transfer(
     course: Course,
     caller: u32,
     vertex: u32,
-) -> Changed
+) -> Result<Changed, Reason>
     requires { Ready vertices.now index.old course limit × Executes vertices.now course caller }
-    ensures { Changes (Transfer caller vertex) vertices.now index.old course limit result vertices.now index.new }
+    ensures { Changes (Transfer caller vertex) vertices.now index.old course limit (tried result course) vertices.now index.new }
 {
-    let refusal = transfer_refusal(vertices, index, course, caller, vertex);
-    if refusal != ACCEPTED {
-        return refused(refusal, course);
-    }
+    transfer_refusal(vertices, index, course, caller, vertex)?;
     move_out(index, course.used as usize, caller, vertex);
-    Changed {
-        answer: Answer::Transfer(vertex),
-        course,
-        lowest: NOWHERE,
-        highest: 0,
-    }
+    Ok(opening_nobody(Answer::Transfer(vertex), course))
 }
 
 // transfer: 20, 37, 38, 35.
@@ -266,25 +219,25 @@ pub(crate) fn transfer_refusal(
     course: Course,
     caller: u32,
     vertex: u32,
-) -> u32
+) -> Result<(), Reason>
     requires indexed { Indexed index.now course.used × (course.tally.held ≡ live_rows index.now course.used) }
     requires executes { Executes vertices.now course caller × (course.tally.made ≤ vertex_rows vertices.now) }
-    ensures { (e : List ℕ) → sound (state_of vertices.now index.now course e) ≡ true → result ≡ transfer_refusal (state_of vertices.now index.now course e) caller vertex }
+    ensures { (e : List ℕ) → sound (state_of vertices.now index.now course e) ≡ true → due_number result ≡ transfer_refusal (state_of vertices.now index.now course e) caller vertex }
 {
     let tally = course.tally;
     if tally.made <= vertex {
-        return NO_SUCH_VERTEX;
+        return Err(Reason::NoSuchVertex);
     }
     if vertices[VERTEX_WORDS * (vertex as usize) + STATUS] != NEW {
-        return TRANSFER_NOT_NEW;
+        return Err(Reason::TransferNotNew);
     }
     if leads_out(index, course.used as usize, vertex) {
-        return TRANSFER_HAS_EDGE_OUT;
+        return Err(Reason::TransferHasEdgeOut);
     }
     if reaches(index, course.used as usize, caller, vertex) {
-        return CLOSES_CYCLE;
+        return Err(Reason::ClosesCycle);
     }
-    ACCEPTED
+    Ok(())
 }
 
 // Finishes `caller` and drops its edges out.
@@ -300,12 +253,10 @@ fn stop(vertices: &mut [u32], index: &mut [u32], limit: u32, course: Course, cal
         answer: Answer::Stop,
         course: Course {
             tally: Tally {
-                made: tally.made,
                 held: tally.held - lowered.dropped,
-                steps: tally.steps,
+                ..tally
             },
-            used: course.used,
-            peak: course.peak,
+            ..course
         },
         lowest: lowered.lowest,
         highest: lowered.highest,
@@ -324,12 +275,7 @@ fn yield_caller(
     ensures { Changes (Yield caller) vertices.old index.now course limit result vertices.new index.now }
 {
     set_status(vertices, caller as usize, RELEASED);
-    Changed {
-        answer: Answer::Yield,
-        course,
-        lowest: NOWHERE,
-        highest: 0,
-    }
+    opening_nobody(Answer::Yield, course)
 }
 
 // Any command of an executing vertex, where a row of the index is left.
@@ -342,6 +288,20 @@ pub fn command(
 ) -> Changed
     requires { Ready vertices.old index.old course limit × Executes vertices.old course (caller_of given) × (course.used < row_limit) × (is_start given ≡ false) }
     ensures { Changes given vertices.old index.old course limit result vertices.new index.new }
+{
+    settled(command_tried(vertices, index, limit, course, given), course)
+}
+
+// The same, or why it is refused.
+fn command_tried(
+    vertices: &mut [u32],
+    index: &mut [u32],
+    limit: u32,
+    course: Course,
+    given: Command,
+) -> Result<Changed, Reason>
+    requires { Ready vertices.old index.old course limit × Executes vertices.old course (caller_of given) × (course.used < row_limit) × (is_start given ≡ false) }
+    ensures { Changes given vertices.old index.old course limit (tried result course) vertices.new index.new }
 {
     match given {
         Command::NewTd {
@@ -360,8 +320,8 @@ pub fn command(
         Command::Transfer { caller, vertex } => {
             transfer(vertices, index, limit, course, caller, vertex)
         }
-        Command::Start { vertex } => refused(UNSOUND_TABLES, course),
-        Command::Stop { caller } => stop(vertices, index, limit, course, caller),
-        Command::Yield { caller } => yield_caller(vertices, index, limit, course, caller),
+        Command::Start { .. } => Err(Reason::UnsoundTables),
+        Command::Stop { caller } => Ok(stop(vertices, index, limit, course, caller)),
+        Command::Yield { caller } => Ok(yield_caller(vertices, index, limit, course, caller)),
     }
 }

@@ -13,7 +13,7 @@ use graph::{Answer, Tally};
 
 // Where a run stands besides its tables: the tally, the rows of its index that are used, dropped ones among them, and the largest number of edges
 // that were held at a time.
-#[derive(Clone, Copy)]
+#[derive(Clone, Copy, Debug, PartialEq, Eq)]
 pub struct Course {
     pub tally: Tally,
     pub used: u32,
@@ -21,7 +21,7 @@ pub struct Course {
 }
 
 // The result of a command: its answer, the course afterwards, and between which numbers the vertices lie that may step now and could not before.
-#[derive(Clone, Copy)]
+#[derive(Clone, Copy, Debug, PartialEq, Eq)]
 pub struct Changed {
     pub answer: Answer,
     pub course: Course,
@@ -30,21 +30,18 @@ pub struct Changed {
 }
 
 // How many edges a stop drops, and between which numbers their targets lie.
-#[derive(Clone, Copy)]
+#[derive(Clone, Copy, Debug, PartialEq, Eq)]
 pub struct Lowered {
     pub dropped: u32,
     pub lowest: u32,
     pub highest: u32,
 }
 
-// What a command hinges on: nothing that is asked of many vertices at once, or a pair. Where no row leads from `goal` to `start`, it is refused if a
-// path leads from `start` to `goal`, or, where it `appends` a row, if none is left.
-#[derive(Clone, Copy)]
-pub enum Asked {
-    Nothing,
-    Pair {
-        start: u32,
-        goal: u32,
-        appends: bool,
-    },
+// What a command hinges on: where no row leads from `goal` to `start`, it is refused if a path leads from `start` to `goal`, or, where it `appends` a
+// row, if none is left.
+#[derive(Clone, Copy, Debug, PartialEq, Eq)]
+pub struct Pair {
+    pub start: u32,
+    pub goal: u32,
+    pub appends: bool,
 }

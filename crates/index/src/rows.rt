@@ -83,18 +83,6 @@ pub fn move_out(index: &mut [u32], used: usize, from: u32, to: u32)
     index[LAST_OUT + from as usize] = 0;
 }
 
-fn lower_of(a: u32, b: u32) -> u32
-    ensures { (result ≤ a) × (result ≤ b) }
-{
-    if a < b { a } else { b }
-}
-
-fn higher_of(a: u32, b: u32) -> u32
-    ensures { (a ≤ result) × (b ≤ result) × (result ≤ max a b) }
-{
-    if a < b { b } else { a }
-}
-
 // Takes each row out of `from` off its target's in-count, and says how many they are and between which numbers their targets lie.
 pub fn lower_targets(vertices: &mut [u32], index: &[u32], used: usize, from: u32) -> Lowered
     requires indexed { Indexed index.now used × (from < usable_limit) }
@@ -110,8 +98,8 @@ pub fn lower_targets(vertices: &mut [u32], index: &[u32], used: usize, from: u32
         let target = index[EDGE_WORDS * i + TARGET];
         less_into(vertices, target as usize);
         dropped += 1;
-        lowest = lower_of(lowest, target);
-        highest = higher_of(highest, target);
+        lowest = lowest.min(target);
+        highest = highest.max(target);
         left = index[BEFORE_OUT + i];
     }
     Lowered {

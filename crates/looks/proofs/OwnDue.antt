@@ -31,6 +31,7 @@ use Rattle.machine.specs.Stepping as machine
 use Rattle.machine.specs.Stepping.{step_limit, phase, all_stand, Task, item, ends, nothing, Due, refusal_due, job_due, command_due, due_if}
 use Rattle.machine.specs.Stepping.{filled_in, next_of, next_at}
 use Rattle.machine.specs.Running.{can_step}
+use Rattle.machine.proofs.GhostMachine.GhostLaws.{clash}
 use Rattle.engine.specs.declared.Own.{Own}
 use Rattle.engine.specs.declared.Due as code
 use Rattle.engine.specs.declared.Due.TheVariants as of_due
@@ -40,8 +41,9 @@ use Rattle.engine.proofs.CandidateLaws.{start_can, executing_can}
 use Rattle.index.specs.declared.Asked.{Asked}
 use Rattle.index.specs.declared.Asked.TheVariants as of_asked
 use Rattle.looks.specs.declared.Hinge.{Hinge}
+use Rattle.looks.specs.declared.Kind.TheVariants as of_kind
 use Rattle.index.specs.Asking.{Asks, Foretells}
-use Rattle.looks.specs.Looking.{CanOn, CannotOn, asks_nothing, asks_path, asks_path_or_row, is_barred, Hinges, HingesOn, HingedBy}
+use Rattle.looks.specs.Looking.{CanOn, CannotOn, Hinges, HingesOn, HingedBy}
 
 -- THE ROWS
 -- an edge table with so many usable rows
@@ -141,20 +143,20 @@ module _ (ed : Edition) (bytes v x : List ℕ) (k : Course) (limit t : ℕ) (rea
 -- WHAT ITS STEP HINGES ON
 -- nothing
 pub hinges_nothing :
-    (refusal : Type 0) (x : List ℕ) (k : Course) (limit : ℕ) {h : Hinge} → h ≡ record { start = 0; goal = 0; kind = asks_nothing }
+    (refusal : Type 0) (x : List ℕ) (k : Course) (limit : ℕ) {h : Hinge} → h ≡ record { start = 0; goal = 0; kind = of_kind.Nothing }
     → Hinges refusal x k limit h
 hinges_nothing refusal x k limit is =
     rw is
     (record {
       start_usable = omega arith;
       goal_usable = omega arith;
-      barred = λ (e : asks_nothing ≡ is_barred). absurd (omega arith);
+      barred = λ e. clash cc;
       joined = λ some_kind. absurd (some_kind refl);
     })
 
 -- it is refused in any case
 pub hinges_barred :
-    (refusal : Type 0) (x : List ℕ) (k : Course) (limit : ℕ) {h : Hinge} → h ≡ record { start = 0; goal = 0; kind = is_barred } → refusal
+    (refusal : Type 0) (x : List ℕ) (k : Course) (limit : ℕ) {h : Hinge} → h ≡ record { start = 0; goal = 0; kind = of_kind.Barred } → refusal
     → Hinges refusal x k limit h
 hinges_barred refusal x k limit is refused =
     rw is
@@ -198,19 +200,19 @@ pub foretold_not :
     (v x : List ℕ) (k : Course) (limit : ℕ) (c : single.Command) {b : Bool} → Foretells v x k limit c b → b ≡ false → Foretells v x k limit c false
 foretold_not v x k limit c told refused e rows = sym refused ∙ told e rows
 
-kind_row : (appends : Bool) → cond appends asks_path_or_row asks_path ≡ asks_path_or_row → appends ≡ true
+kind_row : (appends : Bool) → cond appends of_kind.PathOrRow of_kind.Path ≡ of_kind.PathOrRow → appends ≡ true
 kind_row true h = refl
-kind_row false h = absurd (omega arith)
+kind_row false h = clash cc
 
-kind_barred : (appends : Bool) → cond appends asks_path_or_row asks_path ≡ is_barred → ⊥
-kind_barred true h = absurd (omega arith)
-kind_barred false h = absurd (omega arith)
+kind_barred : (appends : Bool) → cond appends of_kind.PathOrRow of_kind.Path ≡ of_kind.Barred → ⊥
+kind_barred true h = clash cc
+kind_barred false h = clash cc
 
 -- it hinges on a pair
 pub hinged_pair :
     (v x : List ℕ) (k : Course) (limit : ℕ) (c : single.Command) (a : Asked) {start goal : ℕ} {appends b : Bool} → Asks v x k limit c a
     → a ≡ of_asked.Pair start goal appends → appends ≡ b
-    → HingedBy v x k limit c (record { start = start; goal = goal; kind = cond b asks_path_or_row asks_path })
+    → HingedBy v x k limit c (record { start = start; goal = goal; kind = cond b of_kind.PathOrRow of_kind.Path })
 hinged_pair v x k limit c a {start} {goal} {appends} {b} asks is told =
     let pair : Asks v x k limit c (of_asked.Pair start goal appends) = subst (Asks v x k limit c) is asks in
     record {

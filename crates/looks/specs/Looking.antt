@@ -1,8 +1,8 @@
 -- Looks: who is open, who is shut and cannot step, and what a step hinges on.
-use Rattle.std.specs.Prelude.{ℕ, zero, suc, ◌+◌, ◌<◌, ◌≤◌, ◌≡◌, Bool, true, false, not, cond, ◌⊎◌, List, eqb, length, get_or, set}
+use Rattle.std.specs.Prelude.{ℕ, zero, suc, ◌+◌, ◌<◌, ◌≤◌, ◌≡◌, Bool, true, false, not, cond, ◌⊎◌, List, length, get_or, set}
 use Rattle.std.proofs.Math.Option.{Option, none, some}
 use Rattle.graph.specs.declared.Command.{Command}
-use Rattle.graph.specs.Tests.{both, either}
+use Rattle.graph.specs.Tests.{both}
 use Rattle.graph.specs.Tables.{Lent, usable_limit, edge_rows}
 use Rattle.graph.specs.Paths.{holds}
 use Rattle.index.specs.Underway.{state_of, Ready, may_step}
@@ -14,8 +14,12 @@ use Rattle.machine.specs.Stepping.{step_limit}
 use Rattle.machine.specs.Running.{can_step}
 use Rattle.machine.specs.Dispatching.{is_busy, lowest_free}
 use Rattle.looks.specs.declared.Hinge.{Hinge}
+use Rattle.looks.specs.declared.Kind.{Kind}
+use Rattle.looks.specs.declared.Kind.TheVariants as of_kind
 use Rattle.index.specs.Asking.{Joined, Foretells}
-use Rattle.reachability.specs.Pairs.{pair_limit, not_held, joined}
+use Rattle.reachability.specs.declared.pairs.Telling.{Telling}
+use Rattle.reachability.specs.declared.pairs.Telling.TheVariants as told
+use Rattle.reachability.specs.Pairs.{pair_limit}
 
 -- WHO IS OPEN
 -- a vertex may step, as far as its own row tells, and is not busy
@@ -69,28 +73,15 @@ Lookable ed bytes ends v x k limit shut =
     MarksEnds ed bytes ends × (length ends ≡ program_bytes) × Ready v x k limit × (k.tally.steps < step_limit) × (length shut ≡ usable_limit)
 
 -- WHAT A STEP HINGES ON
--- the kinds: nothing, it may be accepted at once; a path; a path or a row; nothing, it is refused in any case
-abbrev pub asks_nothing : ℕ
-asks_nothing = 0
-
-abbrev pub asks_path : ℕ
-asks_path = 1
-
-abbrev pub asks_path_or_row : ℕ
-asks_path_or_row = 2
-
-abbrev pub is_barred : ℕ
-is_barred = 3
-
 -- What h tells is enough for a refusal: none hinges on anything else. Where no row leads from `goal` to `start`, a path from `start` to `goal` is, and of
 -- what needs a row that none is left.
 pub record Hinges (refusal : Type 0) (x : List ℕ) (k : Course) (limit : ℕ) (h : Hinge) : Type 0 where
   pub start_usable : h.start < usable_limit
   pub goal_usable : h.goal < usable_limit
-  pub barred : h.kind ≡ is_barred → refusal
+  pub barred : h.kind ≡ of_kind.Barred → refusal
   pub joined :
-      (h.kind ≡ asks_nothing → ⊥) → holds x k.used h.goal h.start ≡ false
-      → Joined x k.used h.start h.goal ⊎ ((h.kind ≡ asks_path_or_row) × (limit ≤ k.tally.held))
+      (h.kind ≡ of_kind.Nothing → ⊥) → holds x k.used h.goal h.start ≡ false
+      → Joined x k.used h.start h.goal ⊎ ((h.kind ≡ of_kind.PathOrRow) × (limit ≤ k.tally.held))
       → refusal
 
 -- of a command, and of a vertex's step
@@ -101,25 +92,30 @@ abbrev pub HingesOn : Edition → List ℕ → List ℕ → List ℕ → Course 
 HingesOn ed bytes v x k limit u h = Hinges (CannotOn ed bytes v x k limit u) x k limit h
 
 -- the hinge that three lists tell of
-abbrev pub hinge_at : List ℕ → List ℕ → List ℕ → ℕ → Hinge
-hinge_at starts goals kinds i = record { start = get_or starts i 0; goal = get_or goals i 0; kind = get_or kinds i 0 }
+abbrev pub hinge_at : List ℕ → List ℕ → List Kind → ℕ → Hinge
+hinge_at starts goals kinds i = record { start = get_or starts i 0; goal = get_or goals i 0; kind = get_or kinds i of_kind.Nothing }
 
 -- the first n of so many vertices from `base` on were asked
-pub record Asking (ed : Edition) (bytes v x : List ℕ) (k : Course) (limit base : ℕ) (starts goals kinds : List ℕ) (n : ℕ) : Type 0 where
+pub record Asking (ed : Edition) (bytes v x : List ℕ) (k : Course) (limit base : ℕ) (starts goals : List ℕ) (kinds : List Kind) (n : ℕ) : Type 0 where
   pub starts_long : length starts ≡ pair_limit
   pub goals_long : length goals ≡ pair_limit
   pub kinds_long : length kinds ≡ pair_limit
   pub hinges : (i : ℕ) → i < n → HingesOn ed bytes v x k limit (base + i) (hinge_at starts goals kinds i)
 
 -- what is told of a pair means that a step of this kind is refused; `full` where no edge row is left
-unfoldable pub is_refused : Bool → ℕ → ℕ → Bool
-is_refused full told kind =
-    either (eqb kind is_barred)
-    (both (not (eqb kind asks_nothing)) (either (eqb told joined) (both (eqb told not_held) (both (eqb kind asks_path_or_row) full))))
+unfoldable pub is_refused : Bool → Telling → Kind → Bool
+is_refused full t of_kind.Nothing = false
+is_refused full t of_kind.Barred = true
+is_refused full told.Joined of_kind.Path = true
+is_refused full told.NotHeld of_kind.Path = false
+is_refused full told.Nothing of_kind.Path = false
+is_refused full told.Joined of_kind.PathOrRow = true
+is_refused full told.NotHeld of_kind.PathOrRow = full
+is_refused full told.Nothing of_kind.PathOrRow = false
 
 -- the table of the shut, where the first n of the vertices from `base` on are shut if that is told of them
-unfoldable pub shut_told : Bool → List ℕ → List ℕ → ℕ → List ℕ → ℕ → List ℕ
-shut_told full told kinds base shut zero = shut
-shut_told full told kinds base shut (suc n) =
-    cond (is_refused full (get_or told n 0) (get_or kinds n 0)) (set (shut_told full told kinds base shut n) (base + n) 1)
-    (shut_told full told kinds base shut n)
+unfoldable pub shut_told : Bool → List Telling → List Kind → ℕ → List ℕ → ℕ → List ℕ
+shut_told full tells kinds base shut zero = shut
+shut_told full tells kinds base shut (suc n) =
+    cond (is_refused full (get_or tells n told.Nothing) (get_or kinds n of_kind.Nothing)) (set (shut_told full tells kinds base shut n) (base + n) 1)
+    (shut_told full tells kinds base shut n)

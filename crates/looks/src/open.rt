@@ -26,10 +26,7 @@ pub fn is_open(vertices: &[u32], busy: &[u32], shut: &[u32], vertex: u32) -> boo
     requires { (vertex_words * vertex + vertex_words ≤ length vertices.now) × (vertex < length shut.now) }
     ensures { result ≡ is_open vertices.now busy.now shut.now vertex }
 {
-    if !is_free(vertices, busy, vertex) {
-        return false;
-    }
-    shut[vertex as usize] == 0
+    is_free(vertices, busy, vertex) && shut[vertex as usize] == 0
 }
 
 // A vertex may step, as far as its own row tells, and is not busy.
@@ -38,13 +35,7 @@ fn is_free(vertices: &[u32], busy: &[u32], vertex: u32) -> bool
     ensures { result ≡ is_free vertices.now busy.now vertex }
 {
     let at = vertex as usize;
-    if !may_step(vertices, at) {
-        return false;
-    }
-    if busy.len() <= at {
-        return true;
-    }
-    busy[at] == 0
+    may_step(vertices, at) && (busy.len() <= at || busy[at] == 0)
 }
 
 // A vertex may step, as far as its own row tells: it executes, or it is released and its word says that no edge leads into it.
@@ -53,11 +44,5 @@ pub fn may_step(vertices: &[u32], vertex: usize) -> bool
     ensures { result ≡ may_step vertices.now vertex }
 {
     let status = vertices[VERTEX_WORDS * vertex + STATUS];
-    if status == EXECUTING {
-        return true;
-    }
-    if status != RELEASED {
-        return false;
-    }
-    vertices[VERTEX_WORDS * vertex + IN_COUNT] == 0
+    status == EXECUTING || status == RELEASED && vertices[VERTEX_WORDS * vertex + IN_COUNT] == 0
 }

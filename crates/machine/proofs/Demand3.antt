@@ -12,7 +12,7 @@ use lib.Dec.{ltb}
 use lib.ListN.{length}
 use borrow.Author.Tests.{lt-ltb, ltb-true, ltb-false}
 use Rattle.graph.specs.Tables.{Lent, vertex_rows}
-use Rattle.graph.specs.Paths.{CycleFree, more, holds}
+use Rattle.graph.specs.Paths.{CycleFree, holds}
 use Rattle.graph.specs.Answers.{Outcome}
 use Rattle.graph.proofs.TestLaws.{true-false, both_true}
 use Rattle.program.specs.Trees.{Body, counts}

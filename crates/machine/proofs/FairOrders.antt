@@ -30,7 +30,6 @@ use Rattle.program.specs.Reader.{reading, program}
 use Rattle.program.specs.Located.{located, start_of}
 use Rattle.program.proofs.LocatedLaws.{laid_located}
 use Rattle.machine.specs.Answers.{StepSaid, accepted, is_loaded}
-use Rattle.machine.specs.Answers as said
 use Rattle.machine.specs.Ahead.{Ahead}
 use Rattle.machine.specs.Loading.{load}
 use Rattle.machine.specs.Stepping.{step}

@@ -13,6 +13,7 @@
 --     FairOrders every fair order of the jobs can happen, and a schedule for each
 --     HandedOut  what a dispatch hands out, and the history of a host that runs jobs on threads
 --     Examples   the bench examples that are proved, as one table
+--     Theorems   the theorems, which the functions of src/laws.rt promise
 pub mod Answers
 pub mod Loading
 pub mod Stepping
@@ -26,3 +27,4 @@ pub mod Traces
 pub mod FairOrders
 pub mod HandedOut
 pub mod Examples
+pub mod Theorems

@@ -10,9 +10,9 @@ use lib.Seq.{drop-cons, drop-drop}
 use borrow.Author.Rules.{part_to_end}
 use Rattle.program.specs.declared.Reader.{Reader}
 use Rattle.program.specs.declared.Inside.{Inside}
+use Rattle.std.specs.Prelude.{Result, Ok, Err}
 use Rattle.refusal.specs.declared.Refusal.{Refusal}
-use Rattle.program.specs.declared.Advanced.{Advanced}
-use Rattle.program.specs.declared.Advanced.TheVariants as of_reader
+use Rattle.refusal.specs.Reasons.{number as number_of}
 use Rattle.program.specs.Trees.{Body, Item, a_job, an_async, a_finish, a_fork, a_future, a_force, with_first, open_behind, Counts, counts}
 use Rattle.program.specs.Bytes.{end_byte, future_byte}
 use Rattle.refusal.specs.Refusals.{bytes_run_out}
@@ -167,7 +167,7 @@ pub along_falls : (bytes : List ℕ) (from t : ℕ) → 2 * length bytes + 1 ≡
 along_falls bytes from t p = omega (arith, slice-length bytes from)
 
 -- what it says is said of what is left
-item_here : (bytes : List ℕ) (now : Inside) (r : Reader) (from : ℕ) {res res' : Advanced} → res ≡ res'
+item_here : (bytes : List ℕ) (now : Inside) (r : Reader) (from : ℕ) {res res' : Result Reader Refusal} → res ≡ res'
     → reached res
     ≡ progress counts_of (r.place + length (slice bytes from)) (item_counts r.seen)
     (item_in now (slice bytes from))
@@ -179,15 +179,15 @@ item_here bytes now r from {res} {res'} p q =
 
 -- an item is refused
 pub along_stopped : (bytes : List ℕ) (entry : Inside) (start : ℕ) (seen : Counts) (r : Reader) (now : Inside) (from : ℕ)
-    {res : Advanced} (e : Refusal)
-    → Along bytes entry start seen r now from → from < length bytes → (get_or bytes from 0 ≡ end_byte → ⊥) → res ≡ of_reader.Refused e
+    {res : Result Reader Refusal} (e : Refusal)
+    → Along bytes entry start seen r now from → from < length bytes → (get_or bytes from 0 ≡ end_byte → ⊥) → res ≡ Err e
     → reached res
     ≡ progress counts_of (r.place + length (slice bytes from)) (item_counts r.seen)
     (item_in now (slice bytes from))
-    → stopped e.number e.place ≡ progress counts (start + length bytes) seen (body_in entry bytes)
+    → stopped (number_of e.reason) e.place ≡ progress counts (start + length bytes) seen (body_in entry bytes)
 along_stopped bytes entry start seen r now from e h lt ne p q =
     body-stopped now.level now.opened (start + length bytes) (item_counts r.seen) (get_or bytes from 0) (drop (suc from) bytes)
-    e.number e.place ne
+    (number_of e.reason) e.place ne
     (item_here bytes now r from p q
     ∙ ap (λ (n : ℕ). progress counts_of n (item_counts r.seen) (item_in now (drop from bytes)))
     (left_length bytes entry start seen r now from h)
@@ -241,9 +241,9 @@ along_taken bytes entry start seen r now from r' next h lt ne counted (taken i r
     rest_is = ap (λ (n : ℕ). drop n bytes) from_is ∙ sym (drop-drop (length (item_bytes i)) from bytes) ∙ m.left
 
 -- the turn of an item that is read
-pub along_more : (bytes : List ℕ) (entry : Inside) (start : ℕ) (seen : Counts) (r : Reader) (now : Inside) (from : ℕ) {res : Advanced}
+pub along_more : (bytes : List ℕ) (entry : Inside) (start : ℕ) (seen : Counts) (r : Reader) (now : Inside) (from : ℕ) {res : Result Reader Refusal}
     (r' : Reader) (next : Inside)
-    → Along bytes entry start seen r now from → from < length bytes → (get_or bytes from 0 ≡ end_byte → ⊥) → res ≡ of_reader.Past r'
+    → Along bytes entry start seen r now from → from < length bytes → (get_or bytes from 0 ≡ end_byte → ⊥) → res ≡ Ok r'
     → reached res
     ≡ progress counts_of (r.place + length (slice bytes from)) (item_counts r.seen)
     (item_in now (slice bytes from))

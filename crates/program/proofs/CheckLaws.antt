@@ -11,6 +11,7 @@ use lib.Dec.{eqb, ltb, leb}
 use lib.ListN.{length, get_or, set, drop, replicate, length-set, length-drop, length-append, drop_of_length-le}
 use lib.Seq.{drop-cons, drop-drop, drop-append_seam, get_or-drop, get_or-set_same, get_or-set_other}
 use borrow.Author.Tests.{eqb-true, eqb-false, eq-eqb, ne_eqb, ltb-true, ltb-false, lt-ltb, le-ltb, le-leb, lt-leb}
+use Rattle.std.specs.Prelude.{Option, Some, None}
 use Rattle.program.specs.declared.Edition.{Edition}
 use Rattle.program.specs.declared.Edition.TheVariants.{First, Second}
 use Rattle.program.specs.Limits.{job_limit, level_limit, vertex_limit}
@@ -71,23 +72,23 @@ short_number bytes from lt low =
 
 pub short_over :
     (bytes : List ℕ) (from bound : ℕ) → from < length bytes → get_or bytes from 0 < top_bit → bound ≤ get_or bytes from 0
-    → 0 ≡ past_number (length bytes) bound (number (drop from bytes))
+    → None ≡ past_number (length bytes) bound (number (drop from bytes))
 unfolding past_number
 short_over bytes from bound lt low le = rw (short_number bytes from lt low, le-ltb (get_or bytes from 0) bound le) refl
 
 -- or it is
 pub short_below :
     (bytes : List ℕ) (from bound : ℕ) → from < length bytes → get_or bytes from 0 < top_bit → get_or bytes from 0 < bound
-    → from + 1 ≡ past_number (length bytes) bound (number (drop from bytes))
+    → Some (from + 1) ≡ past_number (length bytes) bound (number (drop from bytes))
 unfolding past_number
 short_below bytes from bound lt low below =
-    rw (short_number bytes from lt low, lt-ltb (get_or bytes from 0) bound below) (omega (arith, length-drop (suc from) bytes))
+    rw (short_number bytes from lt low, lt-ltb (get_or bytes from 0) bound below) (ap Some (omega (arith, length-drop (suc from) bytes)))
 
 -- any number: it is refused,
 pub long_refused :
     (bytes : List ℕ) (from bound len : ℕ) (seen : Counts) (n p : ℕ)
     → NumberProgress.stopped n p ≡ number_progress len seen (number (slice bytes from))
-    → 0 ≡ past_number (length bytes) bound (number (drop from bytes))
+    → None ≡ past_number (length bytes) bound (number (drop from bytes))
 unfolding past_number number_progress
 long_refused bytes from bound len seen n p is =
     go (number (slice bytes from)) is ∙ ap (λ (l : List ℕ). past_number (length bytes) bound (number l)) (part_to_end bytes from)
@@ -96,7 +97,7 @@ long_refused bytes from bound len seen n p is =
     Stopped (value n p s) = ⊥
     Stopped (NumberProgress.stopped n p) = Unit {0}
 
-    go : (o : Read ℕ) → NumberProgress.stopped n p ≡ number_progress len seen o → 0 ≡ past_number (length bytes) bound o
+    go : (o : Read ℕ) → NumberProgress.stopped n p ≡ number_progress len seen o → None ≡ past_number (length bytes) bound o
     go (took m rest) e = absurd (subst Stopped e tt)
     go (refused m left) e = refl
 
@@ -104,7 +105,7 @@ long_refused bytes from bound len seen n p is =
 pub long_read :
     (bytes : List ℕ) (from bound : ℕ) (seen seen' : Counts) (n p : ℕ) {len : ℕ} → len ≡ length bytes
     → value n p seen' ≡ number_progress len seen (number (slice bytes from))
-    → cond (ltb n bound) p 0 ≡ past_number (length bytes) bound (number (drop from bytes))
+    → cond (ltb n bound) (Some p) None ≡ past_number (length bytes) bound (number (drop from bytes))
 unfolding past_number number_progress
 long_read bytes from bound seen seen' n p {len} all is =
     go (number (slice bytes from)) is ∙ ap (λ (l : List ℕ). past_number (length bytes) bound (number l)) (part_to_end bytes from)
@@ -121,16 +122,16 @@ long_read bytes from bound seen seen' n p {len} all is =
     place_of (value n p s) = p
     place_of (NumberProgress.stopped n p) = p
 
-    go : (o : Read ℕ) → value n p seen' ≡ number_progress len seen o → cond (ltb n bound) p 0 ≡ past_number (length bytes) bound o
+    go : (o : Read ℕ) → value n p seen' ≡ number_progress len seen o → cond (ltb n bound) (Some p) None ≡ past_number (length bytes) bound o
     go (took m rest) e =
-        (λ i. cond (ltb (ap value_of e i) bound) (ap place_of e i) 0)
-        ∙ ap (λ (l : ℕ). cond (ltb m bound) (l - length rest) 0) all
+        (λ i. cond (ltb (ap value_of e i) bound) (Some (ap place_of e i)) None)
+        ∙ ap (λ (l : ℕ). cond (ltb m bound) (Some (l - length rest)) None) all
     go (refused m left) e = absurd (subst Value e tt)
 
 -- what the place behind a number tells: the number was read, and is below the bound, or it was refused or is not
-data Behind (len bound : ℕ) (xs : List ℕ) : ℕ → Type 0 where
-  number_read : (n : ℕ) (rest : List ℕ) → number xs ≡ took n rest → n < bound → Behind len bound xs (len - length rest)
-  number_not : ((n : ℕ) (rest : List ℕ) → number xs ≡ took n rest → bound ≤ n) → Behind len bound xs 0
+data Behind (len bound : ℕ) (xs : List ℕ) : Option ℕ → Type 0 where
+  number_read : (n : ℕ) (rest : List ℕ) → number xs ≡ took n rest → n < bound → Behind len bound xs (Some (len - length rest))
+  number_not : ((n : ℕ) (rest : List ℕ) → number xs ≡ took n rest → bound ≤ n) → Behind len bound xs None
 
 behind_is : (len bound : ℕ) (xs : List ℕ) → Behind len bound xs (past_number len bound (number xs))
 unfolding past_number
@@ -145,7 +146,7 @@ behind_is len bound xs = go (number xs) refl
     value_of (refused n left) = n
 
     second : (n : ℕ) (rest : List ℕ) → number xs ≡ took n rest → (t : Bool) → ltb n bound ≡ t
-        → Behind len bound xs (cond t (len - length rest) 0)
+        → Behind len bound xs (cond t (Some (len - length rest)) None)
     second n rest e true t = number_read n rest e (ltb-true n bound t)
     second n rest e false t =
         number_not (λ m rest' e'. let q : n ≡ m = ap value_of (sym e ∙ e') in let le = ltb-false n bound t in omega arith)
@@ -397,14 +398,14 @@ module _
 
   -- the place behind a number, by the bytes behind its item's first
   past_here :
-      (past bound : ℕ) → past ≡ past_number (length bytes) bound (number (drop (place + 1) bytes))
+      (past : Option ℕ) (bound : ℕ) → past ≡ past_number (length bytes) bound (number (drop (place + 1) bytes))
       → past ≡ past_number (length bytes) bound (number (drop (suc place) bytes))
   past_here past bound is = is ∙ ap (λ (k : ℕ). past_number (length bytes) bound (number (drop k bytes))) (add-one place)
 
   -- a job or a force whose number is refused or too large,
   pub checked_number :
-      (past bound : ℕ) → place < length bytes → opens_number (get_or bytes place 0) ≡ true → bound ≡ number_bound (get_or bytes place 0) opened
-      → past ≡ past_number (length bytes) bound (number (drop (place + 1) bytes)) → past ≡ 0
+      (past : Option ℕ) (bound : ℕ) → place < length bytes → opens_number (get_or bytes place 0) ≡ true → bound ≡ number_bound (get_or bytes place 0) opened
+      → past ≡ past_number (length bytes) bound (number (drop (place + 1) bytes)) → past ≡ None
       → (ed : Edition) → Table ed made → false ≡ is_read (reading ed bytes)
   checked_number past bound lt opens is behind none ed table =
       sym
@@ -412,11 +413,9 @@ module _
       ∙ go past (subst (Behind (length bytes) bound (drop (suc place) bytes)) (sym (past_here past bound behind)) (behind_is _ bound _)) none)
     where
       go :
-          (past : ℕ) → Behind (length bytes) bound (drop (suc place) bytes) past → past ≡ 0
+          (past : Option ℕ) → Behind (length bytes) bound (drop (suc place) bytes) past → past ≡ None
           → reads ed ops beh depth opened n (get_or bytes place 0 ∷ drop (suc place) bytes) ≡ false
-      go past (number_read m rest e below) nowhere =
-          let p = number_passed bytes place m rest lt h.outside opens e in
-          absurd (omega (arith, p.further))
+      go past (number_read m rest e below) nowhere = cc
       go past (number_not over) nowhere =
           reads_no_number ed (suc depth) opened n (get_or bytes place 0) (drop (suc place) bytes) _ opens
           (λ m rest e. subst (λ (b : ℕ). b ≤ m) is (over m rest e))
@@ -575,17 +574,16 @@ module _
   -- and a job or a force
   pub checked_past :
       (marks' : List ℕ) (past bound : ℕ) → place < length bytes → opens_number (get_or bytes place 0) ≡ true
-      → bound ≡ number_bound (get_or bytes place 0) opened → past ≡ past_number (length bytes) bound (number (drop (place + 1) bytes))
-      → (past ≡ 0 → ⊥) → marks' ≡ set marks place 1
+      → bound ≡ number_bound (get_or bytes place 0) opened → Some past ≡ past_number (length bytes) bound (number (drop (place + 1) bytes))
+      → marks' ≡ set marks place 1
       → Checking bytes before made marks' ops beh depth opened (n + get_or made (get_or bytes place 0) 0) past × (place < past)
-  checked_past marks' past bound lt opens is behind there set_one =
-      go past (subst (Behind (length bytes) bound (drop (suc place) bytes)) (sym (past_here past bound behind)) (behind_is _ bound _)) there
+  checked_past marks' past bound lt opens is behind set_one =
+      go past (subst (Behind (length bytes) bound (drop (suc place) bytes)) (sym (past_here (Some past) bound behind)) (behind_is _ bound _))
     where
       go :
-          (past : ℕ) → Behind (length bytes) bound (drop (suc place) bytes) past → (past ≡ 0 → ⊥)
+          (past : ℕ) → Behind (length bytes) bound (drop (suc place) bytes) (Some past)
           → Checking bytes before made marks' ops beh depth opened (n + get_or made (get_or bytes place 0) 0) past × (place < past)
-      go past (number_not over) there = absurd (there refl)
-      go past (number_read m rest e below) there =
+      go _ (number_read m rest e below) =
           let p = number_passed bytes place m rest lt h.outside opens e in
           let (long, marked) = marks_on marks' (length bytes - length rest) set_one p.further p.inside in (
             record {
@@ -616,11 +614,11 @@ module _
       → Checking bytes before made marks' ops beh depth opened n (place + 2)
   unfolding opens_number
   checked_short marks' f (job, more, low) is set_one =
-      let past : place + 2 ≡ past_number (length bytes) (suc job_limit) (number (drop (place + 1) bytes))
-      = two ∙ short_below bytes (place + 1) (suc job_limit) more low (omega arith) in
+      let past : Some (place + 2) ≡ past_number (length bytes) (suc job_limit) (number (drop (place + 1) bytes))
+      = ap Some two ∙ short_below bytes (place + 1) (suc job_limit) more low (omega arith) in
       subst (λ (m : ℕ). Checking bytes before made marks' ops beh depth opened m (place + 2)) makes
       (checked_past marks' (place + 2) (suc job_limit) (omega arith) (ap opens_number job) (ap (λ (x : ℕ). number_bound x opened) (sym job)) past
-      (omega arith) set_one).0
+      set_one).0
     where
       two : place + 2 ≡ place + 1 + 1
       two = omega arith

@@ -22,14 +22,6 @@ cond_yes x y p = ap (λ (t : Bool). cond t x y) (sym p)
 pub cond_no : {A : Type 0} {b : Bool} (x y : A) → b ≡ false → y ≡ cond b x y
 cond_no x y p = ap (λ (t : Bool). cond t x y) (sym p)
 
--- a count fits, with one more or none
-pub count_fits : (n first byte : ℕ) {one : ℕ} → one ≡ cond (eqb first byte) 1 0 → n ≤ program_bytes → n + one < 2 ^ 16
-count_fits n first byte p le = omega (arith, at_most_one (eqb first byte) p)
-  where
-    at_most_one : (b : Bool) {m : ℕ} → m ≡ cond b 1 0 → m ≤ 1
-    at_most_one true q = omega arith
-    at_most_one false q = omega arith
-
 -- a number's last group that is its only one, or is not 0
 shortest : (others last : ℕ) {P Q : Type 0} → P ⊎ Q → (P → others ≡ 0) → (Q → last ≡ 0 → ⊥) → cond (eqb others 0) true (ltb 0 last) ≡ true
 shortest others last came only more =
@@ -63,30 +55,3 @@ within_limit place seen n last others past after came only more le h =
     (λ i. value n (h.0 i) (item_counts (h.1 i)))
     ∙ cond_yes _ _ (le-leb n job_limit le)
     ∙ cond_yes _ _ (shortest others last came only more)
-
--- one more item counted
-pub one_more : (seen : ItemCounts) (first j a f k u x : ℕ)
-    → j ≡ cond (eqb first job_byte) 1 0 → a ≡ cond (eqb first async_byte) 1 0
-    → f ≡ cond (eqb first finish_byte) 1 0 → k ≡ cond (eqb first fork_byte) 1 0
-    → u ≡ cond (eqb first future_byte) 1 0 → x ≡ cond (eqb first force_byte) 1 0
-    → ◌≡◌ {A = Counts}
-    (record {
-      w = seen.jobs + j;
-      a = seen.asyncs + a;
-      f = seen.finishes + f;
-      k = seen.forks + k;
-      u = seen.futures + u;
-      x = seen.forces + x;
-    })
-    (plus (item_counts seen) (one_of first))
-unfolding plus one_of
-one_more seen first j a f k u x p q r s t v =
-    λ i.
-    record {
-      w = seen.jobs + p i;
-      a = seen.asyncs + q i;
-      f = seen.finishes + r i;
-      k = seen.forks + s i;
-      u = seen.futures + t i;
-      x = seen.forces + v i;
-    }

@@ -1,12 +1,12 @@
 -- What the item reader tells at its place, where a body's bytes start, and the reader that it hands back: one law for each path through
--- `item_here`, `job_here` and `force_here`.
+-- `item_here`, `item_ended` and `numbered_here`.
 use Prim.Native.Nat.{ℕ, suc, ◌+◌, ◌≤◌}
-use mathlib.Core.Path.{◌≡◌, refl, ap, ap₂, ◌∙◌}
+use mathlib.Core.Path.{◌≡◌, refl, sym, ap, ap₂, ◌∙◌}
 use mathlib.Core.List.{List, [], ◌++◌}
-use mathlib.Core.Logic.{inl, inr}
 use mathlib.Core.Option.{some}
 use native.Mathlib.Omega.{arith}
 use lib.ListN.{length, get_or, length-append}
+use borrow.Author.Tests.{eq-eqb, ne_eqb}
 use Rattle.program.specs.declared.ItemCounts.{ItemCounts}
 use Rattle.program.specs.declared.Reader.{Reader}
 use Rattle.program.specs.Limits.{job_limit}
@@ -16,7 +16,9 @@ use Rattle.program.specs.Bytes.{encode_number, encode, number_size, size}
 use Rattle.program.specs.Reader.{Read, took, refused, number}
 use Rattle.program.specs.Answers.{item_counts, Stands}
 use Rattle.program.specs.Located.{Code, locate, start_of, head}
-use Rattle.program.specs.Internal.Progress.{NumberProgress, value, stopped, number_progress, Sized, Shows, ShowsNumbered}
+use Rattle.program.specs.Internal.Progress.{NumberProgress, value, stopped, number_progress, Sized, Shows, ShowsNumbered, numbered_stands}
+use Rattle.program.specs.Claims.{HasNumber}
+use Rattle.program.proofs.CodeLaws.{cond_yes, cond_no}
 use Rattle.program.proofs.NumberLaws.{number_complete}
 use Rattle.program.proofs.LocatedLaws.{place_locate}
 use Rattle.program.proofs.SkipLaws.{part, part_is, on_end, on_number, on_one, on_fork, past_body}
@@ -66,19 +68,23 @@ pub shows_end : (xs : List ℕ) (p : ℕ) → get_or xs 0 0 ≡ end_byte → Sho
 unfolding locate head
 shows_end xs p is b rest f e = on_end (λ b. Stands.end ≡ head (locate [] p b)) xs b rest e is refl
 
--- a job
-pub shows_job : (xs : List ℕ) (p : ℕ) (s : Stands) → get_or xs 0 0 ≡ job_byte → ShowsNumbered Stands.job xs p s → Shows xs p s
-shows_job xs p s is shown b rest f e =
-    on_number (λ b. s ≡ head (locate [] p b)) xs b rest f e (inl is)
-    (λ n r is low fr tail. shown n (encode r ++ rest) low tail ∙ head-job p n r)
-    (λ n r is' low fr tail. absurd (omega arith))
+-- what is told of a job, and of a force
+told_job : (x n p : ℕ) → x ≡ job_byte → Stands.job n p ≡ numbered_stands x n p
+told_job x n p is = cond_yes _ _ (eq-eqb x job_byte is)
 
--- a force
-pub shows_force : (xs : List ℕ) (p : ℕ) (s : Stands) → get_or xs 0 0 ≡ force_byte → ShowsNumbered Stands.force xs p s → Shows xs p s
-shows_force xs p s is shown b rest f e =
-    on_number (λ b. s ≡ head (locate [] p b)) xs b rest f e (inr is)
-    (λ n r is' low fr tail. absurd (omega arith))
-    (λ n r is low fr tail. shown n (encode r ++ rest) low tail ∙ head-force p n r)
+told_force : (x n p : ℕ) → (x ≡ job_byte → ⊥) → Stands.force n p ≡ numbered_stands x n p
+told_force x n p other = cond_no _ _ (ne_eqb x job_byte other)
+
+-- a job or a force
+pub shows_numbered :
+    (xs : List ℕ) (p : ℕ) (s : Stands) → HasNumber (get_or xs 0 0) → ShowsNumbered (numbered_stands (get_or xs 0 0)) xs p s → Shows xs p s
+shows_numbered xs p s has shown b rest f e =
+    on_number (λ b. s ≡ head (locate [] p b)) xs b rest f e has
+    (λ n r is low fr tail.
+    shown n (encode r ++ rest) low tail ∙ sym (told_job (get_or xs 0 0) n (p + 1 + number_size n) is) ∙ head-job p n r)
+    (λ n r is low fr tail.
+    shown n (encode r ++ rest) low tail ∙ sym (told_force (get_or xs 0 0) n (p + 1 + number_size n) (λ j. absurd (omega arith)))
+    ∙ head-force p n r)
 
 -- an async
 pub shows_async :
@@ -134,16 +140,37 @@ number_read xs p seen n rest le e =
     ap (λ r. number_progress (p + length xs) seen r) (ap number e ∙ number_complete n rest le) ∙ ap (λ (o : ℕ). value n o seen) (omega arith)
 
 -- what has a number that was read, or the refusal of it
-abbrev pub numbered_or : (ℕ → ℕ → Stands) → NumberProgress → Stands
+abbrev numbered_or : (ℕ → ℕ → Stands) → NumberProgress → Stands
 numbered_or said (value n past seen) = said n past
 numbered_or said (stopped n place) = Stands.refused n place
 
 -- the job or the force with the number
-pub number_shown :
-    (said : ℕ → ℕ → Stands) (xs : List ℕ) (p q : ℕ) (seen : Counts) (g : NumberProgress) → q ≡ p + 1
-    → g ≡ number_progress (q + length (part 1 xs)) seen (number (part 1 xs)) → ShowsNumbered said xs p (numbered_or said g)
-number_shown said xs p q seen g at is n rest le e =
-    ap (numbered_or said) (is ∙ number_read (part 1 xs) q seen n rest le (part_is 1 xs ∙ e)) ∙ ap (λ (o : ℕ). said n (o + number_size n)) at
+abbrev Numbered : List ℕ → ℕ → ℕ → Counts → NumberProgress → Type 0
+Numbered xs p q seen g = (q ≡ p + 1) × (g ≡ number_progress (q + length (part 1 xs)) seen (number (part 1 xs)))
+
+number_shown :
+    (xs : List ℕ) (p q : ℕ) (seen : Counts) (g : NumberProgress) → Numbered xs p q seen g
+    → ShowsNumbered (numbered_stands (get_or xs 0 0)) xs p (numbered_or (numbered_stands (get_or xs 0 0)) g)
+number_shown xs p q seen g (at, is) n rest le e =
+    ap (numbered_or (numbered_stands (get_or xs 0 0))) (is ∙ number_read (part 1 xs) q seen n rest le (part_is 1 xs ∙ e))
+    ∙ ap (λ (o : ℕ). numbered_stands (get_or xs 0 0) n (o + number_size n)) at
+
+pub job_shown :
+    (xs : List ℕ) (p q : ℕ) (seen : Counts) (n past : ℕ) (after : Counts) → Numbered xs p q seen (value n past after) → get_or xs 0 0 ≡ job_byte
+    → ShowsNumbered (numbered_stands (get_or xs 0 0)) xs p (Stands.job n past)
+job_shown xs p q seen n past after is first m rest le e =
+    told_job (get_or xs 0 0) n past first ∙ number_shown xs p q seen (value n past after) is m rest le e
+
+pub force_shown :
+    (xs : List ℕ) (p q : ℕ) (seen : Counts) (n past : ℕ) (after : Counts) → Numbered xs p q seen (value n past after)
+    → (get_or xs 0 0 ≡ job_byte → ⊥) → ShowsNumbered (numbered_stands (get_or xs 0 0)) xs p (Stands.force n past)
+force_shown xs p q seen n past after is other m rest le e =
+    told_force (get_or xs 0 0) n past other ∙ number_shown xs p q seen (value n past after) is m rest le e
+
+pub refusal_shown :
+    (xs : List ℕ) (p q : ℕ) (seen : Counts) (n place : ℕ) → Numbered xs p q seen (stopped n place)
+    → ShowsNumbered (numbered_stands (get_or xs 0 0)) xs p (Stands.refused n place)
+refusal_shown xs p q seen n place is = number_shown xs p q seen (stopped n place) is
 
 -- the reader handed back is at this place, and has seen what was seen before
 pub handed : (r : Reader) {p : ℕ} {seen : ItemCounts} → r.place ≡ p → r.seen ≡ seen → some r ≡ some (record { place = p; seen = seen })

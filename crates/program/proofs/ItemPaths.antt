@@ -1,30 +1,33 @@
 -- Reading an item: what each path through its reader comes to.
-use Prim.Native.Nat.{ℕ, suc, ◌+◌, ◌-◌, ◌*◌, ◌<◌, ◌≤◌}
+use Prim.Native.Nat.{ℕ, zero, suc, ◌+◌, ◌-◌, ◌*◌, ◌<◌, ◌≤◌}
 use mathlib.Core.Path.{◌≡◌, refl, sym, ◌∙◌, ap, subst}
 use mathlib.Core.List.{List, [], ◌∷◌}
 use native.Mathlib.Numerals.{add-one}
 use native.Mathlib.Omega.{arith}
 use lib.ListN.{length, get_or, drop, length-drop}
 use lib.Seq.{drop-cons, drop-drop}
-use borrow.Author.Tests.{lt-ltb, le-ltb}
+use mathlib.Core.Bool.{Bool, true, false, cond}
+use mathlib.Core.Logic.{◌⊎◌, inl, inr}
+use mathlib.Core.Option.{Option, none}
+use lib.Dec.{eqb}
+use borrow.Author.Tests.{lt-ltb, le-ltb, eq-eqb, ne_eqb}
 use borrow.Author.Rules.{part_to_end}
 use Rattle.program.specs.declared.ItemCounts.{ItemCounts}
 use Rattle.program.specs.declared.Reader.{Reader}
+use Rattle.std.specs.Prelude.{Result, Ok, Err}
 use Rattle.refusal.specs.declared.Refusal.{Refusal}
-use Rattle.program.specs.declared.Advanced.{Advanced}
-use Rattle.program.specs.declared.Advanced.TheVariants as of_reader
-use Rattle.program.specs.declared.NumberRead.{NumberRead}
-use Rattle.program.specs.declared.NumberRead.TheVariants as of_number
+use Rattle.refusal.specs.Reasons.{number as number_of}
 use Rattle.program.specs.Limits.{level_limit}
-use Rattle.program.specs.Trees.{Body, Item, a_job, a_fork, a_force, with_first, Counts, counts, total, same}
+use Rattle.program.specs.Claims.{HasNumber}
+use Rattle.program.specs.Trees.{Kind, Body, Item, a_job, a_fork, a_force, with_first, Counts, counts, total, same}
 use Rattle.program.specs.Bytes.{end_byte, job_byte, async_byte, finish_byte, fork_byte, future_byte, force_byte, encode}
 use Rattle.refusal.specs.Refusals.{byte_unknown, level_too_deep, bytes_run_out, no_such_future}
 use Rattle.program.specs.Reader.{Read, took, refused, and_then, take_if, number, kind_of, job_of, force_of, item_of, item, body}
 use Rattle.program.specs.Answers.{item_counts}
 use Rattle.program.specs.Internal.Progress.{plus, Progress, past, reached, progress, counts_of, NumberProgress, value, reached_number}
-use Rattle.program.specs.Internal.Progress.{number_progress, one_of, Few, Ready}
+use Rattle.program.specs.Internal.Progress.{number_progress, numbered_of, one_of, Few, Ready}
 use Rattle.program.proofs.ReaderLaws.{item_job, item_force, OpensOneBody, of_async, of_finish, of_future, item_one, item_fork, Opener}
-use Rattle.program.proofs.ReaderLaws.{holds_one, holds_two, opener_is, item_deep, item_unknown}
+use Rattle.program.proofs.ReaderLaws.{holds_one, holds_two, opener_is, item_deep}
 use Rattle.program.proofs.Soundness.{body_sound}
 use Rattle.program.proofs.ProgressLaws.{slice, slice-length, plus_assoc, body_most, stopped_on, Moved, Taken, taken, past_taken}
 
@@ -59,13 +62,13 @@ number_read len s n p t (refused m left) h = absurd (subst IsValue h tt)
     IsValue (NumberProgress.stopped m q) = ⊥
 
 -- what its reader ensured
-abbrev NumberEnsured : ℕ → Counts → List ℕ → NumberRead → Type 0
+abbrev NumberEnsured : ℕ → Counts → List ℕ → Result (ℕ × Reader) Refusal → Type 0
 NumberEnsured len s xs res = reached_number res ≡ number_progress len s (number xs)
 
 -- its number is refused
-number-stopped : (len : ℕ) (s : Counts) (xs : List ℕ) (next : ℕ → List ℕ → Read Item) {res : NumberRead} (e : Refusal)
-    → res ≡ of_number.Refused e → NumberEnsured len s xs res
-    → Progress.stopped e.number e.place ≡ progress counts_of len s (and_then (number xs) next)
+number-stopped : (len : ℕ) (s : Counts) (xs : List ℕ) (next : ℕ → List ℕ → Read Item) {res : Result (ℕ × Reader) Refusal} (e : Refusal)
+    → res ≡ Err e → NumberEnsured len s xs res
+    → Progress.stopped (number_of e.reason) e.place ≡ progress counts_of len s (and_then (number xs) next)
 unfolding number_progress progress and_then
 number-stopped len s xs next e p q = go (number xs) (ap reached_number (sym p) ∙ q)
   where
@@ -77,15 +80,15 @@ number-stopped len s xs next e p q = go (number xs) (ap reached_number (sym p) �
     as_item (value m q c) = past q c
     as_item (NumberProgress.stopped m q) = Progress.stopped m q
 
-    go : (o : Read ℕ) → NumberProgress.stopped e.number e.place ≡ number_progress len s o
-        → Progress.stopped e.number e.place ≡ progress counts_of len s (and_then o next)
+    go : (o : Read ℕ) → NumberProgress.stopped (number_of e.reason) e.place ≡ number_progress len s o
+        → Progress.stopped (number_of e.reason) e.place ≡ progress counts_of len s (and_then o next)
     go (took m rest) h = absurd (subst IsStopped h tt)
     go (refused m left) h = ap as_item h
 
 -- its number is read, and the item is
-number_counted : (x : ℕ) (i : Item) (len : ℕ) (s : Counts) (xs : List ℕ) (next : ℕ → List ℕ → Read Item) {res : NumberRead} (n : ℕ)
+number_counted : (x : ℕ) (i : Item) (len : ℕ) (s : Counts) (xs : List ℕ) (next : ℕ → List ℕ → Read Item) {res : Result (ℕ × Reader) Refusal} (n : ℕ)
     (r r' : Reader)
-    → counts_of i ≡ one_of x → ((rest : List ℕ) → next n rest ≡ took i rest) → res ≡ of_number.Number n r → NumberEnsured len s xs res
+    → counts_of i ≡ one_of x → ((rest : List ℕ) → next n rest ≡ took i rest) → res ≡ Ok (n, r) → NumberEnsured len s xs res
     → (r'.place ≡ r.place) × (item_counts r'.seen ≡ plus (item_counts r.seen) (one_of x))
     → past r'.place (item_counts r'.seen) ≡ progress counts_of len s (and_then (number xs) next)
 unfolding progress and_then
@@ -105,13 +108,13 @@ unfolding counts_of counts total same with_first one_of
 force_counts n = refl
 
 -- a job's number is refused
-pub job_stopped : (len : ℕ) (s : Counts) (xs : List ℕ) {res : NumberRead} (e : Refusal) → res ≡ of_number.Refused e
-    → NumberEnsured len s xs res → Progress.stopped e.number e.place ≡ progress counts_of len s (job_of xs)
+job_stopped : (len : ℕ) (s : Counts) (xs : List ℕ) {res : Result (ℕ × Reader) Refusal} (e : Refusal) → res ≡ Err e
+    → NumberEnsured len s xs res → Progress.stopped (number_of e.reason) e.place ≡ progress counts_of len s (job_of xs)
 unfolding job_of
 job_stopped len s xs e p q = number-stopped len s xs _ e p q
 
 -- or read
-pub job_counted : (len : ℕ) (s : Counts) (xs : List ℕ) {res : NumberRead} (n : ℕ) (r r' : Reader) → res ≡ of_number.Number n r
+job_counted : (len : ℕ) (s : Counts) (xs : List ℕ) {res : Result (ℕ × Reader) Refusal} (n : ℕ) (r r' : Reader) → res ≡ Ok (n, r)
     → NumberEnsured len s xs res
     → (r'.place ≡ r.place) × (item_counts r'.seen ≡ plus (item_counts r.seen) (one_of job_byte))
     → past r'.place (item_counts r'.seen) ≡ progress counts_of len s (job_of xs)
@@ -119,14 +122,14 @@ unfolding job_of
 job_counted len s xs n r r' p q h = number_counted job_byte (a_job n) len s xs _ n r r' (job_counts n) (λ rest. refl) p q h
 
 -- a force's number is refused
-pub force_stopped : (len : ℕ) (s : Counts) (opened : ℕ) (xs : List ℕ) {res : NumberRead} (e : Refusal) → res ≡ of_number.Refused e
-    → NumberEnsured len s xs res → Progress.stopped e.number e.place ≡ progress counts_of len s (force_of opened xs)
+force_stopped : (len : ℕ) (s : Counts) (opened : ℕ) (xs : List ℕ) {res : Result (ℕ × Reader) Refusal} (e : Refusal) → res ≡ Err e
+    → NumberEnsured len s xs res → Progress.stopped (number_of e.reason) e.place ≡ progress counts_of len s (force_of opened xs)
 unfolding force_of
 force_stopped len s opened xs e p q = number-stopped len s xs _ e p q
 
 -- or read, and names no open future
-pub force_unopened : (place : ℕ) (s : Counts) (opened : ℕ) (xs : List ℕ) {res : NumberRead} (n : ℕ) (r : Reader)
-    → res ≡ of_number.Number n r → NumberEnsured (place + length xs) s xs res → opened ≤ n
+force_unopened : (place : ℕ) (s : Counts) (opened : ℕ) (xs : List ℕ) {res : Result (ℕ × Reader) Refusal} (n : ℕ) (r : Reader)
+    → res ≡ Ok (n, r) → NumberEnsured (place + length xs) s xs res → opened ≤ n
     → Progress.stopped no_such_future place ≡ progress counts_of (place + length xs) s (force_of opened xs)
 unfolding force_of progress and_then take_if
 force_unopened place s opened xs n r p q le =
@@ -135,13 +138,52 @@ force_unopened place s opened xs n r p q le =
     rw (e, le-ltb n opened le) (ap (Progress.stopped no_such_future) (omega arith))
 
 -- or names one
-pub force_counted : (len : ℕ) (s : Counts) (opened : ℕ) (xs : List ℕ) {res : NumberRead} (n : ℕ) (r r' : Reader)
-    → res ≡ of_number.Number n r → NumberEnsured len s xs res → n < opened
+force_counted : (len : ℕ) (s : Counts) (opened : ℕ) (xs : List ℕ) {res : Result (ℕ × Reader) Refusal} (n : ℕ) (r r' : Reader)
+    → res ≡ Ok (n, r) → NumberEnsured len s xs res → n < opened
     → (r'.place ≡ r.place) × (item_counts r'.seen ≡ plus (item_counts r.seen) (one_of force_byte))
     → past r'.place (item_counts r'.seen) ≡ progress counts_of len s (force_of opened xs)
 unfolding force_of take_if
 force_counted len s opened xs n r r' p q lt h =
     number_counted force_byte (a_force n) len s xs _ n r r' (force_counts n) (λ rest. rw (lt-ltb n opened lt) refl) p q h
+
+-- which of the two it is
+numbered_job : (x opened : ℕ) (xs : List ℕ) → (x ≡ force_byte → ⊥) → numbered_of x opened xs ≡ job_of xs
+unfolding numbered_of
+numbered_job x opened xs ne = rw (ne_eqb x force_byte ne) refl
+
+numbered_force : (x opened : ℕ) (xs : List ℕ) → x ≡ force_byte → numbered_of x opened xs ≡ force_of opened xs
+unfolding numbered_of
+numbered_force x opened xs is = rw (eq-eqb x force_byte is) refl
+
+-- the number of either is refused
+pub numbered_stopped : (len : ℕ) (s : Counts) (x opened : ℕ) (xs : List ℕ) {res : Result (ℕ × Reader) Refusal} (e : Refusal) → res ≡ Err e
+    → NumberEnsured len s xs res → Progress.stopped (number_of e.reason) e.place ≡ progress counts_of len s (numbered_of x opened xs)
+unfolding numbered_of
+numbered_stopped len s x opened xs e p q = go (eqb x force_byte)
+  where
+    go : (t : Bool) → Progress.stopped (number_of e.reason) e.place ≡ progress counts_of len s (cond t (force_of opened xs) (job_of xs))
+    go true = force_stopped len s opened xs e p q
+    go false = job_stopped len s xs e p q
+
+-- or read, and a force's names no open future
+pub numbered_unopened : (place : ℕ) (s : Counts) (x opened : ℕ) (xs : List ℕ) {res : Result (ℕ × Reader) Refusal} (n : ℕ) (r : Reader)
+    → res ≡ Ok (n, r) → NumberEnsured (place + length xs) s xs res → x ≡ force_byte → opened ≤ n
+    → Progress.stopped no_such_future place ≡ progress counts_of (place + length xs) s (numbered_of x opened xs)
+numbered_unopened place s x opened xs n r p q is le =
+    force_unopened place s opened xs n r p q le ∙ ap (progress counts_of (place + length xs) s) (sym (numbered_force x opened xs is))
+
+-- or names one
+pub numbered_counted : (len : ℕ) (s : Counts) (x opened : ℕ) (xs : List ℕ) {res : Result (ℕ × Reader) Refusal} (n : ℕ) (r r' : Reader)
+    → HasNumber x → res ≡ Ok (n, r) → NumberEnsured len s xs res → ((x ≡ force_byte) × (n < opened)) ⊎ (x ≡ force_byte → ⊥)
+    → (r'.place ≡ r.place) × (item_counts r'.seen ≡ plus (item_counts r.seen) (one_of x))
+    → past r'.place (item_counts r'.seen) ≡ progress counts_of len s (numbered_of x opened xs)
+numbered_counted len s x opened xs n r r' has p q (inl (is, lt)) h =
+    force_counted len s opened xs n r r' p q lt (h.0, h.1 ∙ ap (λ (y : ℕ). plus (item_counts r.seen) (one_of y)) is)
+    ∙ ap (progress counts_of len s) (sym (numbered_force x opened xs is))
+numbered_counted len s x opened xs n r r' (inl is) p q (inr other) h =
+    job_counted len s xs n r r' p q (h.0, h.1 ∙ ap (λ (y : ℕ). plus (item_counts r.seen) (one_of y)) is)
+    ∙ ap (progress counts_of len s) (sym (numbered_job x opened xs other))
+numbered_counted len s x opened xs n r r' (inr is) p q (inr other) h = absurd (other is)
 
 -- a reader that was ready has counted few items
 few_of : (r : Reader) (xs : List ℕ) → Ready r xs → Few (item_counts r.seen)
@@ -156,7 +198,7 @@ few_of r xs h =
     }
 
 -- so it has few behind a number
-pub number_few : (len : ℕ) (r : Reader) (xs : List ℕ) {res : NumberRead} (n : ℕ) (r' : Reader) → Ready r xs → res ≡ of_number.Number n r'
+pub number_few : (len : ℕ) (r : Reader) (xs : List ℕ) {res : Result (ℕ × Reader) Refusal} (n : ℕ) (r' : Reader) → Ready r xs → res ≡ Ok (n, r')
     → NumberEnsured len (item_counts r.seen) xs res → Few (item_counts r'.seen)
 number_few len r xs n r' h p q =
     let (_, _, _, seen) =
@@ -223,11 +265,10 @@ unfolding item progress
 path_out level opened [] place s p = ap (Progress.stopped bytes_run_out) (omega arith)
 path_out level opened (x ∷ left) place s p = absurd (omega arith)
 
--- the end byte starts no item
-item_none : (level opened x : ℕ) (left : List ℕ) → x ≡ end_byte → item body level opened (x ∷ left) ≡ refused byte_unknown (x ∷ left)
-unfolding item item_of kind_of
-item_none level opened x left p =
-    ap (λ (y : ℕ). item body level opened (y ∷ left)) p ∙ ap (λ (y : ℕ). refused byte_unknown (y ∷ left)) (sym p)
+-- a byte of no kind starts no item
+item_none : (level opened x : ℕ) (left : List ℕ) → kind_of x ≡ none → item body level opened (x ∷ left) ≡ refused byte_unknown (x ∷ left)
+unfolding item item_of
+item_none level opened x left p = ap (λ (k : Option Kind). item_of body level opened (x ∷ left) k left) p
 
 -- a refusal at the item
 refused_here : (n place : ℕ) (s : Counts) (xs : List ℕ) (t : Read Item) → t ≡ refused n xs
@@ -257,9 +298,19 @@ pub record Opened (level opened : ℕ) (xs : List ℕ) (r o : Reader) : Type 0 w
   pub few : opened ≤ r.place
   pub moved : (o.place ≡ r.place + 1) × (o.seen ≡ r.seen)
 
--- of the bytes that open bodies, the one that is no async's, finish's or future's is a fork's
-pub only_fork : (x : ℕ) → async_byte ≤ x → x ≤ future_byte → (x ≡ async_byte → ⊥) → (x ≡ finish_byte → ⊥) → (x ≡ future_byte → ⊥) → x ≡ fork_byte
-only_fork x ge le a f u = omega (arith, a, f, u)
+-- other bytes start no item
+pub of_no_kind :
+    (x : ℕ) → (x ≡ job_byte → ⊥) → (x ≡ async_byte → ⊥) → (x ≡ finish_byte → ⊥) → (x ≡ fork_byte → ⊥) → (x ≡ future_byte → ⊥)
+    → (x ≡ force_byte → ⊥) → kind_of x ≡ none
+unfolding kind_of
+of_no_kind zero j a f k u o = refl
+of_no_kind (suc zero) j a f k u o = absurd (j refl)
+of_no_kind (suc (suc zero)) j a f k u o = absurd (a refl)
+of_no_kind (suc (suc (suc zero))) j a f k u o = absurd (f refl)
+of_no_kind (suc (suc (suc (suc zero)))) j a f k u o = absurd (k refl)
+of_no_kind (suc (suc (suc (suc (suc zero))))) j a f k u o = absurd (u refl)
+of_no_kind (suc (suc (suc (suc (suc (suc zero)))))) j a f k u o = absurd (o refl)
+of_no_kind (suc (suc (suc (suc (suc (suc (suc n))))))) j a f k u o = refl
 
 module _ {level opened : ℕ} {xs : List ℕ} {r o : Reader} (at : Opened level opened xs r o) where
   -- what the item's reader is to come to
@@ -278,11 +329,8 @@ module _ {level opened : ℕ} {xs : List ℕ} {r o : Reader} (at : Opened level 
   stop_here n p = refused_here n r.place (item_counts r.seen) xs (item body level opened xs) (by_first p ∙ ap (refused n) (sym split))
 
   -- a first byte that starts no item
-  pub path_low : get_or xs 0 0 < async_byte → (get_or xs 0 0 ≡ job_byte → ⊥) → Comes (Progress.stopped byte_unknown r.place)
-  path_low lt other = stop_here byte_unknown (item_none level opened (get_or xs 0 0) (drop 1 xs) (omega arith))
-
-  pub path_high : future_byte < get_or xs 0 0 → (get_or xs 0 0 ≡ force_byte → ⊥) → Comes (Progress.stopped byte_unknown r.place)
-  path_high lt other = stop_here byte_unknown (item_unknown level opened (get_or xs 0 0) (drop 1 xs) (omega arith))
+  pub path_unknown : kind_of (get_or xs 0 0) ≡ none → Comes (Progress.stopped byte_unknown r.place)
+  path_unknown p = stop_here byte_unknown (item_none level opened (get_or xs 0 0) (drop 1 xs) p)
 
   -- the reader behind the first byte is ready
   opened_left : Ready o (drop 1 xs)
@@ -322,7 +370,7 @@ module _ {level opened : ℕ} {xs : List ℕ} {r o : Reader} (at : Opened level 
       len = omega (arith, at.some, at.moved.0, length-drop 1 xs)
 
   -- a job
-  pub path_job : {v : Progress} → get_or xs 0 0 ≡ job_byte
+  path_job : {v : Progress} → get_or xs 0 0 ≡ job_byte
       → v ≡ progress counts_of (o.place + length (slice xs 1)) (item_counts o.seen) (job_of (slice xs 1)) → Comes v
   path_job p q =
       from_left counts_of job_of q
@@ -330,12 +378,25 @@ module _ {level opened : ℕ} {xs : List ℕ} {r o : Reader} (at : Opened level 
       (sym (by_first (ap (λ (y : ℕ). item body level opened (y ∷ drop 1 xs)) p ∙ item_job level opened (drop 1 xs))))
 
   -- a force
-  pub path_force : {v : Progress} → get_or xs 0 0 ≡ force_byte
+  path_force : {v : Progress} → get_or xs 0 0 ≡ force_byte
       → v ≡ progress counts_of (o.place + length (slice xs 1)) (item_counts o.seen) (force_of opened (slice xs 1)) → Comes v
   path_force p q =
       from_left counts_of (force_of opened) q
       ∙ ap (progress counts_of (r.place + length xs) (item_counts r.seen))
       (sym (by_first (ap (λ (y : ℕ). item body level opened (y ∷ drop 1 xs)) p ∙ item_force level opened (drop 1 xs))))
+
+  -- either
+  pub path_numbered : {v : Progress} → HasNumber (get_or xs 0 0)
+      → v ≡ progress counts_of (o.place + length (slice xs 1)) (item_counts o.seen) (numbered_of (get_or xs 0 0) opened (slice xs 1))
+      → Comes v
+  path_numbered (inl p) q =
+      path_job p
+      (q
+      ∙ ap (progress counts_of (o.place + length (slice xs 1)) (item_counts o.seen))
+      (numbered_job (get_or xs 0 0) opened (slice xs 1) (λ f. absurd (omega arith))))
+  path_numbered (inr p) q =
+      path_force p
+      (q ∙ ap (progress counts_of (o.place + length (slice xs 1)) (item_counts o.seen)) (numbered_force (get_or xs 0 0) opened (slice xs 1) p))
 
   -- an item that holds bodies
   holding : (op : Opener (get_or xs 0 0)) → level < level_limit
@@ -354,32 +415,31 @@ module _ {level opened : ℕ} {xs : List ℕ} {r o : Reader} (at : Opened level 
       ∙ ap (λ (n : ℕ). progress counts (r.place + length xs) (item_counts r.seen) (body n opened (drop 1 xs))) (add-one level)
 
   -- its first body is refused
-  pub path_stopped : {res : Advanced} (e : Refusal) → async_byte ≤ get_or xs 0 0 → get_or xs 0 0 ≤ future_byte → level < level_limit
-      → res ≡ of_reader.Refused e → First (reached res) → Comes (Progress.stopped e.number e.place)
+  pub path_stopped : {res : Result Reader Refusal} (e : Refusal) → async_byte ≤ get_or xs 0 0 → get_or xs 0 0 ≤ future_byte → level < level_limit
+      → res ≡ Err e → First (reached res) → Comes (Progress.stopped (number_of e.reason) e.place)
   path_stopped e ge le lt p q =
-      stopped_on counts counts_of (r.place + length xs) (item_counts r.seen) (item_counts r.seen) e.number e.place
+      stopped_on counts counts_of (r.place + length xs) (item_counts r.seen) (item_counts r.seen) (number_of e.reason) e.place
       (body (suc level) opened (drop 1 xs)) (following level opened (opener_is (get_or xs 0 0) ge le)) (first_body (sym (ap reached p) ∙ q))
       ∙ holding (opener_is (get_or xs 0 0) ge le) lt
 
   -- an async, a finish or a future
-  pub path_one : {res : Advanced} {b c : Reader} (k : ℕ) → async_byte ≤ get_or xs 0 0 → get_or xs 0 0 ≤ future_byte → get_or xs 0 0 ≡ k
-      → (k ≡ fork_byte → ⊥) → level < level_limit → res ≡ of_reader.Past b → First (reached res)
-      → (c.place ≡ b.place) × (item_counts c.seen ≡ plus (item_counts b.seen) (one_of k))
+  pub path_one : {res : Result Reader Refusal} {b c : Reader} → async_byte ≤ get_or xs 0 0 → get_or xs 0 0 ≤ future_byte
+      → (get_or xs 0 0 ≡ fork_byte → ⊥) → level < level_limit → res ≡ Ok b → First (reached res)
+      → (c.place ≡ b.place) × (item_counts c.seen ≡ plus (item_counts b.seen) (one_of (get_or xs 0 0)))
       → Comes (past c.place (item_counts c.seen))
   unfolding grown
-  path_one {b = b} k ge le e other lt p q h =
+  path_one {b = b} ge le other lt p q h =
       (λ i. past (h.0 i) (h.1 i))
-      ∙ ap (λ (y : ℕ). past b.place (plus (item_counts b.seen) (one_of y))) (sym e)
       ∙ ap (grown (one_of (get_or xs 0 0))) (first_body (sym (ap reached p) ∙ q))
       ∙ one_body level opened (r.place + length xs) (item_counts r.seen) (get_or xs 0 0) (opener_is (get_or xs 0 0) ge le)
-      (body (suc level) opened (drop 1 xs)) (λ f. other (sym e ∙ f))
+      (body (suc level) opened (drop 1 xs)) other
       ∙ holding (opener_is (get_or xs 0 0) ge le) lt
 
   -- its first body is read, and the reader b is behind it
   abbrev pub Held : Reader → Type 0
   Held b = Taken counts encode (body (suc level) opened (drop 1 xs)) o b (drop 1 xs)
 
-  pub first_held : {res : Advanced} (b : Reader) → res ≡ of_reader.Past b → First (reached res) → Held b
+  pub first_held : {res : Result Reader Refusal} (b : Reader) → res ≡ Ok b → First (reached res) → Held b
   first_held b p q =
       past_taken counts encode (body (suc level) opened (drop 1 xs)) o b (drop 1 xs) opened_left body_most (body_sound (suc level) opened (drop 1 xs))
       (on_left counts (body (level + 1) opened) (sym (ap reached p) ∙ q)
@@ -451,16 +511,16 @@ module _ {level opened : ℕ} {xs : List ℕ} {r o : Reader} (at : Opened level 
         len = omega (arith, at.some, at.moved.0, d.further, d.all, length-drop 1 xs)
 
     -- the second body of a fork is refused
-    pub path_second_stopped : {res : Advanced} (e : Refusal) → Held b → get_or xs 0 0 ≡ fork_byte → level < level_limit
-        → res ≡ of_reader.Refused e → Second b (reached res) → Comes (Progress.stopped e.number e.place)
+    pub path_second_stopped : {res : Result Reader Refusal} (e : Refusal) → Held b → get_or xs 0 0 ≡ fork_byte → level < level_limit
+        → res ≡ Err e → Second b (reached res) → Comes (Progress.stopped (number_of e.reason) e.place)
     path_second_stopped e (taken x rest t now d) p lt is q =
-        stopped_on counts counts_of (r.place + length xs) (plus (item_counts r.seen) (counts x)) (item_counts r.seen) e.number
+        stopped_on counts counts_of (r.place + length xs) (plus (item_counts r.seen) (counts x)) (item_counts r.seen) (number_of e.reason)
         e.place
         (body (suc level) opened rest) (λ c rest'. took (a_fork x c) rest') (from_rest x rest now d (sym (ap reached is) ∙ q))
         ∙ forking x rest t p lt
 
     -- the second body of a fork is read
-    pub second_few : {res : Advanced} {c : Reader} → Held b → res ≡ of_reader.Past c → Second b (reached res) → Few (item_counts c.seen)
+    pub second_few : {res : Result Reader Refusal} {c : Reader} → Held b → res ≡ Ok c → Second b (reached res) → Few (item_counts c.seen)
     second_few {c = c} (taken x rest t now d) is q =
         few (past_taken counts encode (body (suc level) opened rest) b c rest d.ready body_most (body_sound (suc level) opened rest)
         (on_rest x rest d (sym (ap reached is) ∙ q)))
@@ -469,7 +529,7 @@ module _ {level opened : ℕ} {xs : List ℕ} {r o : Reader} (at : Opened level 
         few (taken x' rest' t' now' d') = few_of c rest' d'.ready
 
     -- a fork
-    pub path_two : {res : Advanced} {c n : Reader} → Held b → get_or xs 0 0 ≡ fork_byte → level < level_limit → res ≡ of_reader.Past c
+    pub path_two : {res : Result Reader Refusal} {c n : Reader} → Held b → get_or xs 0 0 ≡ fork_byte → level < level_limit → res ≡ Ok c
         → Second b (reached res) → (n.place ≡ c.place) × (item_counts n.seen ≡ plus (item_counts c.seen) (one_of fork_byte))
         → Comes (past n.place (item_counts n.seen))
     unfolding grown

@@ -7,6 +7,8 @@ use native.Mathlib.Omega.{arith}
 use lib.ListN.{length, take, drop, length-drop, length-append}
 use lib.Seq.{drop-append_seam}
 use borrow.Author.Rules.{part_to_end}
+use Rattle.std.specs.Prelude.{Result, Ok, Err, IsErr, IsErrAnd}
+use Rattle.refusal.specs.declared.Refusal.{Refusal}
 use Rattle.program.specs.declared.Reader.{Reader}
 use Rattle.program.specs.Trees.{Kind, jobs, asyncs, finishes, forks, futures, forces, Body, end, Item, a_job, an_async, a_finish, a_fork}
 use Rattle.program.specs.Trees.{a_future, a_force, with_first, total, same, Counts, counts}
@@ -26,6 +28,13 @@ slice xs k = take (length xs - k) (drop k xs)
 -- its length
 pub slice-length : (xs : List ℕ) (k : ℕ) → length (slice xs k) ≡ length xs - k
 slice-length xs k = ap length (part_to_end xs k) ∙ length-drop k xs
+
+-- ---- refusals
+
+-- what `?` passes on is the refusal that came
+pub passed_on : {A : Type 0} (r : Result A Refusal) (e : Refusal) → IsErr r × IsErrAnd r (λ y. y ≡ e) → r ≡ Err e
+passed_on (Ok a) e h = absurd h.1
+passed_on (Err y) e h = ap Err h.1
 
 -- ---- counts
 

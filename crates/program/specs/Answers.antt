@@ -1,13 +1,13 @@
 -- What reading a program and reading an item answer. "Where an answer is an enum, a definition gives this paper's number and values for
 -- each of its cases."
-use Rattle.std.specs.Prelude.{ℕ, ◌+◌}
+use Rattle.std.specs.Prelude.{ℕ, ◌+◌, Result, Ok, Err}
 use Rattle.std.proofs.Math.Option.{Option, none, some}
 use Rattle.program.specs.declared.ItemCounts.{ItemCounts}
 use Rattle.program.specs.declared.Reader.{Reader}
-use Rattle.program.specs.declared.ProgramRead.{ProgramRead}
-use Rattle.program.specs.declared.ProgramRead.TheVariants as of_program
 use Rattle.program.specs.declared.ItemRead.{ItemRead}
 use Rattle.program.specs.declared.ItemRead.TheVariants as of_item
+use Rattle.refusal.specs.declared.Refusal.{Refusal}
+use Rattle.refusal.specs.Reasons.{number as number_of}
 use Rattle.program.specs.Trees.{Counts, counts}
 use Rattle.program.specs.Reader.{Reading, program, refusal}
 
@@ -23,9 +23,9 @@ told (refusal n p) = refused n p
 abbrev pub item_counts : ItemCounts → Counts
 item_counts c = record { w = c.jobs; a = c.asyncs; f = c.finishes; k = c.forks; u = c.futures; x = c.forces }
 
-abbrev pub said : ProgramRead → ProgramSaid
-said (of_program.Program c) = loads (item_counts c)
-said (of_program.Refused r) = ProgramSaid.refused r.number r.place
+abbrev pub said : Result ItemCounts Refusal → ProgramSaid
+said (Ok c) = loads (item_counts c)
+said (Err r) = ProgramSaid.refused (number_of r.reason) r.place
 
 -- What stands at a place: a job or a force with its number, an async, a finish or a future with where its body starts, a fork with where its
 -- two bodies start, each with where it ends, the end byte of a body, or a refusal.
@@ -47,7 +47,7 @@ stands (of_item.Fork left right past) = fork left right past.place
 stands (of_item.Future body past) = future body past.place
 stands (of_item.Force number past) = force number past.place
 stands (of_item.End past) = end
-stands (of_item.Refused r) = Stands.refused r.number r.place
+stands (of_item.Refused r) = Stands.refused (number_of r.reason) r.place
 
 -- "with a reader handed back moved past it": the reader that an item reader hands back
 abbrev pub handed_back : ItemRead → Option Reader

@@ -8,6 +8,7 @@
 --     Located     a tree laid out from an offset on, what stands at a place, where something starts, and where bodies end
 --     Answers     what reading a program and reading an item answer
 --     Claims      the words in which the reader's theorems are stated
+--     Theorems   the theorems, which the functions of src/laws.rt promise
 -- Nobody has to believe what stands in Internal: contracts of private functions cite it.
 pub mod Limits
 pub mod Trees
@@ -18,3 +19,4 @@ pub mod Located
 pub mod Answers
 pub mod Claims
 pub mod Internal
+pub mod Theorems

@@ -11,7 +11,7 @@ use crate::format::{
 };
 use crate::reading::fork_vertices;
 use crate::starts::opens_number;
-use crate::{Edition, NumberRead, Reader};
+use crate::{Edition, Reader};
 
 // Whether loading reads a program, and a mark of 1 at each place where an item or an end byte starts, as far as there are marks. `depth` items
 // are open around each place. By depth, `openers` has the first byte of such an item, where a fork's turns into an async's at its second body,
@@ -20,10 +20,7 @@ pub(crate) fn check(program: &[u8], edition: Edition, marks: &mut [u16]) -> bool
     requires { marks.old ≡ replicate (length marks.old) 0 }
     ensures { (result ≡ is_read (reading edition program.now)) × (length marks.new ≡ length marks.old) × (result ≡ true → Outside program.now marks.new) }
 {
-    if program.len() == 0 {
-        return false;
-    }
-    if PROGRAM_BYTES < program.len() {
+    if program.is_empty() || PROGRAM_BYTES < program.len() {
         return false;
     }
     let vertices = [0, 0, 1, 2, fork_vertices(1, edition), 2, 1];
@@ -56,10 +53,10 @@ pub(crate) fn check(program: &[u8], edition: Edition, marks: &mut [u16]) -> bool
             }
             made += vertices[first as usize];
             if opens_number(first) {
-                place = past_number(program, place + 1, number_bound(first, opened));
-                if place == 0 {
+                let Some(past) = past_number(program, place + 1, number_bound(first, opened)) else {
                     return false;
-                }
+                };
+                place = past;
             } else {
                 if LEVEL_LIMIT as usize <= depth + 1 {
                     return false;
@@ -88,13 +85,7 @@ fn is_short_job(program: &[u8], place: usize) -> bool
     requires { (place < length program.now) × (length program.now ≤ program_bytes) }
     ensures { result ≡ true → ShortJob program.now place }
 {
-    if program[place] != JOB {
-        return false;
-    }
-    if program.len() <= place + 1 {
-        return false;
-    }
-    program[place + 1] < TOP_BIT
+    program[place] == JOB && place + 1 < program.len() && program[place + 1] < TOP_BIT
 }
 
 // What a number has to be below behind this first byte: a job's is within the limit, a force's names one of the open futures.
@@ -102,9 +93,10 @@ fn number_bound(first: u8, opened: u32) -> u64
     ensures { result ≡ cond (eqb first job_byte) (suc job_limit) opened }
 {
     if first == JOB {
-        return JOB_LIMIT + 1;
+        JOB_LIMIT + 1
+    } else {
+        opened as u64
     }
-    opened as u64
 }
 
 // How many futures are open behind an item with this first byte that holds bodies, where so many are before it.
@@ -112,14 +104,11 @@ fn opened_behind(first: u8, opened: u32) -> u32
     requires { opened + 1 < 2 ^ 32 }
     ensures { result ≡ cond (eqb first future_byte) (suc opened) opened }
 {
-    if first == FUTURE {
-        return opened + 1;
-    }
-    opened
+    if first == FUTURE { opened + 1 } else { opened }
 }
 
-// The place behind the number at a place of the program, 0 where it is refused or not below the bound.
-fn past_number(program: &[u8], from: usize, bound: u64) -> usize
+// The place behind the number at a place of the program, if it is read and below the bound.
+fn past_number(program: &[u8], from: usize, bound: u64) -> Option<usize>
     requires { (from ≤ length program.now) × (length program.now ≤ program_bytes) }
     ensures { result ≡ past_number (length program.now) bound (number (drop from program.now)) }
 {
@@ -127,24 +116,18 @@ fn past_number(program: &[u8], from: usize, bound: u64) -> usize
         return past_long_number(program, from, bound);
     }
     if bound <= program[from] as u64 {
-        return 0;
+        return None;
     }
-    from + 1
+    Some(from + 1)
 }
 
 // The same of a number that may have several bytes.
-fn past_long_number(program: &[u8], from: usize, bound: u64) -> usize
+fn past_long_number(program: &[u8], from: usize, bound: u64) -> Option<usize>
     requires { (from ≤ length program.now) × (length program.now ≤ program_bytes) }
     ensures { result ≡ past_number (length program.now) bound (number (drop from program.now)) }
 {
-    let read = Reader::at(from as u32).number(&program[from..]);
-    match read {
-        NumberRead::Refused(refusal) => 0,
-        NumberRead::Number(value, past) => {
-            if bound <= value as u64 {
-                return 0;
-            }
-            past.place as usize
-        }
+    match Reader::at(from as u32).number(&program[from..]) {
+        Ok((value, past)) if (value as u64) < bound => Some(past.place as usize),
+        _ => None,
     }
 }

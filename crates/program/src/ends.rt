@@ -10,7 +10,7 @@ use crate::checks::check;
 use crate::format::{ASYNC, END, FINISH, FORCE, FORK, FUTURE, JOB, PROGRAM_BYTES};
 use crate::starts::opens_number;
 use crate::{Edition, ItemRead, Reader};
-use refusal::{NOTHING_STARTS, Refusal};
+use refusal::Reason;
 
 // Where the body ends, from every place of a program on at once: past its end byte. Where no item or end byte starts this is 0, as all ends
 // handed in are.
@@ -77,10 +77,7 @@ pub fn item_by_ends(program: &[u8], ends: &[u16], edition: Edition, place: u32) 
 {
     let from = place as usize;
     if PROGRAM_BYTES <= from || ends[from] == 0 {
-        return ItemRead::Refused(Refusal {
-            number: NOTHING_STARTS,
-            place: 0,
-        });
+        return ItemRead::Refused(Reason::NothingStarts.into());
     }
     Reader::at(place).item_ended(&program[from..], ends)
 }
@@ -92,41 +89,33 @@ impl Reader {
         ensures { Shows bytes.now self.place (stands result) × (handed_back result ≡ moved_past self (stands result)) }
     {
         let first = bytes[0];
-        if first == END {
-            return ItemRead::End {
+        match first {
+            END => ItemRead::End {
                 past: self.moved(1),
-            };
-        }
-        if first == JOB {
-            return self.job_here(bytes);
-        }
-        if first == FORCE {
-            return self.force_here(bytes);
-        }
-        let body = self.place + 1;
-        let behind = ends[body as usize];
-        let past = self.placed(behind as u32);
-        if first == ASYNC {
-            return ItemRead::Async { body, past };
-        }
-        if first == FINISH {
-            return ItemRead::Finish { body, past };
-        }
-        if first == FUTURE {
-            return ItemRead::Future { body, past };
-        }
-        ItemRead::Fork {
-            left: body,
-            right: past.place,
-            past: self.placed(ends[behind as usize] as u32),
+            },
+            JOB | FORCE => self.numbered_here(bytes),
+            _ => {
+                let body = self.place + 1;
+                let behind = ends[body as usize];
+                let past = self.placed(behind as u32);
+                match first {
+                    ASYNC => ItemRead::Async { body, past },
+                    FINISH => ItemRead::Finish { body, past },
+                    FUTURE => ItemRead::Future { body, past },
+                    _ => ItemRead::Fork {
+                        left: body,
+                        right: past.place,
+                        past: self.placed(ends[behind as usize] as u32),
+                    },
+                }
+            }
         }
     }
 
     // The same reader, at this place.
-    fn placed(self, place: u32) -> Reader
+    fn placed(self, place: u32) -> Self
         ensures { (result.place ≡ place) × (result.seen ≡ self.seen) }
     {
-        let seen = self.seen;
-        Reader { place, seen }
+        Self { place, ..self }
     }
 }

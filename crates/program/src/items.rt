@@ -1,15 +1,15 @@
 // What stands at a place of a program.
-ghost use Rattle.std.specs.Prelude.{◌≡◌, ◌+◌, ◌≤◌, length};
+ghost use Rattle.std.specs.Prelude.{◌≡◌, ◌+◌, ◌≤◌, length, get_or};
 ghost use Rattle.program.specs.Limits.{program_bytes};
 ghost use Rattle.program.specs.Located.{item_at, starts_at, MarksEnds};
 ghost use Rattle.program.specs.Answers.{Stands, stands, reader_at, handed_back, moved_past};
-ghost use Rattle.program.specs.Internal.Progress.{BeginsWithBody, BeginsEnded, EndTold, Shows, ShowsNumbered, Sized};
+ghost use Rattle.program.specs.Internal.Progress.{BeginsWithBody, BeginsEnded, EndTold, Shows, ShowsNumbered, Sized, numbered_stands};
 
 use crate::format::{ASYNC, END, FINISH, FORCE, FORK, FUTURE, JOB, PROGRAM_BYTES};
 use crate::numbers::number_end;
 use crate::starts::starts_at;
-use crate::{Edition, ItemCounts, ItemRead, NumberRead, Reader};
-use refusal::{NOTHING_STARTS, Refusal};
+use crate::{Edition, ItemCounts, ItemRead, Reader};
+use refusal::Reason;
 
 // What stands at a place of a program, with a reader moved past it that has seen nothing; refused where the program is, and where no item
 // or end byte starts.
@@ -44,10 +44,7 @@ fn item_if_starts(
     ensures { (stands result ≡ item_at edition program.now place) × (handed_back result ≡ moved_past (reader_at place) (stands result)) }
 {
     if !starts {
-        return ItemRead::Refused(Refusal {
-            number: NOTHING_STARTS,
-            place: 0,
-        });
+        return ItemRead::Refused(Reason::NothingStarts.into());
     }
     let from = place as usize;
     Reader::at(place).item_here(&program[from..], ends)
@@ -58,17 +55,9 @@ impl Reader {
     pub fn at(place: u32) -> Reader
         ensures { result ≡ reader_at place }
     {
-        let nothing = ItemCounts {
-            jobs: 0,
-            asyncs: 0,
-            finishes: 0,
-            forks: 0,
-            futures: 0,
-            forces: 0,
-        };
-        Reader {
+        Self {
             place,
-            seen: nothing,
+            seen: ItemCounts::default(),
         }
     }
 
@@ -79,57 +68,38 @@ impl Reader {
         ensures { Shows bytes.now self.place (stands result) × (handed_back result ≡ moved_past self (stands result)) }
     {
         let first = bytes[0];
-        if first == END {
-            return ItemRead::End {
+        match first {
+            END => ItemRead::End {
                 past: self.moved(1),
-            };
-        }
-        if first == JOB {
-            return self.job_here(bytes);
-        }
-        if first == FORCE {
-            return self.force_here(bytes);
-        }
-        let body = self.place + 1;
-        let behind = 1 + size_there(&bytes[1..], body, ends);
-        let past = self.moved(behind as u32);
-        if first == ASYNC {
-            return ItemRead::Async { body, past };
-        }
-        if first == FINISH {
-            return ItemRead::Finish { body, past };
-        }
-        if first == FUTURE {
-            return ItemRead::Future { body, past };
-        }
-        ItemRead::Fork {
-            left: body,
-            right: past.place,
-            past: past.moved(size_there(&bytes[behind..], past.place, ends) as u32),
+            },
+            JOB | FORCE => self.numbered_here(bytes),
+            _ => {
+                let body = self.place + 1;
+                let behind = 1 + size_there(&bytes[1..], body, ends);
+                let past = self.moved(behind as u32);
+                match first {
+                    ASYNC => ItemRead::Async { body, past },
+                    FINISH => ItemRead::Finish { body, past },
+                    FUTURE => ItemRead::Future { body, past },
+                    _ => ItemRead::Fork {
+                        left: body,
+                        right: past.place,
+                        past: past.moved(size_there(&bytes[behind..], past.place, ends) as u32),
+                    },
+                }
+            }
         }
     }
 
-    // The job at this reader's place, where `bytes` start.
-    pub(crate) fn job_here(self, bytes: &[u8]) -> ItemRead
+    // The job or the force at this reader's place, where `bytes` start.
+    pub(crate) fn numbered_here(self, bytes: &[u8]) -> ItemRead
         requires { (1 ≤ length bytes.now) × (self.place + length bytes.now ≤ program_bytes) }
-        ensures { ShowsNumbered Stands.job bytes.now self.place (stands result) × (handed_back result ≡ moved_past self (stands result)) }
+        ensures { ShowsNumbered (numbered_stands (get_or bytes.now 0 0)) bytes.now self.place (stands result) × (handed_back result ≡ moved_past self (stands result)) }
     {
-        let read = self.moved(1).number(&bytes[1..]);
-        match read {
-            NumberRead::Refused(refusal) => ItemRead::Refused(refusal),
-            NumberRead::Number(number, past) => ItemRead::Job { number, past },
-        }
-    }
-
-    // The force at this reader's place, where `bytes` start.
-    pub(crate) fn force_here(self, bytes: &[u8]) -> ItemRead
-        requires { (1 ≤ length bytes.now) × (self.place + length bytes.now ≤ program_bytes) }
-        ensures { ShowsNumbered Stands.force bytes.now self.place (stands result) × (handed_back result ≡ moved_past self (stands result)) }
-    {
-        let read = self.moved(1).number(&bytes[1..]);
-        match read {
-            NumberRead::Refused(refusal) => ItemRead::Refused(refusal),
-            NumberRead::Number(number, past) => ItemRead::Force { number, past },
+        match self.moved(1).number(&bytes[1..]) {
+            Err(refusal) => ItemRead::Refused(refusal),
+            Ok((number, past)) if bytes[0] == JOB => ItemRead::Job { number, past },
+            Ok((number, past)) => ItemRead::Force { number, past },
         }
     }
 }

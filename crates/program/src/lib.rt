@@ -11,6 +11,7 @@ mod checks;
 pub mod ends;
 pub mod format;
 pub mod items;
+pub mod laws;
 mod numbers;
 pub mod reading;
 mod starts;
@@ -19,7 +20,7 @@ use refusal::Refusal;
 
 // Whose fork a program's forks are: the slides', which makes a third vertex for what follows, or the article's, which makes none and
 // yields. All else, the bytes among it, is the same in both.
-#[derive(Clone, Copy)]
+#[derive(Clone, Copy, Debug, PartialEq, Eq)]
 pub enum Edition {
     First,
     Second,
@@ -27,7 +28,7 @@ pub enum Edition {
 
 // How many items of each kind. A program has fewer bytes than 16 bits can count; so narrow, and in this order, with the counts that rise most
 // often in a word of their own, they cost a reader little to carry along (docs/COST.md).
-#[derive(Clone, Copy)]
+#[derive(Clone, Copy, Debug, Default, PartialEq, Eq)]
 pub struct ItemCounts {
     pub futures: u16,
     pub forces: u16,
@@ -38,42 +39,22 @@ pub struct ItemCounts {
 }
 
 // Where a reader is in the program, and the items that it has seen.
-#[derive(Clone, Copy)]
+#[derive(Clone, Copy, Debug, PartialEq, Eq)]
 pub struct Reader {
     pub place: u32,
     pub seen: ItemCounts,
 }
 
-// A reader moved past what it read, or a refusal.
-#[derive(Clone, Copy)]
-pub enum Advanced {
-    Past(Reader),
-    Refused(Refusal),
-}
-
-// A number and a reader moved past it, or a refusal.
-#[derive(Clone, Copy)]
-pub enum NumberRead {
-    Number(u32, Reader),
-    Refused(Refusal),
-}
-
 // What a reader carries along into a body, and from item to item: the level of that body, and how many futures are open.
 #[derive(Clone, Copy)]
-pub struct Inside {
+pub(crate) struct Inside {
     pub level: u32,
     pub opened: u32,
 }
 
-// What reading a whole program answers.
-#[derive(Clone, Copy)]
-pub enum ProgramRead {
-    Program(ItemCounts),
-    Refused(Refusal),
-}
-
-// What stands at a place, with the places where its bodies start, and a reader moved past it; or a refusal.
-#[derive(Clone, Copy)]
+// What stands at a place, with the places where its bodies start, and a reader moved past it; or a refusal, which stays among the cases since
+// this is what a step is answered from, in the loop of a walk.
+#[derive(Clone, Copy, Debug, PartialEq, Eq)]
 pub enum ItemRead {
     Job { number: u32, past: Reader },
     Async { body: u32, past: Reader },

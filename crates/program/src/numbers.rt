@@ -5,26 +5,35 @@ ghost use Rattle.program.specs.Reader.{number};
 ghost use Rattle.program.specs.Answers.{item_counts};
 ghost use Rattle.program.specs.Internal.Progress.{reached_number, number_progress, number_end, number_ended};
 
+use crate::Reader;
 use crate::format::{JOB_LIMIT, NUMBER_BYTES, TOP_BIT};
-use crate::{NumberRead, Reader};
-use refusal::{BYTES_RUN_OUT, JOB_TOO_LARGE, NUMBER_MALFORMED, Refusal};
+use refusal::{Reason, Refusal};
 
 impl Reader {
     // The same reader, so many bytes further.
-    pub(crate) fn moved(self, bytes: u32) -> Reader
+    pub(crate) fn moved(self, bytes: u32) -> Self
         requires { self.place + bytes ≤ program_bytes }
         ensures { (result.place ≡ self.place + bytes) × (result.seen ≡ self.seen) }
     {
-        let seen = self.seen;
-        Reader {
+        Self {
             place: self.place + bytes,
-            seen: seen,
+            ..self
         }
     }
 
-    // The number at this reader's place, where `bytes` start. Its groups hold up to 35 bits, so its value is built in 64, and becomes 32
-    // behind the test of the limit.
-    pub(crate) fn number(self, bytes: &[u8]) -> NumberRead
+    // A refusal at this reader's place.
+    pub(crate) fn refused(self, reason: Reason) -> Refusal
+        ensures { result ≡ record { reason = reason; place = self.place } }
+    {
+        Refusal {
+            reason,
+            place: self.place,
+        }
+    }
+
+    // The number at this reader's place, where `bytes` start, and the reader moved past it. Its groups hold up to 35 bits, so its value is
+    // built in 64, and becomes 32 behind the test of the limit.
+    pub(crate) fn number(self, bytes: &[u8]) -> Result<(u32, Self), Refusal>
         requires { self.place + length bytes.now ≤ program_bytes }
         ensures { reached_number result ≡ number_progress (self.place + length bytes.now) (item_counts self.seen) (number bytes.now) }
     {
@@ -32,45 +41,31 @@ impl Reader {
         let mut weight: u64 = 1;
         for i in 0..NUMBER_BYTES {
             if bytes.len() <= i {
-                return NumberRead::Refused(Refusal {
-                    number: BYTES_RUN_OUT,
-                    place: self.place + i as u32,
-                });
+                return Err(self.moved(i as u32).refused(Reason::BytesRunOut));
             }
             let group = bytes[i];
             if group < TOP_BIT {
-                return self.number_ended(value + weight * (group as u64), group, i as u32);
+                return self.number_ended(value + weight * group as u64, group, i as u32);
             }
-            value = value + weight * ((group - TOP_BIT) as u64);
-            weight = weight * 128;
+            value += weight * (group - TOP_BIT) as u64;
+            weight *= 128;
         }
-        NumberRead::Refused(Refusal {
-            number: NUMBER_MALFORMED,
-            place: self.place,
-        })
+        Err(self.refused(Reason::NumberMalformed))
     }
 
     // The number at this reader's place, of this value, where its last group stands behind so many others.
     #[tactic(auto, unfolding(crate::specs::Internal::Progress::number_ended))]
-    fn number_ended(self, value: u64, last: u8, others: u32) -> NumberRead
+    fn number_ended(self, value: u64, last: u8, others: u32) -> Result<(u32, Self), Refusal>
         requires { self.place + others + 1 ≤ program_bytes }
         ensures { reached_number result ≡ number_ended self.place (item_counts self.seen) value last others }
     {
-        if last == 0 {
-            if others != 0 {
-                return NumberRead::Refused(Refusal {
-                    number: NUMBER_MALFORMED,
-                    place: self.place,
-                });
-            }
+        if last == 0 && others != 0 {
+            return Err(self.refused(Reason::NumberMalformed));
         }
         if JOB_LIMIT < value {
-            return NumberRead::Refused(Refusal {
-                number: JOB_TOO_LARGE,
-                place: self.place,
-            });
+            return Err(self.refused(Reason::JobTooLarge));
         }
-        NumberRead::Number(value as u32, self.moved(others + 1))
+        Ok((value as u32, self.moved(others + 1)))
     }
 }
 

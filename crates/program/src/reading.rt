@@ -2,12 +2,12 @@
 ghost use Rattle.std.specs.Prelude.{◌*◌, ◌≤◌, ◌≡◌};
 ghost use Rattle.program.specs.Encodings.{vertex_formula, edge_row_formula, step_formula, fork_vertices, fork_steps};
 ghost use Rattle.program.specs.Reader.{reading};
-ghost use Rattle.program.specs.Answers.{ProgramSaid, item_counts, said, told};
+ghost use Rattle.program.specs.Answers.{item_counts, said, told};
 ghost use Rattle.program.specs.Internal.Progress.{finished};
 
 use crate::format::{PROGRAM_BYTES, VERTEX_LIMIT};
-use crate::{Advanced, Edition, Inside, ItemCounts, ProgramRead, Reader};
-use refusal::{BYTES_AFTER_END, LENGTH_OUTSIDE, Refusal, TOO_MANY_VERTICES};
+use crate::{Edition, Inside, ItemCounts, Reader};
+use refusal::{Reason, Refusal};
 
 // Vertices made in all by a program with these items.
 pub fn vertices(items: ItemCounts, edition: Edition) -> u64
@@ -64,49 +64,29 @@ fn fork_steps(forks: u16, edition: Edition) -> u64
 }
 
 // The counts of a program's items, or the first refusal. Only what its forks make goes by the edition.
-pub fn read(program: &[u8], edition: Edition) -> ProgramRead
+pub fn read(program: &[u8], edition: Edition) -> Result<ItemCounts, Refusal>
     ensures { said result ≡ told (reading edition program.now) }
 {
-    let length = program.len();
-    if length == 0 {
-        return refused(LENGTH_OUTSIDE, 0);
+    if program.is_empty() || PROGRAM_BYTES < program.len() {
+        return Err(Reason::LengthOutside.into());
     }
-    if PROGRAM_BYTES < length {
-        return refused(LENGTH_OUTSIDE, 0);
-    }
-    let main = Reader::at(0).body(
-        program,
-        Inside {
-            level: 1,
-            opened: 0,
-        },
-    );
-    match main {
-        Advanced::Refused(refusal) => ProgramRead::Refused(refusal),
-        Advanced::Past(end) => at_end(end, length, edition),
-    }
+    let main = Inside {
+        level: 1,
+        opened: 0,
+    };
+    let end = Reader::at(0).body(program, main)?;
+    counted(end, program.len(), edition)
 }
 
 // What a reader behind the main body's end comes to, in a program of this length.
-fn at_end(end: Reader, length: usize, edition: Edition) -> ProgramRead
+fn counted(end: Reader, length: usize, edition: Edition) -> Result<ItemCounts, Refusal>
     ensures { said result ≡ finished edition length end.place (item_counts end.seen) }
 {
-    let place = end.place;
-    if (place as usize) < length {
-        return refused(BYTES_AFTER_END, place);
+    if (end.place as usize) < length {
+        return Err(end.refused(Reason::BytesAfterEnd));
     }
-    let seen = end.seen;
-    if VERTEX_LIMIT < vertices(seen, edition) {
-        return refused(TOO_MANY_VERTICES, 0);
+    if VERTEX_LIMIT < vertices(end.seen, edition) {
+        return Err(Reason::TooManyVertices.into());
     }
-    ProgramRead::Program(seen)
-}
-
-fn refused(number: u32, place: u32) -> ProgramRead
-    ensures { said result ≡ ProgramSaid.refused number place }
-{
-    ProgramRead::Refused(Refusal {
-        number: number,
-        place: place,
-    })
+    Ok(end.seen)
 }

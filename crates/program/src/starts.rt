@@ -12,12 +12,8 @@ use crate::format::{FORCE, JOB, TOP_BIT};
 pub(crate) fn starts_at(program: &[u8], edition: Edition, place: u32) -> bool
     ensures { result ≡ starts_at edition program.now place }
 {
-    let mut no_marks = [0u16; 1];
-    if !check(program, edition, &mut no_marks) {
-        return false;
-    }
     let at = place as usize;
-    if program.len() <= at {
+    if !check(program, edition, &mut [0; 0]) || program.len() <= at {
         return false;
     }
     !in_number(program, at)

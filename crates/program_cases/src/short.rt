@@ -2,9 +2,10 @@
 // and are answered alike stand together, as `first-last number place`; an accepted program has the number 0. All are far
 // from the limit on vertices, with which alone the editions differ.
 use cases::{hex, number, text};
+use program::Edition;
 use program::format::{FORCE, JOB};
 use program::reading::read;
-use program::{Edition, ProgramRead};
+use refusal::Refusal;
 
 pub(crate) fn all() {
     one_byte();
@@ -54,24 +55,23 @@ fn last_bytes(program: &mut [u8]) {
     text(b"\n");
 }
 
-fn alike(first: u32, last: u32, answer: u64) {
+fn alike(first: u32, last: u32, answer: Option<Refusal>) {
     hex(b" ", (first % 256) as u8);
     hex(b"-", (last % 256) as u8);
-    number(b" ", (answer / 4294967296) as u32);
-    number(b" ", (answer % 4294967296) as u32);
+    let (reason, place) = match answer {
+        None => (0, 0),
+        Some(refusal) => (refusal.reason.number(), refusal.place),
+    };
+    number(b" ", reason);
+    number(b" ", place);
 }
 
-// What the program is answered with this last byte: a refusal's number and place as one number.
-fn with_last(program: &mut [u8], last: u32) -> u64 {
+// What the program is refused with, if it is, with this last byte.
+fn with_last(program: &mut [u8], last: u32) -> Option<Refusal> {
     let length = program.len();
     if length == 0 {
-        return 0;
+        return None;
     }
     program[length - 1] = (last % 256) as u8;
-    let answer = read(program, Edition::First);
-    match answer {
-        ProgramRead::Program(items) => 0,
-        ProgramRead::Refused(refusal) => (refusal.number as u64) * 4294967296
-            + (refusal.place as u64),
-    }
+    read(program, Edition::First).err()
 }

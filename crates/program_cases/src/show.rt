@@ -2,7 +2,7 @@
 use cases::{number, text};
 use program::items::item_at;
 use program::reading::{edge_rows, read, steps, vertices};
-use program::{Edition, ItemCounts, ItemRead, ProgramRead};
+use program::{Edition, ItemCounts, ItemRead};
 
 // In either edition, the second's on a line of its own.
 pub(crate) fn readings(program: &[u8]) {
@@ -13,9 +13,8 @@ pub(crate) fn readings(program: &[u8]) {
 
 // The items and what they need, or a refusal.
 pub(crate) fn reading(program: &[u8], edition: Edition) {
-    let answer = read(program, edition);
-    match answer {
-        ProgramRead::Program(items) => {
+    match read(program, edition) {
+        Ok(items) => {
             number(b": jobs ", items.jobs as u32);
             number(b" asyncs ", items.asyncs as u32);
             number(b" finishes ", items.finishes as u32);
@@ -24,8 +23,8 @@ pub(crate) fn reading(program: &[u8], edition: Edition) {
             number(b" forces ", items.forces as u32);
             needs(items, edition);
         }
-        ProgramRead::Refused(refusal) => {
-            number(b": refused ", refusal.number);
+        Err(refusal) => {
+            number(b": refused ", refusal.reason.number());
             number(b" ", refusal.place);
             text(b"\n");
         }
@@ -46,8 +45,7 @@ fn large(before: &[u8], n: u64) {
 // What stands at a place, with the places that it names.
 pub(crate) fn item(program: &[u8], edition: Edition, place: u32) {
     number(b"  ", place);
-    let found = item_at(program, edition, place);
-    match found {
+    match item_at(program, edition, place) {
         ItemRead::Job { number: n, past } => two(b" job ", n, past.place),
         ItemRead::Async { body, past } => two(b" async ", body, past.place),
         ItemRead::Finish { body, past } => two(b" finish ", body, past.place),
@@ -58,7 +56,7 @@ pub(crate) fn item(program: &[u8], edition: Edition, place: u32) {
         ItemRead::Future { body, past } => two(b" future ", body, past.place),
         ItemRead::Force { number: n, past } => two(b" force ", n, past.place),
         ItemRead::End { past } => text(b" end\n"),
-        ItemRead::Refused(refusal) => two(b" refused ", refusal.number, refusal.place),
+        ItemRead::Refused(refusal) => two(b" refused ", refusal.reason.number(), refusal.place),
     }
 }
 

@@ -14,6 +14,8 @@ use Rattle.graph.specs.Internal.Search.{search_limit}
 use Rattle.graph.proofs.TestLaws.{equal?, not_so}
 use Rattle.graph.proofs.PathLaws.{arrive, holds_at, held_row, reaches_path, path_reaches}
 use Rattle.index.specs.Asking.{Joined}
+use Rattle.reachability.specs.declared.pairs.Telling.{Telling}
+use Rattle.reachability.specs.declared.pairs.Telling.TheVariants.{Nothing}
 use Rattle.reachability.specs.Pairs.{Told}
 use Rattle.reachability.specs.Marks.{Has, word, unmarked, Marked, Finds, Spread, Says}
 use Rattle.reachability.proofs.BitLaws.{has_or, or_has_left, or_has_right, and_has, zero_has, flag, flag_has, has_flag}
@@ -134,24 +136,24 @@ spread_more x before labels used k s lt usable =
         (u, h, subst (λ (z : ℕ). Joined x used u z) (sym r.0) (joined_on x used u k lt j))
 
 pub says_more :
-    (goals labels told : List ℕ) (held n said : ℕ) → n < length told
-    → ((j : ℕ) → j < n → Says j held (word labels (get_or goals j 0)) (get_or told j 0))
+    (goals labels : List ℕ) (told : List Telling) (held n : ℕ) (said : Telling) → n < length told
+    → ((j : ℕ) → j < n → Says j held (word labels (get_or goals j 0)) (get_or told j Nothing))
     → Says n held (word labels (get_or goals n 0)) said
-    → (j : ℕ) → j < n + 1 → Says j held (word labels (get_or goals j 0)) (get_or (set told n said) j 0)
+    → (j : ℕ) → j < n + 1 → Says j held (word labels (get_or goals j 0)) (get_or (set told n said) j Nothing)
 says_more goals labels told held n said lt f s j below = pick (equal? j n)
   where
-    pick : (j ≡ n) ⊎ (j ≡ n → ⊥) → Says j held (word labels (get_or goals j 0)) (get_or (set told n said) j 0)
+    pick : (j ≡ n) ⊎ (j ≡ n → ⊥) → Says j held (word labels (get_or goals j 0)) (get_or (set told n said) j Nothing)
     pick (inl y) =
-        subst (λ (i : ℕ). Says i held (word labels (get_or goals i 0)) (get_or (set told n said) i 0)) (sym y)
-        (subst (λ (w : ℕ). Says n held (word labels (get_or goals n 0)) w) (sym (get_or-set_same told n said 0 lt)) s)
+        subst (λ (i : ℕ). Says i held (word labels (get_or goals i 0)) (get_or (set told n said) i Nothing)) (sym y)
+        (subst (λ (w : Telling). Says n held (word labels (get_or goals n 0)) w) (sym (get_or-set_same told n said Nothing lt)) s)
     pick (inr ne) =
-        subst (λ (w : ℕ). Says j held (word labels (get_or goals j 0)) w) (sym (get_or-set_other told n j said 0 ne)) (f j (omega arith))
+        subst (λ (w : Telling). Says j held (word labels (get_or goals j 0)) w) (sym (get_or-set_other told n j said Nothing ne)) (f j (omega arith))
 
 -- What is told is so: a row that leads back over a pair has been found, and a label at the goal came from the start.
 pub told_so :
-    (x starts goals labels wanted after told : List ℕ) (used held : ℕ) → length goals ≡ length starts → length told ≡ length goals
+    (x starts goals labels wanted after : List ℕ) (told : List Telling) (used held : ℕ) → length goals ≡ length starts → length told ≡ length goals
     → Marked starts (length starts) labels → Marked goals (length goals) wanted → Finds x used wanted labels held → Spread x used labels after
-    → ((i : ℕ) → i < length goals → Says i held (word after (get_or goals i 0)) (get_or told i 0)) → Told x used starts goals told
+    → ((i : ℕ) → i < length goals → Says i held (word after (get_or goals i 0)) (get_or told i Nothing)) → Told x used starts goals told
 told_so x starts goals labels wanted after told used held as_many as_told ms mg f s says =
     record {
       long = as_told ∙ as_many;

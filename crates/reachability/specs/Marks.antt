@@ -3,7 +3,8 @@ use Rattle.std.specs.Prelude.{ℕ, ◌/◌, ◌%◌, ◌^◌, ◌<◌, ◌≡◌
 use Rattle.graph.specs.Tables.{source, target}
 use Rattle.graph.specs.Internal.Search.{search_limit}
 use Rattle.index.specs.Asking.{Joined}
-use Rattle.reachability.specs.Pairs.{joined}
+use Rattle.reachability.specs.declared.pairs.Telling.{Telling}
+use Rattle.reachability.specs.declared.pairs.Telling.TheVariants as told
 
 -- bit i of the word w is set
 pub record Has (i w : ℕ) : Type 0 where
@@ -34,6 +35,6 @@ pub record Spread (x : List ℕ) (used : ℕ) (before after : List ℕ) : Type 0
   pub from : (i v : ℕ) → Has i (word after v) → (u : ℕ) × Has i (word before u) × Joined x used u v
 
 -- what is told of pair i, where these are the pairs that are held and those whose label its goal has
-pub record Says (i held label said : ℕ) : Type 0 where
-  pub free : (said ≡ 0 → ⊥) → Has i held → ⊥
-  pub reached : said ≡ joined → Has i label
+pub record Says (i held label : ℕ) (said : Telling) : Type 0 where
+  pub free : (said ≡ told.Nothing → ⊥) → Has i held → ⊥
+  pub reached : said ≡ told.Joined → Has i label

@@ -4,6 +4,7 @@ ghost use Rattle.std.specs.Prelude.{◌≡◌, ℕ, ◌<◌, ◌≤◌, length, 
 ghost use Rattle.graph.specs.Internal.Search.{search_limit};
 ghost use Rattle.index.specs.Layout.{Indexed};
 ghost use Rattle.reachability.specs.Pairs.{pair_limit, RowsOf, Usable, Told};
+ghost use Rattle.reachability.specs.declared.pairs.Telling.TheVariants.{Nothing};
 ghost use Rattle.reachability.specs.Marks.{unmarked, word, Marked, Finds, Spread, Says};
 
 use graph::paths::SEARCH_LIMIT;
@@ -12,20 +13,22 @@ use graph::rows::{EDGE_WORDS, SOURCE, TARGET};
 // The most pairs of a call: there is a bit of a word for each.
 pub const PAIRS: usize = 64;
 
-// What is told of a pair: no row leads from its goal to its start.
-pub const NOT_HELD: u32 = 1;
-
-// The same, and a path leads from its start to its goal, or they are one vertex.
-pub const JOINED: u32 = 2;
+// What is told of a pair: nothing; that no row leads from its goal to its start; or the same, and that a path leads from its start to its goal, or they
+// are one vertex.
+#[derive(Clone, Copy, Debug, PartialEq, Eq)]
+pub enum Telling {
+    Nothing,
+    NotHeld,
+    Joined,
+}
 
 // Sets the bit of each pair at the pair's end.
 fn mark_ends(ends: &[u32], marks: &mut [u64; SEARCH_LIMIT])
     requires { (length ends.now ≤ pair_limit) × Usable ends.now × (marks.old ≡ unmarked) }
     ensures { Marked ends.now (length ends.now) marks.new }
 {
-    for i in 0..ends.len() {
-        let end = ends[i] as usize;
-        marks[end] |= 1 << i;
+    for (i, &end) in ends.iter().enumerate() {
+        marks[end as usize] |= 1 << i;
     }
 }
 
@@ -53,48 +56,47 @@ fn spread(index: &[u32], used: usize, rows: &[u32], labels: &mut [u64; SEARCH_LI
     requires { Indexed index.now used × RowsOf used rows.now × (length labels.old ≡ search_limit) }
     ensures { Spread index.now used labels.old labels.new }
 {
-    for k in 0..rows.len() {
-        let row = rows[k] as usize;
-        let source = index[EDGE_WORDS * row + SOURCE] as usize;
-        let target = index[EDGE_WORDS * row + TARGET] as usize;
+    for &row in rows {
+        let at = EDGE_WORDS * (row as usize);
+        let source = index[at + SOURCE] as usize;
+        let target = index[at + TARGET] as usize;
         labels[target] |= labels[source];
     }
 }
 
 // What is told of pair `i`, whose goal has this label.
-fn says(i: usize, held: u64, label: u64) -> u32
+fn says(i: usize, held: u64, label: u64) -> Telling
     requires { i < pair_limit }
     ensures { Says i held label result }
 {
     if (held >> i) % 2 == 1 {
-        return 0;
+        return Telling::Nothing;
     }
     if (label >> i) % 2 == 1 {
-        return JOINED;
+        return Telling::Joined;
     }
-    NOT_HELD
+    Telling::NotHeld
 }
 
 // Tells it of each pair.
-fn tell_each(goals: &[u32], held: u64, labels: &[u64; SEARCH_LIMIT], told: &mut [u32])
+fn tell_each(goals: &[u32], held: u64, labels: &[u64; SEARCH_LIMIT], told: &mut [Telling])
     requires { (length goals.now ≤ pair_limit) × Usable goals.now × (length told.old ≡ length goals.now) }
-    ensures { (length told.new ≡ length goals.now) × ((i : ℕ) → i < length goals.now → Says i held (word labels.now (get_or goals.now i 0)) (get_or told.new i 0)) }
+    ensures { (length told.new ≡ length goals.now) × ((i : ℕ) → i < length goals.now → Says i held (word labels.now (get_or goals.now i 0)) (get_or told.new i Nothing)) }
 {
-    for i in 0..goals.len() {
-        let goal = goals[i] as usize;
-        told[i] = says(i, held, labels[goal]);
+    for (i, &goal) in goals.iter().enumerate() {
+        told[i] = says(i, held, labels[goal as usize]);
     }
 }
 
 // Tells of each pair whether no row leads from its goal to its start, and whether a path leads from its start to its goal, as far as one pass over
-// `rows` finds it: 0 is nothing.
+// `rows` finds it.
 pub fn tell_pairs(
     index: &[u32],
     used: usize,
     rows: &[u32],
     starts: &[u32],
     goals: &[u32],
-    told: &mut [u32],
+    told: &mut [Telling],
 )
     requires indexed { Indexed index.now used × RowsOf used rows.now }
     requires starts_len_bound { (length starts.now ≤ pair_limit) × (length goals.now ≡ length starts.now) × (length told.old ≡ length starts.now) }

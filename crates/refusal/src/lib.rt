@@ -1,80 +1,121 @@
-// The refusals: their numbers, by who causes them, and what is answered with one. specs/Refusals.antt is the same list for the definitions,
-// with what each means.
+// The refusals: the reasons with their numbers, by who causes them, and what is answered with one. specs/Refusals.antt is the same list for
+// the definitions, with what each means.
 
 #![tactic(auto)]
 
-// A refusal's number, and its place: an offset in the program for the numbers 2 to 7 and 43, else 0.
-#[derive(Clone, Copy)]
+ghost use Rattle.std.specs.Prelude.{◌≡◌};
+ghost use Rattle.refusal.specs.Reasons.{number, at_no_place};
+
+use std::error::Error;
+use std::fmt;
+
+// Why something is refused.
+#[derive(Clone, Copy, Debug, PartialEq, Eq)]
+pub enum Reason {
+    // The program's writer.
+    LengthOutside = 1,
+    NumberMalformed = 2,
+    ByteUnknown = 3,
+    LevelTooDeep = 4,
+    BytesRunOut = 5,
+    BytesAfterEnd = 6,
+    JobTooLarge = 7,
+    TooManyVertices = 8,
+    NoSuchFuture = 43,
+    // The lender.
+    TooFewVertexRows = 10,
+    TooFewEdgeRows = 11,
+    UnsoundTables = 12,
+    NothingStarts = 13,
+    // The host, choosing.
+    NoSuchVertex = 20,
+    EdgeLeadsIn = 21,
+    VertexIsNew = 22,
+    VertexIsFinished = 23,
+    VertexIsExecuting = 39,
+    // The caller of single commands.
+    CallerNotExecuting = 30,
+    NoVertexRow = 31,
+    NoEdgeRow = 32,
+    TargetNotWaiting = 33,
+    ClosesCycle = 35,
+    ReleaseNotNew = 36,
+    TransferNotNew = 37,
+    TransferHasEdgeOut = 38,
+    // Whoever asks for a chain.
+    NoChain = 41,
+    ListTooShort = 42,
+    // A host that has jobs handed out.
+    BusyTableTooShort = 44,
+    // A host that asks for a command or an edition by number.
+    NoSuchEdition = 98,
+    NoSuchCommand = 99,
+}
+
+impl Reason {
+    // The number that hosts know it by.
+    pub fn number(self) -> u32
+        ensures { result ≡ number self }
+    {
+        self as u32
+    }
+}
+
+impl fmt::Display for Reason {
+    fn fmt<W: fmt::Write>(&self, f: &mut fmt::Formatter<W>) -> fmt::Result {
+        f.write_str(match self {
+            Reason::LengthOutside => "the program has no bytes or more than 4,096",
+            Reason::NumberMalformed =>
+                "a number is longer than five bytes or not in its shortest form",
+            Reason::ByteUnknown => "an item's first byte is above 6",
+            Reason::LevelTooDeep => "a body is at level 33",
+            Reason::BytesRunOut => "the bytes run out",
+            Reason::BytesAfterEnd => "bytes come after the end",
+            Reason::JobTooLarge => "a number is above 4,294,967,295",
+            Reason::TooManyVertices => "the program makes more than 1,024 vertices",
+            Reason::NoSuchFuture => "no such future is open",
+            Reason::TooFewVertexRows => "too few vertex rows are lent",
+            Reason::TooFewEdgeRows => "too few edge rows are lent",
+            Reason::UnsoundTables =>
+                "tally and tables don't fit together, or 8,192 steps were taken",
+            Reason::NothingStarts =>
+                "no item can be read at the vertex's place, its phase is past the item, or its words lead to no future",
+            Reason::NoSuchVertex => "there is no such vertex",
+            Reason::EdgeLeadsIn => "something must finish before this vertex starts",
+            Reason::VertexIsNew => "the vertex is not released yet",
+            Reason::VertexIsFinished => "the vertex is finished",
+            Reason::VertexIsExecuting => "the vertex executes already",
+            Reason::CallerNotExecuting => "the caller is not executing",
+            Reason::NoVertexRow => "no vertex row is left",
+            Reason::NoEdgeRow => "no edge row is left",
+            Reason::TargetNotWaiting => "the edge's target executes or is finished",
+            Reason::ClosesCycle => "this would close a cycle",
+            Reason::ReleaseNotNew => "only a new vertex is released",
+            Reason::TransferNotNew => "edges are handed to a new vertex only",
+            Reason::TransferHasEdgeOut => "the vertex that would get the edges has one already",
+            Reason::NoChain => "no chain of held edges leads from the target back to the source",
+            Reason::ListTooShort => "the chain has more vertices than the list has words",
+            Reason::BusyTableTooShort =>
+                "the table of marks has fewer words than the vertex table has rows",
+            Reason::NoSuchEdition => "no edition has this number",
+            Reason::NoSuchCommand => "no command has this number",
+        })
+    }
+}
+
+impl Error for Reason {}
+
+// A reason, and its place: an offset in the program for the numbers 2 to 7 and 43, else 0.
+#[derive(Clone, Copy, Debug, PartialEq, Eq)]
 pub struct Refusal {
-    pub number: u32,
+    pub reason: Reason,
     pub place: u32,
 }
 
-// The program's writer.
-pub const LENGTH_OUTSIDE: u32 = 1;
+impl From<Reason> for Refusal {
+    ghost from_gives = { at_no_place };
 
-pub const NUMBER_MALFORMED: u32 = 2;
-
-pub const BYTE_UNKNOWN: u32 = 3;
-
-pub const LEVEL_TOO_DEEP: u32 = 4;
-
-pub const BYTES_RUN_OUT: u32 = 5;
-
-pub const BYTES_AFTER_END: u32 = 6;
-
-pub const JOB_TOO_LARGE: u32 = 7;
-
-pub const TOO_MANY_VERTICES: u32 = 8;
-
-pub const NO_SUCH_FUTURE: u32 = 43;
-
-// The lender.
-pub const TOO_FEW_VERTEX_ROWS: u32 = 10;
-
-pub const TOO_FEW_EDGE_ROWS: u32 = 11;
-
-pub const UNSOUND_TABLES: u32 = 12;
-
-pub const NOTHING_STARTS: u32 = 13;
-
-// The host, choosing.
-pub const NO_SUCH_VERTEX: u32 = 20;
-
-pub const EDGE_LEADS_IN: u32 = 21;
-
-pub const VERTEX_IS_NEW: u32 = 22;
-
-pub const VERTEX_IS_FINISHED: u32 = 23;
-
-pub const VERTEX_IS_EXECUTING: u32 = 39;
-
-// The caller of single commands.
-pub const CALLER_NOT_EXECUTING: u32 = 30;
-
-pub const NO_VERTEX_ROW: u32 = 31;
-
-pub const NO_EDGE_ROW: u32 = 32;
-
-pub const TARGET_NOT_WAITING: u32 = 33;
-
-pub const CLOSES_CYCLE: u32 = 35;
-
-pub const RELEASE_NOT_NEW: u32 = 36;
-
-pub const TRANSFER_NOT_NEW: u32 = 37;
-
-pub const TRANSFER_HAS_EDGE_OUT: u32 = 38;
-
-// Whoever asks for a chain.
-pub const NO_CHAIN: u32 = 41;
-
-pub const LIST_TOO_SHORT: u32 = 42;
-
-// A host that has jobs handed out.
-pub const BUSY_TABLE_TOO_SHORT: u32 = 44;
-
-// A host that asks for a command or an edition by number.
-pub const NO_SUCH_EDITION: u32 = 98;
-
-pub const NO_SUCH_COMMAND: u32 = 99;
+    fn from(reason: Reason) -> Refusal {
+        Refusal { reason, place: 0 }
+    }
+}

@@ -60,7 +60,7 @@ use Rattle.machine.proofs.LookLaws.{step-sound}
 use Rattle.machine.proofs.StepDemand2.{said_accepted, can_ready}
 use Rattle.machine.proofs.TablesFollow.OwnLaws.{own_adds, status_not_own, count_not_own}
 use Rattle.machine.proofs.TablesFollow.StepLaws.{steppable_of, step_is}
-use Rattle.walks.specs.Internal.Walking.{OpensNobody}
+use Rattle.walks.specs.Internal.Walking.{OpensNobody, keeps_shut}
 use Rattle.looks.proofs.OwnDue.{OwnCommand, own_task}
 
 -- WHAT A STEP OF t LEAVES
@@ -647,18 +647,6 @@ module _ (t : ℕ) (s : Lent) (a b : ℕ) (known : sound s ≡ true) (there : b 
       }
 
 -- THE THREE ANSWERS
--- behind a step that says one of these, who is shut stays so
-abbrev pub keeps_shut : StepSaid → Bool
-keeps_shut start = true
-keeps_shut (new v) = false
-keeps_shut (edge a b) = true
-keeps_shut (StepSaid.release v) = false
-keeps_shut (StepSaid.transfer v) = false
-keeps_shut (job n o) = true
-keeps_shut stop = false
-keeps_shut StepSaid.yield = false
-keeps_shut (refused n p) = false
-
 keeps_accepted : (a : of_graph.CommandSaid) → keeps_shut (said_as a) ≡ true → of_graph.accepted a ≡ true
 keeps_accepted of_graph.start p = refl
 keeps_accepted (of_graph.new v) p = refl

@@ -5,6 +5,7 @@ use mathlib.Core.Bool.{Bool, true, false, not, cond}
 use mathlib.Core.Logic.{◌⊎◌, inr}
 use mathlib.Core.List.{List}
 use mathlib.Core.Option.{Option, none, some}
+use Rattle.std.specs.Prelude.{Option as Maybe, Some, None}
 use native.Mathlib.Numerals.{add-one}
 use native.Mathlib.Omega.{arith}
 use lib.Dec.{eqb, leb}
@@ -23,8 +24,6 @@ use Rattle.machine.specs.Answers.{StepSaid, start, new, edge, release, transfer,
 use Rattle.machine.specs.Running.{lowest}
 use Rattle.machine.specs.Dispatching.{is_busy, marked, lowest_free, Desk, desk, marks_of, handed_of, room, hand_out}
 use Rattle.engine.specs.declared.Answer.{Answer}
-use Rattle.walks.specs.declared.Attempt.{Attempt}
-use Rattle.walks.specs.declared.Attempt.TheVariants as of_attempt
 use Rattle.walks.specs.declared.Candidates.{Candidates}
 use Rattle.walks.specs.declared.LastStep.{LastStep}
 use Rattle.walks.specs.declared.LastStep.TheVariants as of_last
@@ -35,6 +34,7 @@ use Rattle.looks.specs.Looking.{is_free, Barred, found, Looks}
 use Rattle.looks.proofs.OpenLaws.{none_shut}
 use Rattle.looks.proofs.LookLaws.{found_some, found_none}
 use Rattle.walks.specs.declared.Rested.{Rested}
+use Rattle.walks.specs.declared.Taken.{Taken}
 use Rattle.walks.specs.Internal.Walking.{ShutAsTold, Covers, Took, AttemptedOn, Came, begun, further, WalkedTo, RestsBy, RestsAt}
 
 -- WHO IS FREE
@@ -249,31 +249,31 @@ free_any ed bytes s marks h = go (lowest ed bytes s) refl
     go none q = true-false refl (h ∙ found_none _ (none_free ed bytes s marks q))
     go (some u) q = sym (found_some _ u q)
 
-module _ (ed : Edition) (bytes v x marks shut : List ℕ) (hands : Bool) (limit : ℕ) (w : Walked) where
+module _ (ed : Edition) (bytes v x marks shut : List ℕ) (hands : Bool) (k : Course) (limit : ℕ) (w : Walked) where
   -- a look found one that is not busy
   pub rests_free :
-      (q : Rested) {r : Bool} {shut' : List ℕ} → Looks ed bytes v x marks w.course limit shut r shut' → r ≡ true
+      (q : Rested) {r : Bool} {shut' : List ℕ} → Looks ed bytes v x marks k limit shut r shut' → r ≡ true
       → (q.walked ≡ w) × (q.free ≡ true) × (q.any ≡ true)
       → (q.walked ≡ w)
-      × ((e : List ℕ) → edge_rows e ≡ limit → RestsBy ed bytes hands marks shut w (state_of v x w.course e) q.free q.any)
+      × ((e : List ℕ) → edge_rows e ≡ limit → RestsBy ed bytes hands marks shut w (state_of v x k e) q.free q.any)
   rests_free q look one told = (
     told.0,
     λ e rows barred over.
-        let seen : true ≡ found (lowest_free ed bytes (state_of v x w.course e) marks) = sym one ∙ look.tells e rows barred in
-        (told.1 ∙ seen, λ h. told.2 ∙ free_any ed bytes (state_of v x w.course e) marks seen),
+        let seen : true ≡ found (lowest_free ed bytes (state_of v x k e) marks) = sym one ∙ look.tells e rows barred in
+        (told.1 ∙ seen, λ h. told.2 ∙ free_any ed bytes (state_of v x k e) marks seen),
   )
 
   -- the walk came to no step, or a look found none; `any` is told by another look
   rests_none :
       (q : Rested) (shut' : List ℕ)
-      → ((e : List ℕ) → edge_rows e ≡ limit → Barred ed bytes (state_of v x w.course e) shut
-      → (w.over ≡ true → lowest_free ed bytes (state_of v x w.course e) marks ≡ none)
-      → (false ≡ found (lowest_free ed bytes (state_of v x w.course e) marks)) × Barred ed bytes (state_of v x w.course e) shut')
+      → ((e : List ℕ) → edge_rows e ≡ limit → Barred ed bytes (state_of v x k e) shut
+      → (w.over ≡ true → lowest_free ed bytes (state_of v x k e) marks ≡ none)
+      → (false ≡ found (lowest_free ed bytes (state_of v x k e) marks)) × Barred ed bytes (state_of v x k e) shut')
       → (q.walked ≡ w) × (q.free ≡ false)
-      × ((e : List ℕ) → edge_rows e ≡ limit → Barred ed bytes (state_of v x w.course e) shut' → hands ≡ true
-      → q.any ≡ found (lowest ed bytes (state_of v x w.course e)))
+      × ((e : List ℕ) → edge_rows e ≡ limit → Barred ed bytes (state_of v x k e) shut' → hands ≡ true
+      → q.any ≡ found (lowest ed bytes (state_of v x k e)))
       → (q.walked ≡ w)
-      × ((e : List ℕ) → edge_rows e ≡ limit → RestsBy ed bytes hands marks shut w (state_of v x w.course e) q.free q.any)
+      × ((e : List ℕ) → edge_rows e ≡ limit → RestsBy ed bytes hands marks shut w (state_of v x k e) q.free q.any)
   rests_none q shut' idle told = (
     told.0,
     λ e rows barred over. let h = idle e rows barred over in (told.1 ∙ h.0, told.2 e rows h.1),
@@ -282,19 +282,19 @@ module _ (ed : Edition) (bytes v x marks shut : List ℕ) (hands : Bool) (limit 
   pub rests_over :
       (q : Rested) → w.over ≡ true
       → (q.walked ≡ w) × (q.free ≡ false)
-      × ((e : List ℕ) → edge_rows e ≡ limit → Barred ed bytes (state_of v x w.course e) shut → hands ≡ true
-      → q.any ≡ found (lowest ed bytes (state_of v x w.course e)))
+      × ((e : List ℕ) → edge_rows e ≡ limit → Barred ed bytes (state_of v x k e) shut → hands ≡ true
+      → q.any ≡ found (lowest ed bytes (state_of v x k e)))
       → (q.walked ≡ w)
-      × ((e : List ℕ) → edge_rows e ≡ limit → RestsBy ed bytes hands marks shut w (state_of v x w.course e) q.free q.any)
+      × ((e : List ℕ) → edge_rows e ≡ limit → RestsBy ed bytes hands marks shut w (state_of v x k e) q.free q.any)
   rests_over q already_over = rests_none q shut (λ e rows barred over. (sym (found_none _ (over already_over)), barred))
 
   pub rests_looked :
-      (q : Rested) {r : Bool} {shut' : List ℕ} → Looks ed bytes v x marks w.course limit shut r shut' → r ≡ false
+      (q : Rested) {r : Bool} {shut' : List ℕ} → Looks ed bytes v x marks k limit shut r shut' → r ≡ false
       → (q.walked ≡ w) × (q.free ≡ false)
-      × ((e : List ℕ) → edge_rows e ≡ limit → Barred ed bytes (state_of v x w.course e) shut' → hands ≡ true
-      → q.any ≡ found (lowest ed bytes (state_of v x w.course e)))
+      × ((e : List ℕ) → edge_rows e ≡ limit → Barred ed bytes (state_of v x k e) shut' → hands ≡ true
+      → q.any ≡ found (lowest ed bytes (state_of v x k e)))
       → (q.walked ≡ w)
-      × ((e : List ℕ) → edge_rows e ≡ limit → RestsBy ed bytes hands marks shut w (state_of v x w.course e) q.free q.any)
+      × ((e : List ℕ) → edge_rows e ≡ limit → RestsBy ed bytes hands marks shut w (state_of v x k e) q.free q.any)
   rests_looked q {shut' = shut'} look nobody =
       rests_none q shut' (λ e rows barred over. (sym nobody ∙ look.tells e rows barred, look.barred e rows barred))
 
@@ -315,19 +315,19 @@ rested_lent x e marks list shut q h first back barred same rests =
 
 -- AN ATTEMPT, BY ITS CASE
 module _
-    (ed : Edition) (bytes v x marks shut : List ℕ) (k : Course) (limit : ℕ) {a : Attempt} (v' x' shut' : List ℕ)
+    (ed : Edition) (bytes v x marks shut : List ℕ) (k : Course) (limit : ℕ) {a : Maybe Taken} (v' x' shut' : List ℕ)
     (h : AttemptedOn ed bytes v x marks shut k limit a v' x' shut')
   where
     pub attempt_none :
-        a ≡ of_attempt.NoStep
+        a ≡ None
         → ((e : List ℕ) → edge_rows e ≡ limit → Barred ed bytes (state_of v x k e) shut → lowest_free ed bytes (state_of v x k e) marks ≡ none)
         × (v' ≡ v)
         × (x' ≡ x)
         × (length shut' ≡ usable_limit)
         × ((e : List ℕ) → edge_rows e ≡ limit → Barred ed bytes (state_of v x k e) shut → Barred ed bytes (state_of v x k e) shut')
-    attempt_none is = subst (λ (b : Attempt). AttemptedOn ed bytes v x marks shut k limit b v' x' shut') is h
+    attempt_none is = subst (λ (b : Maybe Taken). AttemptedOn ed bytes v x marks shut k limit b v' x' shut') is h
 
     pub attempt_took :
-        {u : ℕ} {answer : Answer} {k' : Course} {w' : Candidates} → a ≡ of_attempt.Taken u answer k' w'
-        → Took ed bytes v x marks shut k limit u answer k' w' v' x' shut'
-    attempt_took is = subst (λ (b : Attempt). AttemptedOn ed bytes v x marks shut k limit b v' x' shut') is h
+        {t : Taken} → a ≡ Some t
+        → Took ed bytes v x marks shut k limit t.vertex t.answer t.course t.candidates v' x' shut'
+    attempt_took is = subst (λ (b : Maybe Taken). AttemptedOn ed bytes v x marks shut k limit b v' x' shut') is h

@@ -13,6 +13,7 @@ use crate::{DispatchAnswer, DispatchDone, DispatchEnding};
 use engine::next::is_steppable;
 use graph::Tally;
 use graph::rows::vertex_rows;
+use looks::look::MarkedProgram;
 use program::Edition;
 use program::ends::mark_ends;
 use program::format::PROGRAM_BYTES;
@@ -39,9 +40,12 @@ pub fn dispatch_by_value(
     }
     let mut ends = [0u16; PROGRAM_BYTES];
     mark_ends(program, edition, &mut ends);
-    let rested = walk(
-        program, &ends, vertices, edges, busy, jobs, tally, edition, true, budget,
-    );
+    let marked = MarkedProgram {
+        bytes: program,
+        ends: &ends,
+        edition,
+    };
+    let rested = walk(&marked, vertices, edges, busy, jobs, tally, true, budget);
     let walked = rested.walked;
     let course = walked.course;
     let after = course.tally;

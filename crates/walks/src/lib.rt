@@ -32,16 +32,13 @@ pub struct Candidates {
     pub shut: bool,
 }
 
-// A step of the lowest vertex that can step and is not busy, if there is one.
+// A step of the lowest vertex that can step and is not busy.
 #[derive(Clone, Copy)]
-pub enum Attempt {
-    NoStep,
-    Taken {
-        vertex: u32,
-        answer: Answer,
-        course: Course,
-        candidates: Candidates,
-    },
+pub struct Taken {
+    pub vertex: u32,
+    pub answer: Answer,
+    pub course: Course,
+    pub candidates: Candidates,
 }
 
 // How far a walk went: its course afterwards, its last step, how many it took, how many jobs it handed out, and whether it ended where no vertex that is

@@ -3,9 +3,8 @@ ghost use Rattle.std.specs.Prelude.{◌≡◌, true, ◌+◌, ◌*◌, ◌<◌, 
 ghost use Rattle.graph.specs.Tables.{vertex_words};
 ghost use Rattle.index.specs.Layout.{row_limit};
 ghost use Rattle.index.specs.Underway.{Ready, Executes, may_step};
-ghost use Rattle.program.specs.Limits.{program_bytes};
 ghost use Rattle.program.specs.Answers.{stands};
-ghost use Rattle.program.specs.Located.{MarksEnds, item_at};
+ghost use Rattle.program.specs.Located.{item_at};
 ghost use Rattle.machine.specs.Stepping.{step_limit};
 ghost use Rattle.engine.specs.Answers.{own_words, due_of};
 ghost use Rattle.engine.specs.Internal.Underway.{Next};
@@ -21,24 +20,22 @@ use engine::{Answer, Due, Own};
 use graph::rows::{EXECUTING, RELEASED, SCOPE, STATUS, VERTEX_WORDS, set_status};
 use index::Course;
 use index::layout::NOWHERE;
+use looks::look::MarkedProgram;
 use program::ends::item_by_ends;
 use program::{Edition, ItemRead};
 use refusal::{NOTHING_STARTS, Refusal};
 
 // One step of a vertex that may step, where a row of the index is left and steps are.
 pub(crate) fn step_on_index(
-    program: &[u8],
-    ends: &[u16],
+    program: &MarkedProgram,
     vertices: &mut [u32],
     index: &mut [u32],
     limit: u32,
-    edition: Edition,
     course: Course,
     vertex: u32,
 ) -> Moved
-    requires marks_ends { MarksEnds edition program.now ends.now × (length ends.now ≡ program_bytes) }
-    requires ready { Ready vertices.old index.old course limit × (course.used < row_limit) × (course.tally.steps < step_limit) × (vertex < course.tally.made) × (may_step vertices.old vertex ≡ true) }
-    ensures { StepsOn edition program.now vertices.old index.old course limit vertex result vertices.new index.new }
+    requires { Ready vertices.old index.old course limit × (course.used < row_limit) × (course.tally.steps < step_limit) × (vertex < course.tally.made) × (may_step vertices.old vertex ≡ true) }
+    ensures { StepsOn program.now.edition program.now.bytes.now vertices.old index.old course limit vertex result vertices.new index.new }
 {
     if vertices[VERTEX_WORDS * (vertex as usize) + STATUS] == RELEASED {
         set_status(vertices, vertex as usize, EXECUTING);
@@ -50,16 +47,15 @@ pub(crate) fn step_on_index(
         };
     }
     let own = own_words(vertices, vertex as usize);
-    let tally = course.tally;
     let next = item_due(
-        program,
-        item_by_ends(program, ends, edition, own.place),
+        program.bytes,
+        item_by_ends(program.bytes, program.ends, program.edition, own.place),
         vertices,
-        edition,
+        program.edition,
         vertex,
         vertices[VERTEX_WORDS * (vertex as usize) + SCOPE],
         own,
-        tally.made,
+        course.tally.made,
     );
     do_on_index(vertices, index, limit, course, vertex, next)
 }
@@ -71,8 +67,7 @@ fn one_step(course: Course) -> Course
 {
     Course {
         tally: counted(course.tally),
-        used: course.used,
-        peak: course.peak,
+        ..course
     }
 }
 
@@ -92,8 +87,8 @@ fn item_due(
     ensures { Next edition program.now vertices.now vertex scope (own_words own) made (due_of result) }
 {
     match item {
-        ItemRead::Refused(refusal) => Due::Refused(NOTHING_STARTS),
-        ItemRead::End { past } => end_next(vertex, own),
+        ItemRead::Refused(_) => Due::Refused(NOTHING_STARTS),
+        ItemRead::End { .. } => end_next(vertex, own),
         ItemRead::Job { number, past } => job_next(vertex, own, number, past.place),
         ItemRead::Async { body, past } => async_next(vertex, scope, own, made, body, past.place),
         ItemRead::Finish { body, past } => {
@@ -184,11 +179,10 @@ fn do_on_index(
         Due::Command { command, own } => {
             let changed = index::commands::command(vertices, index, limit, course, command);
             let answer = changed.answer;
-            let after = changed.course;
             if command_refused(answer) {
                 return Moved {
                     answer: as_step(answer),
-                    course: after,
+                    course: changed.course,
                     lowest: NOWHERE,
                     highest: 0,
                 };
@@ -196,7 +190,7 @@ fn do_on_index(
             store(vertices, vertex as usize, own);
             Moved {
                 answer: as_step(answer),
-                course: one_step(after),
+                course: one_step(changed.course),
                 lowest: changed.lowest,
                 highest: changed.highest,
             }

@@ -14,6 +14,7 @@ use crate::{Ending, LastStep, RunAnswer, RunDone};
 use engine::next::is_steppable;
 use graph::Tally;
 use graph::rows::{FINISHED, STATUS, VERTEX_WORDS};
+use looks::look::MarkedProgram;
 use program::Edition;
 use program::ends::mark_ends;
 use program::format::PROGRAM_BYTES;
@@ -35,17 +36,20 @@ pub fn run_by_value(
     }
     let mut ends = [0u16; PROGRAM_BYTES];
     mark_ends(program, edition, &mut ends);
+    let marked = MarkedProgram {
+        bytes: program,
+        ends: &ends,
+        edition,
+    };
     let mut nobody_busy = [0; 1];
     let mut no_list = [0; 1];
     let rested = walk(
-        program,
-        &ends,
+        &marked,
         vertices,
         edges,
         &mut nobody_busy,
         &mut no_list,
         tally,
-        edition,
         false,
         budget,
     );

@@ -1,5 +1,6 @@
 -- Tables of leaps: where many hops from future to future lead.
 use Rattle.std.specs.Prelude.{ℕ, zero, suc, ◌+◌, ◌*◌, ◌<◌, ◌≤◌, ◌≡◌, cond, List, ltb, length, get_or}
+use Rattle.std.proofs.Math.Option.{Option}
 use Rattle.graph.specs.Tables.{usable_limit, future_word, vertex_word}
 use Rattle.engine.specs.Internal.Underway.{FollowsTo}
 
@@ -32,9 +33,9 @@ Within made l at = (at + made ≤ length l) × ((v : ℕ) → v < made → get_o
 abbrev pub LeadsTo : ℕ → List ℕ → ℕ → ℕ → ℕ → ℕ → Type 0
 LeadsTo made l at v n r = (t : List ℕ) (h : ℕ) → HopsAt t made l at h made → r ≡ hops t made (n * h) v
 
--- r tells what a force follows, whatever vertex rows these are the leaps of
-abbrev pub LeapsTo : ℕ → List ℕ → ℕ → ℕ → ℕ → Type 0
-LeapsTo made l word n r = (t : List ℕ) → Leaps t made l → FollowsTo t made word n r
+-- o is what a force follows, whatever vertex rows these are the leaps of
+abbrev pub LeapsTo : ℕ → List ℕ → ℕ → ℕ → Option ℕ → Type 0
+LeapsTo made l word n o = (t : List ℕ) → Leaps t made l → FollowsTo t made word n o
 
 -- the words before a place are as they were
 abbrev pub SameBelow : ℕ → List ℕ → List ℕ → Type 0

@@ -1,16 +1,15 @@
 -- A step under way: what is due, from a vertex's own words, and which vertex is looked at.
-use Rattle.std.specs.Prelude.{ℕ, zero, suc, ◌-◌, ◌≡◌, Bool, true, false, List, eqb, length}
+use Rattle.std.specs.Prelude.{ℕ, zero, suc, ◌-◌, ◌≡◌, Bool, true, false, cond, List, eqb, ltb, length}
 use Rattle.std.proofs.Math.Option.{Option, none, some}
 use Rattle.graph.specs.Tests.{both}
 use Rattle.graph.specs.Tables.{Lent, RELEASED, status, in_count}
 use Rattle.graph.specs.Answers as of_graph
 use Rattle.graph.specs.Commands.{command}
 use Rattle.program.specs.declared.Edition.{Edition}
-use Rattle.program.specs.declared.Edition.TheVariants.{First}
 use Rattle.program.specs.Answers.{Stands}
 use Rattle.program.specs.Located.{item_at}
 use Rattle.machine.specs.Answers.{StepSaid}
-use Rattle.machine.specs.Stepping.{scope, place, latest, open_future, further, task, Own, own_of, Due, refusal_due, job_due, command_due}
+use Rattle.machine.specs.Stepping.{scope, place, latest, open_future, further, task, Own, own, own_of, Due, refusal_due, job_due, command_due}
 use Rattle.machine.specs.Stepping.{next_at, due}
 use Rattle.machine.specs.Traces.{Stepped}
 
@@ -42,22 +41,25 @@ unfoldable pub outwards : Lent → ℕ → ℕ → Option ℕ
 outwards s word zero = open_future s word
 outwards s word (suc n) = further (open_future s word) (λ t. outwards s (latest s t) n)
 
--- as the code tells it: 0 is none
-unfoldable pub unless_zero : ℕ → Option ℕ
-unless_zero zero = none
-unless_zero (suc t) = some (suc t)
+-- the same of a word alone, where so many vertices are made
+unfoldable pub named_future : ℕ → ℕ → Option ℕ
+named_future made word = cond (both (ltb 0 word) (ltb word made)) (some word) none
 
--- r tells the future that is so many futures further out than the one that a word names, where t are the vertex rows and so many are made
-abbrev pub FollowsTo : List ℕ → ℕ → ℕ → ℕ → ℕ → Type 0
-FollowsTo t made word n r = (s : Lent) → s.vertices ≡ t → s.made ≡ made → unless_zero r ≡ outwards s word n
+-- o is the future that is so many futures further out than the one that a word names, where t are the vertex rows and so many are made
+abbrev pub FollowsTo : List ℕ → ℕ → ℕ → ℕ → Option ℕ → Type 0
+FollowsTo t made word n o = (s : Lent) → s.vertices ≡ t → s.made ≡ made → o ≡ outwards s word n
 
--- d is due at a force's newEdge where the vertex's word is l, whatever is forced, if r tells it
-abbrev pub ForceEdge : ℕ → Own → ℕ → ℕ → Due → Type 0
-ForceEdge v w l r d = (t : List ℕ) (L σ made n past : ℕ) → FollowsTo t made l n r → AlikeIn t L v σ w made (Stands.force n past) d
+-- d is due at a force's newEdge where the vertex's word is l, if o is what is forced
+abbrev pub ForceEdge : ℕ → Own → ℕ → Option ℕ → Due → Type 0
+ForceEdge v w l o d = (t : List ℕ) (L σ made n past : ℕ) → FollowsTo t made l n o → AlikeIn t L v σ w made (Stands.force n past) d
 
 -- w are vertex k's own words in a table
 abbrev pub OwnIn : List ℕ → ℕ → Own → Type 0
 OwnIn t k w = (s : Lent) → s.vertices ≡ t → w ≡ own_of s k
+
+-- the own words of a vertex with no item under way
+unfoldable pub idle_own : (place latest : ℕ) → Own
+idle_own place latest = own place 0 0 0 0 latest
 
 -- d is due at the step of the executing vertex v, where these are the vertex rows and so many are made
 abbrev pub DueThere : Edition → List ℕ → List ℕ → ℕ → ℕ → Due → Type 0
@@ -98,6 +100,3 @@ AsyncNext v σ w made body past d = (L : ℕ) → AlikeAt L v σ w made (Stands.
 
 abbrev pub ForkNext : Edition → ℕ → ℕ → Own → ℕ → ℕ → ℕ → ℕ → Due → Type 0
 ForkNext ed v σ w made left right past d = (L : ℕ) → NextAt ed L v σ w made (Stands.fork left right past) d
-
-abbrev pub ForkLast : ℕ → ℕ → Own → Due → Type 0
-ForkLast L v w d = (σ made left right past : ℕ) → NextAt First L v σ w made (Stands.fork left right past) d

@@ -1,17 +1,15 @@
 -- A reading under way. The item reader, which is public for the engine alone, is described by it too.
-use Rattle.std.specs.Prelude.{ℕ, zero, suc, ◌+◌, ◌-◌, ◌<◌, ◌≤◌, ◌≡◌, Bool, true, false, cond, List, [], ◌∷◌, ◌++◌, eqb, ltb, leb, length, get_or, drop}
+use Rattle.std.specs.Prelude.{ℕ, zero, suc, ◌+◌, ◌-◌, ◌<◌, ◌≤◌, ◌≡◌, Bool, true, false, cond, List, [], ◌∷◌, ◌++◌, eqb, ltb, leb, length, get_or, drop, Option, Some, None, Result, Ok, Err}
 use Rattle.std.proofs.Math.Option.{some}
+use Rattle.refusal.specs.declared.Refusal.{Refusal}
+use Rattle.refusal.specs.Reasons.{number as number_of}
 use Rattle.program.specs.declared.Reader.{Reader}
-use Rattle.program.specs.declared.Advanced.{Advanced}
-use Rattle.program.specs.declared.Advanced.TheVariants as of_reader
-use Rattle.program.specs.declared.NumberRead.{NumberRead}
-use Rattle.program.specs.declared.NumberRead.TheVariants as of_number
 use Rattle.program.specs.Limits.{job_limit, program_bytes, vertex_limit}
 use Rattle.program.specs.Trees.{Counts, counts, Body, end, Item, with_first}
 use Rattle.program.specs.Bytes.{end_byte, job_byte, async_byte, finish_byte, fork_byte, future_byte, force_byte, top_bit}
 use Rattle.program.specs.Bytes.{encode_number, number_size, encode, size}
 use Rattle.refusal.specs.Refusals.{number_malformed, bytes_after_end, job_too_large, too_many_vertices}
-use Rattle.program.specs.Reader.{Read, took, refused, Reading, program, refusal}
+use Rattle.program.specs.Reader.{Read, took, refused, job_of, force_of, Reading, program, refusal}
 use Rattle.program.specs.Answers.{ProgramSaid, loads, item_counts, Stands}
 use Rattle.program.specs.Located.{Code, locate, located, last, code_at, end_of, head}
 use Rattle.program.specs.Encodings.{vertex_formula}
@@ -26,9 +24,9 @@ pub data Progress : Type 0 where
   past : ℕ → Counts → Progress
   stopped : ℕ → ℕ → Progress
 
-abbrev pub reached : Advanced → Progress
-reached (of_reader.Past r) = past r.place (item_counts r.seen)
-reached (of_reader.Refused r) = stopped r.number r.place
+abbrev pub reached : Result Reader Refusal → Progress
+reached (Ok r) = past r.place (item_counts r.seen)
+reached (Err r) = stopped (number_of r.reason) r.place
 
 -- the same of the definition, where the bytes end at the offset `len` and `seen` was counted before
 unfoldable pub progress : {A : Type 0} → (A → Counts) → ℕ → Counts → Read A → Progress
@@ -44,13 +42,17 @@ pub data NumberProgress : Type 0 where
   value : ℕ → ℕ → Counts → NumberProgress
   stopped : ℕ → ℕ → NumberProgress
 
-abbrev pub reached_number : NumberRead → NumberProgress
-reached_number (of_number.Number n r) = value n r.place (item_counts r.seen)
-reached_number (of_number.Refused r) = NumberProgress.stopped r.number r.place
+abbrev pub reached_number : Result (ℕ × Reader) Refusal → NumberProgress
+reached_number (Ok (n, r)) = value n r.place (item_counts r.seen)
+reached_number (Err r) = NumberProgress.stopped (number_of r.reason) r.place
 
 unfoldable pub number_progress : ℕ → Counts → Read ℕ → NumberProgress
 number_progress len seen (took n rest) = value n (len - length rest) seen
 number_progress len seen (refused n left) = NumberProgress.stopped n (len - length left)
+
+-- a job or a force behind its first byte, where so many futures are open
+unfoldable pub numbered_of : ℕ → ℕ → List ℕ → Read Item
+numbered_of first opened left = cond (eqb first force_byte) (force_of opened left) (job_of left)
 
 -- what a number at a place comes to that has this value, and this last group behind so many others
 unfoldable pub number_ended : ℕ → Counts → ℕ → ℕ → ℕ → NumberProgress
@@ -95,10 +97,10 @@ is_read (refusal n p) = false
 abbrev pub ShortJob : List ℕ → ℕ → Type 0
 ShortJob xs p = (get_or xs p 0 ≡ job_byte) × (p + 1 < length xs) × (get_or xs (p + 1) 0 < top_bit)
 
--- the place behind a number, in a program of this length, 0 where it is refused or not below the bound
-unfoldable pub past_number : ℕ → ℕ → Read ℕ → ℕ
-past_number len bound (took n rest) = cond (ltb n bound) (len - length rest) 0
-past_number len bound (refused n left) = 0
+-- the place behind a number, in a program of this length, if it is read and below the bound
+unfoldable pub past_number : ℕ → ℕ → Read ℕ → Option ℕ
+past_number len bound (took n rest) = cond (ltb n bound) (Some (len - length rest)) None
+past_number len bound (refused n left) = None
 
 -- A reader at the start of these bytes: they end within a program's limit, and no more items were counted than bytes were read.
 pub record Ready (r : Reader) (left : List ℕ) : Type 0 where
@@ -121,6 +123,10 @@ Sized xs r = (b : Body) (rest : List ℕ) → Fits b → xs ≡ encode b ++ rest
 -- s is what stands at a place, where these bytes start: what the body begins with that they begin with
 abbrev pub Shows : List ℕ → ℕ → Stands → Type 0
 Shows xs p s = (b : Body) (rest : List ℕ) → Fits b → xs ≡ encode b ++ rest → s ≡ head (locate [] p b)
+
+-- what is told of a job or a force, by its first byte
+abbrev pub numbered_stands : ℕ → ℕ → ℕ → Stands
+numbered_stands first n p = cond (eqb first job_byte) (Stands.job n p) (Stands.force n p)
 
 -- s is the job or the force that stands at a place, where these bytes start
 abbrev pub ShowsNumbered : (ℕ → ℕ → Stands) → List ℕ → ℕ → Stands → Type 0

@@ -1,5 +1,6 @@
 -- A walk under way: steps of the lowest vertex that can step and is not busy, on an index of the edges. A run and a dispatch are walks.
 use Rattle.std.specs.Prelude.{ℕ, suc, ◌<◌, ◌≤◌, ◌≡◌, Bool, true, false, not, cond, ◌⊎◌, List, length, replicate}
+use Rattle.std.specs.Prelude.{Option as Maybe, Some, None}
 use Rattle.std.proofs.Math.Option.{Option, none, some}
 use Rattle.graph.specs.Tests.{both}
 use Rattle.graph.specs.Tables.{Lent, usable_limit, edge_rows}
@@ -7,18 +8,17 @@ use Rattle.graph.specs.Sound.{sound}
 use Rattle.index.specs.Underway.{state_of, Ready, may_step, Widens}
 use Rattle.index.specs.declared.Course.{Course}
 use Rattle.program.specs.declared.Edition.{Edition}
-use Rattle.machine.specs.Answers.{StepSaid, accepted}
+use Rattle.machine.specs.Answers.{StepSaid, start, new, edge, release, transfer, job, stop, yield, refused, accepted}
 use Rattle.machine.specs.Stepping.{step, Due}
 use Rattle.machine.specs.Running.{can_step, lowest}
 use Rattle.machine.specs.Dispatching.{is_busy, lowest_free, Desk, marks_of, list_of, handed_of, room, hand_out}
 use Rattle.machine.specs.Traces.{Stepped}
 use Rattle.engine.specs.declared.Answer.{Answer}
 use Rattle.looks.specs.Looking.{is_open, Barred, found}
-use Rattle.walks.specs.declared.Attempt.{Attempt}
-use Rattle.walks.specs.declared.Attempt.TheVariants as of_attempt
 use Rattle.walks.specs.declared.Candidates.{Candidates}
 use Rattle.walks.specs.declared.Moved.{Moved}
 use Rattle.walks.specs.declared.Rested.{Rested}
+use Rattle.walks.specs.declared.Taken.{Taken}
 use Rattle.walks.specs.declared.Walked.{Walked}
 use Rattle.engine.specs.Answers.{said}
 use Rattle.walks.specs.Answers.{last_of}
@@ -47,6 +47,18 @@ abbrev pub OpensNobody : StepSaid → Type 0
 OpensNobody a =
     (ed : Edition) (bytes : List ℕ) (s : Lent) (t u : ℕ) → sound s ≡ true → (step ed bytes s t).answer ≡ a → (u ≡ t → ⊥)
     → can_step ed bytes s u ≡ false → can_step ed bytes (step ed bytes s t).after u ≡ false
+
+-- a step that says one of three things is such a one (`keeps_shut_lem` in proofs/ShutLaws)
+abbrev pub keeps_shut : StepSaid → Bool
+keeps_shut start = true
+keeps_shut (new v) = false
+keeps_shut (edge a b) = true
+keeps_shut (release v) = false
+keeps_shut (transfer v) = false
+keeps_shut (job n o) = true
+keeps_shut stop = false
+keeps_shut yield = false
+keeps_shut (refused n p) = false
 
 -- the table has a word for each usable vertex, and nobody is shut unless that is told
 abbrev pub ShutAsTold : Candidates → List ℕ → Type 0
@@ -84,15 +96,15 @@ pub record Took (ed : Edition) (bytes v x marks shut : List ℕ) (k : Course) (l
   pub barred : (e : List ℕ) → edge_rows e ≡ limit → Barred ed bytes (state_of v x k e) shut → Barred ed bytes (state_of v' x' k' e) shut'
 
 -- a step of that vertex, if there is one
-abbrev pub AttemptedOn : Edition → List ℕ → List ℕ → List ℕ → List ℕ → List ℕ → Course → ℕ → Attempt → List ℕ → List ℕ → List ℕ → Type 0
-AttemptedOn ed bytes v x marks shut k limit of_attempt.NoStep v' x' shut' =
+abbrev pub AttemptedOn : Edition → List ℕ → List ℕ → List ℕ → List ℕ → List ℕ → Course → ℕ → Maybe Taken → List ℕ → List ℕ → List ℕ → Type 0
+AttemptedOn ed bytes v x marks shut k limit None v' x' shut' =
     ((e : List ℕ) → edge_rows e ≡ limit → Barred ed bytes (state_of v x k e) shut → lowest_free ed bytes (state_of v x k e) marks ≡ none)
     × (v' ≡ v)
     × (x' ≡ x)
     × (length shut' ≡ usable_limit)
     × ((e : List ℕ) → edge_rows e ≡ limit → Barred ed bytes (state_of v x k e) shut → Barred ed bytes (state_of v x k e) shut')
-AttemptedOn ed bytes v x marks shut k limit (of_attempt.Taken u a k' w') v' x' shut' =
-    Took ed bytes v x marks shut k limit u a k' w' v' x' shut'
+AttemptedOn ed bytes v x marks shut k limit (Some t) v' x' shut' =
+    Took ed bytes v x marks shut k limit t.vertex t.answer t.course t.candidates v' x' shut'
 
 -- What a walk comes to from s₀, step by step: what is lent, the marks and the list, the last step and their number. A dispatch hands jobs out, and
 -- takes a step only while its list has a row left.

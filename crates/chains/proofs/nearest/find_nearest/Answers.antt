@@ -1,9 +1,9 @@
 -- `find_nearest` meets its contract: after i turns the lowest of the first i rows is found.
-use Rattle.std.proofs.Common.{ℕ, ◌<◌, List, sym, subst, arith}
+use Rattle.std.proofs.Common.{ℕ, List, sym, subst, arith}
 use Rattle.graph.proofs.RowLinks.{ends_made_lem}
 use Rattle.graph.proofs.TestLaws.{true-false}
 use Rattle.chains.specs.Internal.Walk.{Nearest}
-use Rattle.chains.proofs.NearestLaws.{nearest_none, nearest_same, nearest_put, nearest_all}
+use Rattle.chains.proofs.NearestLaws.{nearest_none, nearest_same, nearest_put}
 use Rattle.chains.proofs.nearest.find_nearest.Goals as goal
 
 pub loop-i-init : goal.loop-i-init

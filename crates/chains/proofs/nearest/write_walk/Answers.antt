@@ -1,6 +1,6 @@
 -- `write_walk` meets its contract: after k turns k vertices are written.
 use Rattle.std.proofs.Common.{arith}
-use Rattle.chains.proofs.WalkLaws.{along_usable, along_more, along_end, along_start}
+use Rattle.chains.proofs.WalkLaws.{along_usable, along_more, along_end}
 use Rattle.chains.proofs.nearest.write_walk.Goals as goal
 
 pub bounds-nearest-vertex : goal.bounds-nearest-vertex

@@ -1,31 +1,6 @@
--- `chain_by_value` meets its contract: one law for each return.
-use Rattle.std.proofs.Common.{List, ℕ, sym, ap, ◌∙◌, arith}
-use Rattle.std.proofs.Math.Option.{Option}
-use Rattle.chains.specs.Showing.{shown}
-use Rattle.chains.proofs.Measures.{alone_found}
-use Rattle.chains.proofs.ReturnLaws.{shown_unsound, shown_no_source, shown_no_target, shown_of_made}
+-- `chain_by_value` meets its contract: a reason is the refusal at no place.
+use Rattle.chains.proofs.ReturnLaws.{handed_on}
 use Rattle.chains.proofs.showing.chain_by_value.Goals as goal
 
-pub returns-then-not-is_sound : goal.returns-then-not-is_sound
-returns-then-not-is_sound c = shown_unsound _ _ _ _ c.refused.result c.refused.ensures (sym c.if-not-is_sound.ensures)
-
-pub returns-then-made-source : goal.returns-then-made-source
-returns-then-made-source c =
-    shown_no_source _ _ _ _ (sym c.if-not-is_sound.ensures) c.refused-then-made-source.result c.refused-then-made-source.ensures
-    c.if-made-source.true
-
-pub returns-then-made-target : goal.returns-then-made-target
-returns-then-made-target c =
-    shown_no_target _ _ _ _ (sym c.if-not-is_sound.ensures) c.refused-then-made-target.result c.refused-then-made-target.ensures
-    c.if-made-target.true
-
-pub returns-then-source-target : goal.returns-then-source-target
-returns-then-source-target c =
-    shown_of_made _ _ _ _ (sym c.if-not-is_sound.ensures) _ c.if-made-source.false c.if-made-target.false
-    (c.write_alone.ensures
-    ∙ ap (λ (o : Option (List ℕ)). shown o c.args.list.now)
-    (sym (alone_found _ _ _ (sym c.if-not-is_sound.ensures) c.if-made-target.false c.if-source-target.true)))
-
-pub returns : goal.returns
-returns c =
-    shown_of_made _ _ _ _ (sym c.if-not-is_sound.ensures) _ c.if-made-source.false c.if-made-target.false c.write_shortest.ensures
+pub returns-in_err-write_chain : goal.returns-in_err-write_chain
+returns-in_err-write_chain c = handed_on _ _ _ c.from_residual.ensures.1 c.in_err-write_chain.ensures

@@ -34,7 +34,7 @@ measure-requires-clause-searchable c =
 
 pub returns-then-not-measure : goal.returns-then-not-measure
 returns-then-not-measure c =
-    shown-none c.refused.result _ c.refused.ensures
+    shown-none _
     (none_found (lent c.args.vertices.now c.args.edges.now c.args.tally) c.args.target c.args.source c.requires.tally_value
     c.requires.source_lt_made.2
     (sym c.measure.ensures.0 ∙ c.if-not-measure.true))
@@ -45,8 +45,7 @@ returns-then-list-links c =
     let got : GotBack given c.args.target c.args.source c.measure.new.distances =
     marked c.requires.tally_value (c.requires.source_lt_made.1, c.requires.source_lt_made.2) c.if-not-measure.false c.measure.ensures.1
     in
-    shown_short c.refused-then-list-links.result c.args.list.now (chain given c.args.target c.args.source c.measure.new.distances)
-    c.refused-then-list-links.ensures
+    shown_short c.args.list.now (chain given c.args.target c.args.source c.measure.new.distances)
     (chain_found got)
     (omega (arith, long got, c.if-list-links.true))
 

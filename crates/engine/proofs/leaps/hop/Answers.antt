@@ -1,12 +1,6 @@
--- A law for each return.
-use Rattle.engine.proofs.LeapLaws.{hop_none, hop_beyond, hop_named}
+-- By the future that the word names.
+use Rattle.engine.proofs.LeapLaws.{hop_read}
 use Rattle.engine.proofs.leaps.hop.Goals as goal
 
-pub returns-then-vertex-eq-NONE_OPEN : goal.returns-then-vertex-eq-NONE_OPEN
-returns-then-vertex-eq-NONE_OPEN c = hop_none _ _ _ c.if-vertex-eq-NONE_OPEN.true
-
-pub returns-then-made-word : goal.returns-then-made-word
-returns-then-made-word c = hop_beyond _ _ _ c.if-vertex-eq-NONE_OPEN.false c.if-made-word.true
-
 pub returns : goal.returns
-returns c = hop_named _ _ _ c.if-vertex-eq-NONE_OPEN.false c.if-made-word.false
+returns c = hop_read _ _ _ _ c.if-vertex-eq-NONE_OPEN.false c.open_future.ensures.value c.unwrap_or.ensures

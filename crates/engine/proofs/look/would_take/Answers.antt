@@ -1,5 +1,5 @@
 -- A refusal is not accepted, a job is, and a command is as its refusal says.
-use mathlib.Core.Path.{refl}
+use mathlib.Core.Path.{refl, ◌∙◌}
 use Rattle.engine.specs.Internal.Underway.{takes}
 use Rattle.engine.proofs.LowestLaws.{takes_case}
 use Rattle.engine.proofs.look.would_take.Goals as goal
@@ -14,4 +14,4 @@ returns-in-Job c = takes_case _ c.in-Job.is refl
 
 pub returns-in-Command : goal.returns-in-Command
 unfolding takes
-returns-in-Command c = takes_case _ c.in-Command.is c.refusal.ensures
+returns-in-Command c = takes_case _ c.in-Command.is (c.is_ok.ensures.value ∙ c.refusal.ensures)

@@ -1,5 +1,5 @@
 -- Each return by the law of its path.
-use Rattle.engine.proofs.StepIs.{refused_path, job_ready, job_path, command_ready, turned_path, taken_ready, taken_path}
+use Rattle.engine.proofs.StepIs.{refused_told, refused_path, job_ready, job_path, command_ready, turned_path, taken_ready, taken_path}
 use Rattle.engine.proofs.steps.do_due.Goals as goal
 
 -- a job: its vertex's row, and one step more
@@ -16,13 +16,13 @@ pub command_checked-done-requires : goal.command_checked-done-requires
 command_checked-done-requires c = (command_ready _ _ _ _ _ _ _ c.in-Command.is c.requires).2
 
 -- a command that is refused
-pub returns-then-command_refused : goal.returns-then-command_refused
-returns-then-command_refused c =
+pub returns-then-is_refused : goal.returns-then-is_refused
+returns-then-is_refused c =
     turned_path _ _ _ _ _ _ _
     c.in-Command.is _ _
     c.command_checked-done.result
-    c.command_checked-done.ensures _ c.command_refused.ensures _
-    c.if-command_refused.true c.as_step.ensures
+    c.command_checked-done.ensures _ (refused_told _ c.is_refused.ensures c.from-answer.ensures) _
+    c.if-is_refused.true c.from-answer.ensures
 
 -- a command that is taken
 pub store-requires-in-Command : goal.store-requires-in-Command
@@ -30,7 +30,7 @@ store-requires-in-Command c =
     (taken_ready _ _ _ _ _ _ _
     c.in-Command.is _ _
     c.command_checked-done.result
-    c.command_checked-done.ensures _ c.command_refused.ensures
+    c.command_checked-done.ensures _ (refused_told _ c.is_refused.ensures c.from-answer.ensures)
     c.requires).0
 
 pub counted-requires-in-Command : goal.counted-requires-in-Command
@@ -39,12 +39,12 @@ counted-requires-in-Command c =
     c.in-Command.is _ _
     c.command_checked-done.result
     c.command_checked-done.ensures _
-    c.command_refused.ensures
+    (refused_told _ c.is_refused.ensures c.from-answer.ensures)
     c.requires).1
 
 -- a refusal
 pub returns-in-Refused : goal.returns-in-Refused
-returns-in-Refused c = refused_path _ _ _ _ c.in-Refused.is
+returns-in-Refused c = rw c.into.ensures (refused_path _ _ _ _ c.in-Refused.is)
 
 -- a job
 pub returns-in-Job : goal.returns-in-Job
@@ -53,12 +53,12 @@ returns-in-Job c =
     c.counted.ensures
 
 -- a command
-pub returns-else-command_refused : goal.returns-else-command_refused
-returns-else-command_refused c =
+pub returns-else-is_refused : goal.returns-else-is_refused
+returns-else-is_refused c =
     taken_path _ _ _ _ _ _ _
     c.in-Command.is
     _ _
     c.command_checked-done.result
     c.command_checked-done.ensures _
-    c.command_refused.ensures _ _ _ c.if-command_refused.false
-    c.as_step-in-Command.ensures c.store-in-Command.ensures c.counted-in-Command.ensures
+    (refused_told _ c.is_refused.ensures c.from-answer.ensures) _ _ _ c.if-is_refused.false
+    c.from-answer.ensures c.store-in-Command.ensures c.counted-in-Command.ensures

@@ -2,11 +2,11 @@
 use mathlib.Core.Path.{◌∙◌, ap}
 use Rattle.graph.specs.Tables.{Lent}
 use Rattle.graph.specs.Answers.{opened}
-use Rattle.graph.proofs.CallLaws.{opening_stops, opening_opens, opened_is}
+use Rattle.graph.proofs.CallLaws.{stopped_opening, opening_opens, opened_is}
 use Rattle.graph.proofs.commands.open_by_value.Goals as goal
 
 pub returns-then-rows-eq0 : goal.returns-then-rows-eq0
-returns-then-rows-eq0 c = opening_stops _ c.vertex_rows-rows.ensures c.if-rows-eq0.true
+returns-then-rows-eq0 c = stopped_opening c.into.result _ _ _ c.into.ensures c.vertex_rows-rows.ensures c.if-rows-eq0.true
 
 pub returns : goal.returns
 returns c =

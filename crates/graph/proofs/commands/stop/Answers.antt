@@ -1,48 +1,26 @@
 -- A refusal that is due ends the call with everything as it was; with none due, what is stored is what the definition leaves.
 use native.Mathlib.Omega.{arith}
-use mathlib.Core.Path.{refl, sym, ◌∙◌}
 use Rattle.graph.proofs.EdgeLoops.{kept_fits}
+use mathlib.Core.Path.{refl, sym}
 use Rattle.graph.specs.Commands.{stop, stopped}
 use Rattle.graph.proofs.CallLaws.{refused_outcome, accepted_outcome, stop_room, stop_targets}
 use Rattle.graph.proofs.commands.stop.Goals as goal
 
-pub returns-then-refusal-ne-ACCEPTED : goal.returns-then-refusal-ne-ACCEPTED
+pub returns-in_err-stop_or_yield_refusal : goal.returns-in_err-stop_or_yield_refusal
 unfolding stop stopped
-returns-then-refusal-ne-ACCEPTED c =
-    refused_outcome c.refused.result _ _ _ _ _ c.stop_refusal-refusal.ensures c.if-refusal-ne-ACCEPTED.true c.refused.ensures
+returns-in_err-stop_or_yield_refusal c = refused_outcome _ _ _ _ _ _ _ c.from_residual.ensures.1 c.in_err-stop_or_yield_refusal.ensures.stop
 
 pub set_status-requires : goal.set_status-requires
-set_status-requires c = (stop_room _ _ (sym c.stop_refusal-refusal.ensures ∙ c.if-refusal-ne-ACCEPTED.false)).0
+set_status-requires c = (stop_room _ _ (sym c.in_ok-stop_or_yield_refusal.ensures.stop)).0
 
 pub drop_edges-kept-requires : goal.drop_edges-kept-requires
-drop_edges-kept-requires c =
-    let free =
-    sym c.stop_refusal-refusal.ensures
-    ∙ c.if-refusal-ne-ACCEPTED.false in (
-      (stop_room _ _ free).1,
-      stop_targets _ _ c.set_status.new.vertices free c.set_status.auto.vertices,
-    )
+drop_edges-kept-requires c = ((stop_room _ _ (sym c.in_ok-stop_or_yield_refusal.ensures.stop)).1, stop_targets _ _ c.set_status.new.vertices (sym c.in_ok-stop_or_yield_refusal.ensures.stop) c.set_status.auto.vertices)
 
 pub overflow_cast-result : goal.overflow_cast-result
-overflow_cast-result c =
-    omega (
-      arith,
-      kept_fits _ _ _ c.drop_edges-kept.ensures.0
-          (stop_room _ _
-          (sym c.stop_refusal-refusal.ensures
-          ∙ c.if-refusal-ne-ACCEPTED.false)).2,
-    )
+overflow_cast-result c = omega (arith, kept_fits _ _ _ c.drop_edges-kept.ensures.0 (stop_room _ _ (sym c.in_ok-stop_or_yield_refusal.ensures.stop)).2)
 
 pub returns : goal.returns
 unfolding stop stopped
 returns c =
     let dropped = c.drop_edges-kept.ensures in
-    accepted_outcome _ _ _
-    c.stop_refusal-refusal.ensures
-    c.if-refusal-ne-ACCEPTED.false
-    (rw (
-      dropped.0,
-      dropped.1,
-      dropped.2,
-      c.set_status.ensures,
-    ) refl)
+    accepted_outcome _ _ _ c.in_ok-stop_or_yield_refusal.ensures.stop (rw (dropped.0, dropped.1, dropped.2, c.set_status.ensures) refl)

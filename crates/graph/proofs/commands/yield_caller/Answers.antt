@@ -1,19 +1,16 @@
 -- A refusal that is due ends the call with everything as it was; with none due, what is stored is what the definition leaves.
-use mathlib.Core.Path.{refl, sym, ◌∙◌}
+use mathlib.Core.Path.{refl, sym}
 use Rattle.graph.specs.Commands.{yield}
 use Rattle.graph.proofs.CallLaws.{refused_outcome, accepted_outcome, yield_room}
 use Rattle.graph.proofs.commands.yield_caller.Goals as goal
 
-pub returns-then-refusal-ne-ACCEPTED : goal.returns-then-refusal-ne-ACCEPTED
+pub returns-in_err-stop_or_yield_refusal : goal.returns-in_err-stop_or_yield_refusal
 unfolding yield
-returns-then-refusal-ne-ACCEPTED c =
-    refused_outcome c.refused.result _ _ _ _ _ c.yield_refusal-refusal.ensures c.if-refusal-ne-ACCEPTED.true c.refused.ensures
+returns-in_err-stop_or_yield_refusal c = refused_outcome _ _ _ _ _ _ _ c.from_residual.ensures.1 c.in_err-stop_or_yield_refusal.ensures.yields
 
 pub set_status-requires : goal.set_status-requires
-set_status-requires c = yield_room _ _ (sym c.yield_refusal-refusal.ensures ∙ c.if-refusal-ne-ACCEPTED.false)
+set_status-requires c = yield_room _ _ (sym c.in_ok-stop_or_yield_refusal.ensures.yields)
 
 pub returns : goal.returns
 unfolding yield
-returns c =
-    accepted_outcome _ _ _ c.yield_refusal-refusal.ensures c.if-refusal-ne-ACCEPTED.false
-    (rw c.set_status.ensures refl)
+returns c = accepted_outcome _ _ _ c.in_ok-stop_or_yield_refusal.ensures.yields (rw c.set_status.ensures refl)

@@ -9,24 +9,25 @@ use Rattle.index.proofs.commands.append_refusal.Goals as goal
 
 pub returns-then-source-target : goal.returns-then-source-target
 unfolding append_refusal
-returns-then-source-target c = λ e rows. halt _ _ (not_of_true (either_left _ (eq-eqb _ _ c.if-source-target.true)))
-
-pub returns-then-reaches : goal.returns-then-reaches
-unfolding append_refusal
-returns-then-reaches c =
+returns-then-source-target c =
     λ e rows.
-    halt _ _
-    (not_of_true (either_right _ (path_found _ _ _ e c.requires.indexed.1 _ c.requires.held_le_peak.3 c.requires.indexed.0 _ c.reaches.ensures c.if-reaches.true)))
+    elim c.then-source-target.branch [
+      | goal.then-source-target-via-then-source-target w ↦ halt _ _ (not_of_true (either_left _ (eq-eqb _ _ w.if-source-target.true)))
+      | goal.then-source-target-via-else-source-target+then-reaches w ↦
+          halt _ _
+          (not_of_true
+          (either_right _ (path_found _ _ _ e c.requires.indexed.1 _ c.requires.held_le_peak.3 c.requires.indexed.0 _ w.reaches.ensures w.if-reaches.true)))
+    ]
 
-pub returns-then-limit-tally : goal.returns-then-limit-tally
+pub returns-then-limit-course : goal.returns-then-limit-course
 unfolding append_refusal
-returns-then-limit-tally c =
+returns-then-limit-course c =
     λ e rows.
     pass _
     (not_of_false
     (either-false (ne_eqb _ _ c.if-source-target.false)
     (path_found _ _ _ e c.requires.indexed.1 _ c.requires.held_le_peak.3 c.requires.indexed.0 _ c.reaches.ensures c.if-reaches.false)))
-    (halt _ _ (answered_full (rows_there _ _ _ e c.requires.indexed.1 c.requires.held_le_peak.0 c.requires.held_le_peak.1 rows) c.if-limit-tally.true))
+    (halt _ _ (answered_full (rows_there _ _ _ e c.requires.indexed.1 c.requires.held_le_peak.0 c.requires.held_le_peak.1 rows) c.if-limit-course.true))
 
 pub returns : goal.returns
 unfolding append_refusal
@@ -36,4 +37,4 @@ returns c =
     (not_of_false
     (either-false (ne_eqb _ _ c.if-source-target.false)
     (path_found _ _ _ e c.requires.indexed.1 _ c.requires.held_le_peak.3 c.requires.indexed.0 _ c.reaches.ensures c.if-reaches.false)))
-    (pass _ (answered_free (rows_there _ _ _ e c.requires.indexed.1 c.requires.held_le_peak.0 c.requires.held_le_peak.1 rows) c.if-limit-tally.false) refl)
+    (pass _ (answered_free (rows_there _ _ _ e c.requires.indexed.1 c.requires.held_le_peak.0 c.requires.held_le_peak.1 rows) c.if-limit-course.false) refl)

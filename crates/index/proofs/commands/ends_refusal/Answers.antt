@@ -1,6 +1,5 @@
 -- `ends_refusal` meets its contract: the tests are the definition's, but that the target's status is looked at before the caller.
 use mathlib.Core.Path.{refl}
-use mathlib.Core.Logic.{⊎_elim}
 use borrow.Author.Tests.{eq-eqb, ne_eqb}
 use Rattle.graph.specs.Commands.{ends_refusal}
 use Rattle.graph.proofs.TestLaws.{either_left, either_right, either-false}
@@ -10,11 +9,12 @@ use Rattle.index.proofs.commands.ends_refusal.Goals as goal
 
 pub returns-then-tally-source : goal.returns-then-tally-source
 unfolding ends_refusal
-returns-then-tally-source c = λ e known. first_not_made _ _ _ _ _ known c.if-tally-source.true
-
-pub returns-then-tally-target : goal.returns-then-tally-target
-unfolding ends_refusal
-returns-then-tally-target c = λ e known. second_not_made _ _ _ _ _ known c.if-tally-target.true
+returns-then-tally-source c =
+    λ e known.
+    elim c.then-tally-source.branch [
+      | goal.then-tally-source-via-then-tally-source w ↦ first_not_made _ _ _ _ _ known w.if-tally-source.true
+      | goal.then-tally-source-via-else-tally-source+then-tally-target w ↦ second_not_made _ _ _ _ _ known w.if-tally-target.true
+    ]
 
 pub returns-then-status-eq-NEW : goal.returns-then-status-eq-NEW
 unfolding ends_refusal
@@ -22,16 +22,12 @@ returns-then-status-eq-NEW c =
     λ e known.
     own_refusal _ _ _ _ known c.requires.0 c.if-tally-source.false c.if-tally-target.false
     (pass _
-    (either_right _
-    (⊎_elim (λ p. either_left _ (eq-eqb _ _ p)) (λ p. either_right _ (eq-eqb _ _ p.1)) c.then-status-eq-NEW.either))
+    (elim c.then-status-eq-NEW.branch [
+      | goal.then-status-eq-NEW-via-then-status-eq-NEW w ↦ either_right _ (either_left _ (eq-eqb _ _ w.if-status-eq-NEW.true))
+      | goal.then-status-eq-NEW-via-else-status-eq-NEW+then-status-eq-RELEASED w ↦ either_right _ (either_right _ (eq-eqb _ _ w.if-status-eq-RELEASED.true))
+      | goal.then-status-eq-NEW-via-else-status-eq-NEW+else-status-eq-RELEASED+then-target-caller w ↦ either_left _ (eq-eqb _ _ w.if-target-caller.true)
+    ])
     refl)
-
-pub returns-then-target-caller : goal.returns-then-target-caller
-unfolding ends_refusal
-returns-then-target-caller c =
-    λ e known.
-    own_refusal _ _ _ _ known c.requires.0 c.if-tally-source.false c.if-tally-target.false
-    (pass _ (either_left _ (eq-eqb _ _ c.if-target-caller.true)) refl)
 
 pub returns : goal.returns
 unfolding ends_refusal

@@ -1,7 +1,9 @@
 -- `release` meets its contract: a vertex that is not made or not new refuses it, else what is stored is what the definition leaves.
+use Rattle.std.specs.Prelude.{Err}
 use mathlib.Core.Path.{refl}
 use native.Mathlib.Omega.{arith}
 use borrow.Author.Tests.{ne_eqb}
+use Rattle.refusal.specs.declared.Reason.TheVariants.{NoSuchVertex, ReleaseNotNew}
 use Rattle.graph.specs.declared.Command.TheVariants.{Release}
 use Rattle.graph.specs.Commands.{release_refusal}
 use Rattle.graph.proofs.CallLaws.{halt}
@@ -13,10 +15,8 @@ pub returns-then-tally-vertex : goal.returns-then-tally-vertex
 unfolding release_refusal
 returns-then-tally-vertex c =
     let pre = c.requires in
-    refused_changes pre.0 (Release _ _) c.refused.result
+    refused_changes pre.0 (Release _ _) (Err NoSuchVertex) NoSuchVertex refl
     (λ e rows. first_not_made _ _ _ _ _ (pre.0.sound e rows) c.if-tally-vertex.true)
-    (λ z. omega arith)
-    c.refused.ensures
 
 pub bounds-vertices-vertex : goal.bounds-vertices-vertex
 bounds-vertices-vertex c = omega (arith, made_rows c.requires.0)
@@ -26,10 +26,8 @@ unfolding release_refusal
 returns-then-vertices-vertex-ne-NEW c =
     let pre = c.requires in
     let is_made = c.if-tally-vertex.false in
-    refused_changes pre.0 (Release _ _) c.refused-then-vertices-vertex-ne-NEW.result
+    refused_changes pre.0 (Release _ _) (Err ReleaseNotNew) ReleaseNotNew refl
     (λ e rows. own_refusal _ _ _ _ (pre.0.sound e rows) pre.1 is_made is_made (halt _ _ (ne_eqb _ _ c.if-vertices-vertex-ne-NEW.true)))
-    (λ z. omega arith)
-    c.refused-then-vertices-vertex-ne-NEW.ensures
 
 pub set_status-requires : goal.set_status-requires
 set_status-requires c = omega (arith, made_rows c.requires.0)

@@ -13,11 +13,12 @@ pub returns : goal.returns
 returns c =
     let pre = c.requires in
     let set = c.set_status.ensures in
-    taken_changes pre.0 (Yield _) _ _ _
+    rw c.opening_nobody.ensures
+    (taken_changes pre.0 (Yield _) _ _ _
     (runs pre.0 _ pre.1)
     (λ e rows. refl)
     (λ e rows. rw set)
     pre.0.indexed
     pre.0.live
     (pre.0.below_peak, pre.0.within)
-    (rw set (widens_yield _ _ _ _ _ _ pre.1.1))
+    (rw set (widens_yield _ _ _ _ _ _ pre.1.1)))

@@ -1,13 +1,13 @@
 -- `has_status` meets its contract: the tests are the definition's, in the same order.
-use mathlib.Core.Path.{sym}
+use mathlib.Core.Path.{refl}
 use borrow.Author.Tests.{lt-ltb, le-ltb}
 use Rattle.graph.specs.Tests.{both}
-use Rattle.graph.proofs.TestLaws.{both-false_left}
 use Rattle.index.proofs.looks.has_status.Goals as goal
 
-pub returns-then-tally-vertex : goal.returns-then-tally-vertex
-returns-then-tally-vertex c = sym (both-false_left _ (le-ltb _ _ c.if-tally-vertex.true))
-
-pub returns : goal.returns
+pub returns-then-vertex-course : goal.returns-then-vertex-course
 unfolding both
-returns c = rw (lt-ltb _ _ c.if-tally-vertex.false)
+returns-then-vertex-course c = rw (lt-ltb _ _ c.if-vertex-course.true) refl
+
+pub returns-else-vertex-course : goal.returns-else-vertex-course
+unfolding both
+returns-else-vertex-course c = rw (le-ltb _ _ c.if-vertex-course.false) refl

@@ -1,11 +1,12 @@
 -- `would_take` meets its contract: each case is told by what its command looks at, and a start is not given.
 use mathlib.Core.Path.{refl, sym, ◌∙◌, ap}
+use mathlib.Core.Logic.{⊎_elim}
 use Rattle.graph.specs.declared.Command.TheVariants.{Transfer}
 use Rattle.graph.specs.Internal.Checks.{is_start}
 use Rattle.graph.specs.Commands.{transfer_refusal}
 use Rattle.graph.proofs.TestLaws.{true-false}
 use Rattle.index.specs.Underway.{caller_of}
-use Rattle.index.proofs.CommandLaws.{made_rows, caller_case}
+use Rattle.index.proofs.CommandLaws.{due_told, made_rows, caller_case}
 use Rattle.index.proofs.LookLaws.{foretold_case, number_foretells, vertex_foretold, release_foretold, stop_foretold, yield_foretold}
 use Rattle.index.proofs.looks.would_take.Goals as goal
 
@@ -46,7 +47,8 @@ unfolding transfer_refusal
 returns-in-Transfer c =
     let ready = c.requires.0 in
     foretold_case ready c.in-Transfer.is
-    (number_foretells ready (Transfer _ _) (λ e rows. c.transfer_refusal.ensures e (ready.sound e rows)))
+    (rw (c.is_ok.ensures.value, due_told c.transfer_refusal.result)
+    (number_foretells ready (Transfer _ _) (λ e rows. c.transfer_refusal.ensures e (ready.sound e rows))))
 
 pub returns-in-Start : goal.returns-in-Start
 unfolding is_start
@@ -56,12 +58,7 @@ pub returns-in-Stop : goal.returns-in-Stop
 unfolding caller_of
 returns-in-Stop c =
     let pre = c.requires in
-    let is = c.in-Stop.is in
-    foretold_case pre.0 is (stop_foretold pre.0 _ (caller_case pre.0 is pre.1))
-
-pub returns-in-Yield : goal.returns-in-Yield
-unfolding caller_of
-returns-in-Yield c =
-    let pre = c.requires in
-    let is = c.in-Yield.is in
-    foretold_case pre.0 is (yield_foretold pre.0 _ (caller_case pre.0 is pre.1))
+    ⊎_elim
+    (λ w. foretold_case pre.0 w.1 (stop_foretold pre.0 _ (caller_case pre.0 w.1 pre.1)))
+    (λ w. foretold_case pre.0 w.1 (yield_foretold pre.0 _ (caller_case pre.0 w.1 pre.1)))
+    c.in-Stop.is

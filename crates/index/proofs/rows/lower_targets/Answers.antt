@@ -1,5 +1,5 @@
 use Rattle.index.proofs.OutLaws.{out_first, out_next}
-use Rattle.index.proofs.LowerLaws.{lowering_first, lowering_next, lowering_end}
+use Rattle.index.proofs.LowerLaws.{lowering_first, lowering_next, lowering_end, lower_told, higher_told}
 use Rattle.index.proofs.rows.lower_targets.Goals as goal
 
 pub loop-left-init : goal.loop-left-init
@@ -18,8 +18,8 @@ loop-left-preserved c =
       (out_next _ _ _ _ c.loop-left.invariant.0 c.loop-left-test.true indexed usable).0,
       lowering_next _ _ _ _ indexed usable _ _ _ _ _ c.loop-left.invariant.0 c.loop-left-test.true c.loop-left.invariant.1 _ _ _
           c.less_into.ensures
-          c.lower_of-lowest.ensures
-          c.higher_of-highest.ensures,
+          (lower_told _ _ c.min-lowest.ensures)
+          (higher_told _ _ c.max-highest.ensures),
     )
 
 pub returns : goal.returns

@@ -8,13 +8,16 @@ use Rattle.looks.proofs.open.may_step.Goals as goal
 
 pub returns-then-status-eq-EXECUTING : goal.returns-then-status-eq-EXECUTING
 unfolding may_step
-returns-then-status-eq-EXECUTING c = sym (either_left _ (eq-eqb _ _ c.if-status-eq-EXECUTING.true))
+returns-then-status-eq-EXECUTING c =
+    let runs = eq-eqb _ _ c.if-status-eq-EXECUTING.true in
+    runs ∙ sym (either_left _ runs)
 
-pub returns-then-status-ne-RELEASED : goal.returns-then-status-ne-RELEASED
+pub returns-then-status-eq-RELEASED : goal.returns-then-status-eq-RELEASED
 unfolding may_step
-returns-then-status-ne-RELEASED c =
-    sym (either-false (ne_eqb _ _ c.if-status-eq-EXECUTING.false) (both-false_left _ (ne_eqb _ _ c.if-status-ne-RELEASED.true)))
+returns-then-status-eq-RELEASED c = both_skip _ (eq-eqb _ _ c.if-status-eq-RELEASED.true) ∙ either_skip _ (ne_eqb _ _ c.if-status-eq-EXECUTING.false)
 
-pub returns : goal.returns
+pub returns-else-status-eq-RELEASED : goal.returns-else-status-eq-RELEASED
 unfolding may_step
-returns c = both_skip _ (eq-eqb _ _ c.if-status-ne-RELEASED.false) ∙ either_skip _ (ne_eqb _ _ c.if-status-eq-EXECUTING.false)
+returns-else-status-eq-RELEASED c =
+    let not_released = ne_eqb _ _ c.if-status-eq-RELEASED.false in
+    not_released ∙ sym (either-false (ne_eqb _ _ c.if-status-eq-EXECUTING.false) (both-false_left _ not_released))

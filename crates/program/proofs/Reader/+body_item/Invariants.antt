@@ -12,7 +12,7 @@ abbrev pub decreases-item : goal.decreases-item
 decreases-item l = 2 * length l.bytes.now
 
 abbrev pub invariant-body-loop-from : goal.invariant-body-loop-from
-invariant-body-loop-from l = Along l.bytes l.fn.inside l.start (item_counts l.fn.self.seen) l.reader l.here l.from
+invariant-body-loop-from l = Along l.bytes l.fn.inside l.self.place (item_counts l.fn.self.seen) l.reader l.here l.from
 
 abbrev pub decreases-body-loop-from : goal.decreases-body-loop-from
 decreases-body-loop-from l = length l.bytes - l.from

@@ -6,7 +6,8 @@ pub loop-i-init : goal.loop-i-init
 loop-i-init c = after_none _
 
 pub returns-then-bytes-i : goal.returns-then-bytes-i
-returns-then-bytes-i c = run_out _ _ _ _ _ _ c.loop-i.invariant c.loop-i-test.true c.if-bytes-i.true
+returns-then-bytes-i c =
+    rw (c.refused.ensures, c.moved.ensures.0) (run_out _ _ _ _ _ _ c.loop-i.invariant c.loop-i-test.true c.if-bytes-i.true)
 
 -- the last group
 pub overflow_mul-weight : goal.overflow_mul-weight
@@ -36,4 +37,4 @@ loop-i-preserved c =
     c.if-group-lt-TOP_BIT.false
 
 pub returns : goal.returns
-returns c = over _ _ _ _ _ _ c.loop-i.invariant c.loop-i-test.false
+returns c = rw c.refused-2.ensures (over _ _ _ _ _ _ c.loop-i.invariant c.loop-i-test.false)

@@ -1,21 +1,27 @@
 use Rattle.std.proofs.Common.{arith, refl, sym, ap, ◌∙◌, length, length-set, get_or}
 use mathlib.Core.Bool.{false≢true}
 use mathlib.Core.Logic.{inl, inr}
+use borrow.Author.Tests.{eqb-true, eqb-false}
 use Rattle.program.proofs.CheckLaws.{table_is, table_small, checking_first, checked_out, checked_unknown, checked_deep}
 use Rattle.program.proofs.CheckLaws.{checked_number, checked_main_end, checked_first_end, checked_end, checked_opener, checked_past}
 use Rattle.program.proofs.CheckLaws.{checked_short, outside_refused}
 use Rattle.program.proofs.checks.check.Goals as goal
+use Rattle.program.proofs.checks.check.Goals.{then-is_empty-via-then-is_empty, then-is_empty-via-else-is_empty+then-program-gt-PROGRAM_BYTES}
 
-pub returns-then-program-eq0 : goal.returns-then-program-eq0
-returns-then-program-eq0 c = (outside_refused _ _ (inl c.if-program-eq0.true), refl, λ e. absurd (false≢true e))
-
-pub returns-then-program-gt-PROGRAM_BYTES : goal.returns-then-program-gt-PROGRAM_BYTES
-returns-then-program-gt-PROGRAM_BYTES c =
-    (outside_refused _ _ (inr c.if-program-gt-PROGRAM_BYTES.true), refl, λ e. absurd (false≢true e))
+pub returns-then-is_empty : goal.returns-then-is_empty
+returns-then-is_empty c = (
+  outside_refused _ _
+      (elim c.then-is_empty.branch [
+        | then-is_empty-via-then-is_empty w ↦ inl (eqb-true _ 0 (sym w.if-is_empty.ensures))
+        | then-is_empty-via-else-is_empty+then-program-gt-PROGRAM_BYTES w ↦ inr w.if-program-gt-PROGRAM_BYTES.true
+      ]),
+  refl,
+  λ e. absurd (false≢true e),
+)
 
 pub loop-place-init : goal.loop-place-init
 loop-place-init c =
-    checking_first _ _ _ (omega arith, omega arith) c.requires
+    checking_first _ _ _ (omega (arith, eqb-false _ 0 (sym c.if-is_empty.ensures)), omega arith) c.requires
     (table_small c.fork_vertices.result (omega (arith, c.fork_vertices.ensures.1)))
 
 pub returns-then-depth-eq0 : goal.returns-then-depth-eq0
@@ -54,28 +60,28 @@ overflow_add-made c =
       c.loop-place.invariant.small (get_or c.args.program.now c.loop-place.place 0),
     )
 
-pub returns-then-place-eq0 : goal.returns-then-place-eq0
-returns-then-place-eq0 c = (
+pub returns-in_default : goal.returns-in_default
+returns-in_default c = (
   checked_number c.loop-place.invariant _ _ c.loop-place-test.true (sym c.opens_number.ensures ∙ c.if-opens_number.true)
-      c.number_bound.ensures c.past_number-place.ensures c.if-place-eq0.true _ (table_is _ _ c.fork_vertices.ensures.0),
+      c.number_bound.ensures c.past_number.ensures c.in_default.is _ (table_is _ _ c.fork_vertices.ensures.0),
   ap length c.mark_place.ensures ∙ length-set c.loop-place.marks c.loop-place.place 1 ∙ c.loop-place.invariant.long,
   λ e. absurd (false≢true e),
 )
 
 -- behind a number
-pub loop-place-smaller-else-place-eq0 : goal.loop-place-smaller-else-place-eq0
-loop-place-smaller-else-place-eq0 c =
+pub loop-place-smaller-then-opens_number : goal.loop-place-smaller-then-opens_number
+loop-place-smaller-then-opens_number c =
     let passed =
-    checked_past c.loop-place.invariant c.mark_place.new.marks c.past_number-place.result _ c.loop-place-test.true
-    (sym c.opens_number.ensures ∙ c.if-opens_number.true) c.number_bound.ensures c.past_number-place.ensures
-    c.if-place-eq0.false c.mark_place.ensures in
+    checked_past c.loop-place.invariant c.mark_place.new.marks c.in-Some.past _ c.loop-place-test.true
+    (sym c.opens_number.ensures ∙ c.if-opens_number.true) c.number_bound.ensures (sym c.in-Some.is ∙ c.past_number.ensures)
+    c.mark_place.ensures in
     omega (arith, passed.1, passed.0.within)
 
-pub loop-place-preserved-else-place-eq0 : goal.loop-place-preserved-else-place-eq0
-loop-place-preserved-else-place-eq0 c =
-    (checked_past c.loop-place.invariant c.mark_place.new.marks c.past_number-place.result _ c.loop-place-test.true
-    (sym c.opens_number.ensures ∙ c.if-opens_number.true) c.number_bound.ensures c.past_number-place.ensures
-    c.if-place-eq0.false c.mark_place.ensures).0
+pub loop-place-preserved-then-opens_number : goal.loop-place-preserved-then-opens_number
+loop-place-preserved-then-opens_number c =
+    (checked_past c.loop-place.invariant c.mark_place.new.marks c.in-Some.past _ c.loop-place-test.true
+    (sym c.opens_number.ensures ∙ c.if-opens_number.true) c.number_bound.ensures (sym c.in-Some.is ∙ c.past_number.ensures)
+    c.mark_place.ensures).0
 
 pub returns-then-depth : goal.returns-then-depth
 returns-then-depth c = (

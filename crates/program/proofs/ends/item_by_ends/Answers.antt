@@ -18,7 +18,7 @@ returns-then-from-ge-PROGRAM_BYTES c =
       | then-from-ge-PROGRAM_BYTES-via-else-from-ge-PROGRAM_BYTES+then-ends-from-eq0 w ↦
           sym (ends_tell_starts _ _ c.args.ends.now _ c.requires.0 (omega arith)) ∙ ap not (eq-eqb _ _ w.if-ends-from-eq0.true)
     ] in
-    (sym (not_starting _ _ _ unstarted), refl)
+    (rw c.into.ensures (sym (not_starting _ _ _ unstarted)), refl)
 
 pub slice_bounds-item_ended-count : goal.slice_bounds-item_ended-count
 slice_bounds-item_ended-count c =

@@ -5,7 +5,7 @@ use Rattle.program.proofs.EndedLaws.{starting_ended}
 use Rattle.program.proofs.items.item_if_starts.Goals as goal
 
 pub returns-then-not-starts : goal.returns-then-not-starts
-returns-then-not-starts c = (sym (not_starting _ _ _ (sym c.requires.1 ∙ c.if-not-starts.true)), refl)
+returns-then-not-starts c = (rw c.into.ensures (sym (not_starting _ _ _ (sym c.requires.1 ∙ c.if-not-starts.true))), refl)
 
 pub slice_bounds-item_here-count : goal.slice_bounds-item_here-count
 slice_bounds-item_here-count c = omega (arith, starts_length _ _ _ (sym c.requires.1 ∙ c.if-not-starts.false))

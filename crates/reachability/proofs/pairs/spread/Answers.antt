@@ -7,12 +7,12 @@ use Rattle.index.specs.Layout.{row_limit, nowhere}
 use Rattle.reachability.proofs.MarkLaws.{spread_more}
 use Rattle.reachability.proofs.pairs.spread.Goals as goal
 
-pub loop-k-preserved : goal.loop-k-preserved
-loop-k-preserved c =
+pub loop-row-preserved : goal.loop-row-preserved
+loop-row-preserved c =
     let row : ℕ =
-    get_or c.args.rows.now c.loop-k.k 0 in
+    get_or c.args.rows.now c.loop-row.row-index 0 in
     let used : (row < c.args.used) × (c.args.used ≤ row_limit) =
-    (c.requires.1 c.loop-k.k (omega arith), c.requires.0.few) in
+    (c.requires.1 c.loop-row.row-index (omega arith), c.requires.0.few) in
     let usable : (source c.args.index.now row ≤ nowhere) × (target c.args.index.now row < usable_limit) =
     (c.requires.0.sources row used.0, c.requires.0.targets row used.0) in
-    (refl, omega arith, spread_more _ _ _ _ _ c.loop-k.invariant.2 used.0 (omega (arith, usable)))
+    (refl, omega arith, spread_more _ _ _ _ _ c.loop-row.invariant.2 used.0 (omega (arith, usable)))

@@ -5,5 +5,5 @@ use lib.ListN.{length}
 use Rattle.reachability.specs.Marks.{Spread}
 use Rattle.reachability.proofs.pairs.spread.Given as goal
 
-abbrev pub invariant-loop-k : goal.invariant-loop-k
-invariant-loop-k l = (l.k-end ≡ length l.rows) × (l.k ≤ l.k-end) × Spread l.index l.used l.initial.labels l.labels
+abbrev pub invariant-loop-row : goal.invariant-loop-row
+invariant-loop-row l = (l.row-index-end ≡ length l.rows) × (l.row-index ≤ l.row-index-end) × Spread l.index l.used l.initial.labels l.labels

@@ -27,8 +27,6 @@ returns-then-busy-vertex_rows c =
 
 pub walk-rested-requires : goal.walk-rested-requires
 walk-rested-requires c = (
-  c.mark_ends.ensures.1,
-  c.mark_ends.ensures.0,
   steppable-sound _ (sym c.if-not-is_steppable.ensures),
   λ q. omega (arith, c.vertex_rows.ensures, c.if-busy-vertex_rows.false),
 )

@@ -14,57 +14,57 @@ use Rattle.walks.proofs.onindex.step_on_index.Goals as goal
 -- it is started
 pub returns-then-vertices-vertex-eq-RELEASED : goal.returns-then-vertices-vertex-eq-RELEASED
 returns-then-vertices-vertex-eq-RELEASED c =
-    started_on _ _ c.requires.ready.0 c.requires.ready.2 c.requires.ready.3 c.requires.ready.4 c.if-vertices-vertex-eq-RELEASED.true _ _
+    started_on _ _ c.requires.0 c.requires.2 c.requires.3 c.requires.4 c.if-vertices-vertex-eq-RELEASED.true _ _
     c.set_status.ensures c.one_step.ensures
 
 pub do_on_index-requires : goal.do_on_index-requires
 do_on_index-requires c =
     let runs : Executes c.args.vertices.now c.args.course c.args.vertex =
-    (c.requires.ready.3, executing_one _ _ c.requires.ready.4 c.if-vertices-vertex-eq-RELEASED.false) in
-    let there : DueThere c.args.edition c.args.program.now c.args.vertices.now c.args.course.tally.made c.args.vertex
+    (c.requires.3, executing_one _ _ c.requires.4 c.if-vertices-vertex-eq-RELEASED.false) in
+    let there : DueThere c.args.program.now.edition c.args.program.now.bytes.now c.args.vertices.now c.args.course.tally.made c.args.vertex
     (due_of c.item_due-next.result) =
-    there_next _ c.args.program.now c.args.vertices.now _ _ _ c.own_words-own.ensures
+    there_next _ c.args.program.now.bytes.now c.args.vertices.now _ _ _ c.own_words-own.ensures
     c.item_due-next.ensures in
     let asks = c.requires in
     let executes = runs in record {
-      ready = (asks.ready.0, asks.ready.1, asks.ready.2, executes);
-      due_on = due_on _ c.args.program.now asks.ready.0 asks.ready.2 executes there;
+      ready = (asks.0, asks.1, asks.2, executes);
+      due_on = due_on _ c.args.program.now.bytes.now asks.0 asks.2 executes there;
     }
 
 pub returns : goal.returns
 returns c =
     let runs : Executes c.args.vertices.now c.args.course c.args.vertex =
-    (c.requires.ready.3, executing_one _ _ c.requires.ready.4 c.if-vertices-vertex-eq-RELEASED.false) in
-    let there : DueThere c.args.edition c.args.program.now c.args.vertices.now c.args.course.tally.made c.args.vertex
+    (c.requires.3, executing_one _ _ c.requires.4 c.if-vertices-vertex-eq-RELEASED.false) in
+    let there : DueThere c.args.program.now.edition c.args.program.now.bytes.now c.args.vertices.now c.args.course.tally.made c.args.vertex
     (due_of c.item_due-next.result) =
-    there_next _ c.args.program.now c.args.vertices.now _ _ _ c.own_words-own.ensures
+    there_next _ c.args.program.now.bytes.now c.args.vertices.now _ _ _ c.own_words-own.ensures
     c.item_due-next.ensures in
     let asks = c.requires in
-    steps_on _ _ asks.ready.0 asks.ready.2 runs there c.do_on_index.ensures
+    steps_on _ _ asks.0 asks.2 runs there c.do_on_index.ensures
 
 pub bounds-vertices-vertex : goal.bounds-vertices-vertex
 bounds-vertices-vertex c =
     let row : vertex_words * c.args.vertex + vertex_words ≤ length c.args.vertices.now =
-    omega (arith, rows_there c.requires.ready.0, c.requires.ready.3) in
+    omega (arith, rows_there c.requires.0, c.requires.3) in
     omega (arith, row)
 
 pub set_status-requires : goal.set_status-requires
 set_status-requires c =
     let row : vertex_words * c.args.vertex + vertex_words ≤ length c.args.vertices.now =
-    omega (arith, rows_there c.requires.ready.0, c.requires.ready.3) in
+    omega (arith, rows_there c.requires.0, c.requires.3) in
     row
 
 pub own_words-own-requires : goal.own_words-own-requires
 own_words-own-requires c =
     let row : vertex_words * c.args.vertex + vertex_words ≤ length c.args.vertices.now =
-    omega (arith, rows_there c.requires.ready.0, c.requires.ready.3) in
+    omega (arith, rows_there c.requires.0, c.requires.3) in
     row
 
 pub slice_reshared_read-item_due : goal.slice_reshared_read-item_due
 slice_reshared_read-item_due c =
     let row : vertex_words * c.args.vertex + vertex_words ≤ length c.args.vertices.now =
-    omega (arith, rows_there c.requires.ready.0, c.requires.ready.3) in
+    omega (arith, rows_there c.requires.0, c.requires.3) in
     omega (arith, row)
 
 pub item_due-next-requires : goal.item_due-next-requires
-item_due-next-requires c = (c.item_by_ends.ensures.0, omega (arith, rows_there c.requires.ready.0))
+item_due-next-requires c = (c.item_by_ends.ensures.0, omega (arith, rows_there c.requires.0))

@@ -17,7 +17,7 @@ returns-then-not-is_steppable c =
 pub walk-rested-requires : goal.walk-rested-requires
 walk-rested-requires c =
     let takes_steps = sym c.if-not-is_steppable.ensures in
-    (c.mark_ends.ensures.1, c.mark_ends.ensures.0, steppable-sound _ takes_steps, λ q. true-false q refl)
+    (steppable-sound _ takes_steps, λ q. true-false q refl)
 
 pub returns : goal.returns
 returns c =

@@ -7,7 +7,7 @@ use native.Mathlib.Numerals.{add-one}
 use Rattle.machine.specs.Dispatching.{Desk, desk, marked, noted, hand_out}
 use Rattle.engine.specs.Answers.{said}
 use Rattle.engine.specs.declared.Answer.{Answer}
-use Rattle.engine.specs.declared.Answer.TheVariants.{Job}
+use Rattle.engine.specs.declared.Answer.TheVariants.{Job, Start, New, Edge, Release, Transfer, Stop, Yield, Refused}
 use Rattle.walks.proofs.walk.hand_out.Goals as goal
 
 -- a job is written into the row,
@@ -18,52 +18,22 @@ job :
 unfolding hand_out
 job vertex marks list handed on p = rw (on, p, add-one handed) refl
 
--- and an answer that is no job leaves the desk
-other :
-    {hands : Bool} {answer b : Answer} (vertex : ℕ) (d : Desk) → hands ≡ true → answer ≡ b → hand_out vertex (said b) d ≡ d
-    → d ≡ cond hands (hand_out vertex (said answer) d) d
-other vertex d on p same = rw (on, p) (sym same)
-
 pub returns-in-Job : goal.returns-in-Job
 unfolding hand_out noted
 returns-in-Job c = job c.args.vertex c.args.busy.now c.args.jobs.now c.args.handed c.if-not-hands.false c.in-Job.is
 
-pub returns-in-Start : goal.returns-in-Start
-unfolding hand_out noted
-returns-in-Start c =
-    other c.args.vertex (desk c.args.busy.now c.args.jobs.now c.args.handed) c.if-not-hands.false c.in-Start.is refl
+-- and an answer that is no job leaves the desk
+other : (vertex : ℕ) (answer : Answer) (marks list : List ℕ) (handed : ℕ) → ((n o : ℕ) → answer ≡ Job n o → ⊥) → desk marks list handed ≡ hand_out vertex (said answer) (desk marks list handed)
+unfolding hand_out
+other vertex (Job n o) marks list handed no_job = absurd (no_job n o refl)
+other vertex Start marks list handed no_job = refl
+other vertex (New v) marks list handed no_job = refl
+other vertex (Edge a b) marks list handed no_job = refl
+other vertex (Release v) marks list handed no_job = refl
+other vertex (Transfer v) marks list handed no_job = refl
+other vertex Stop marks list handed no_job = refl
+other vertex Yield marks list handed no_job = refl
+other vertex (Refused r) marks list handed no_job = refl
 
-pub returns-in-New : goal.returns-in-New
-unfolding hand_out noted
-returns-in-New c =
-    other c.args.vertex (desk c.args.busy.now c.args.jobs.now c.args.handed) c.if-not-hands.false c.in-New.is refl
-
-pub returns-in-Edge : goal.returns-in-Edge
-unfolding hand_out noted
-returns-in-Edge c =
-    other c.args.vertex (desk c.args.busy.now c.args.jobs.now c.args.handed) c.if-not-hands.false c.in-Edge.is refl
-
-pub returns-in-Release : goal.returns-in-Release
-unfolding hand_out noted
-returns-in-Release c =
-    other c.args.vertex (desk c.args.busy.now c.args.jobs.now c.args.handed) c.if-not-hands.false c.in-Release.is refl
-
-pub returns-in-Transfer : goal.returns-in-Transfer
-unfolding hand_out noted
-returns-in-Transfer c =
-    other c.args.vertex (desk c.args.busy.now c.args.jobs.now c.args.handed) c.if-not-hands.false c.in-Transfer.is refl
-
-pub returns-in-Stop : goal.returns-in-Stop
-unfolding hand_out noted
-returns-in-Stop c =
-    other c.args.vertex (desk c.args.busy.now c.args.jobs.now c.args.handed) c.if-not-hands.false c.in-Stop.is refl
-
-pub returns-in-Yield : goal.returns-in-Yield
-unfolding hand_out noted
-returns-in-Yield c =
-    other c.args.vertex (desk c.args.busy.now c.args.jobs.now c.args.handed) c.if-not-hands.false c.in-Yield.is refl
-
-pub returns-in-Refused : goal.returns-in-Refused
-unfolding hand_out noted
-returns-in-Refused c =
-    other c.args.vertex (desk c.args.busy.now c.args.jobs.now c.args.handed) c.if-not-hands.false c.in-Refused.is refl
+pub returns-in_default : goal.returns-in_default
+returns-in_default c = rw c.if-not-hands.false (other c.args.vertex c.args.answer c.args.busy.now c.args.jobs.now c.args.handed c.in_default.not-Job)

@@ -12,71 +12,68 @@ use Rattle.walks.proofs.walk.take_next.Goals as goal
 
 pub returns-then-tally-ge-STEP_LIMIT : goal.returns-then-tally-ge-STEP_LIMIT
 returns-then-tally-ge-STEP_LIMIT c =
-    (λ e is none_can. late_free _ _ _ _ c.if-tally-ge-STEP_LIMIT.true, refl, refl, c.requires.ready.3.0, λ e is none_can. none_can)
+    (λ e is none_can. late_free _ _ _ _ c.if-tally-ge-STEP_LIMIT.true, refl, refl, c.requires.3.0, λ e is none_can. none_can)
 
 pub first_open-vertex-requires : goal.first_open-vertex-requires
 first_open-vertex-requires c =
-    let rows = made_rows _ _ _ _ c.requires.ready.0 in
-    (rows.0, omega (arith, rows, c.requires.ready.3.0), c.requires.ready.2)
+    let rows = made_rows _ _ _ _ c.requires.0 in
+    (rows.0, omega (arith, rows, c.requires.3.0), c.requires.2)
 
 pub step_on_index-moved-requires : goal.step_on_index-moved-requires
 step_on_index-moved-requires c =
     let ready : Ready c.args.vertices.now c.args.index.now c.args.course c.args.limit =
-    c.requires.ready.0 in
-    let looked : Looked c.args.edition c.args.program.now c.args.vertices.now c.args.index.now c.args.busy.now
+    c.requires.0 in
+    let looked : Looked c.args.program.now.edition c.args.program.now.bytes.now c.args.vertices.now c.args.index.now c.args.busy.now
     c.args.shut.now c.args.course c.args.limit c.args.candidates c.loop-vertex.shut c.loop-vertex.vertex
     c.loop-vertex.told =
     c.loop-vertex.invariant.3 in
-    let inv = c.loop-vertex.invariant in record {
-      marks_ends = (c.requires.marks_ends.0, c.requires.marks_ends.1);
-      ready = (
-        still_ready _ _ _ _ _ _ ready inv.0 inv.1,
-        c.requires.ready.1,
-        c.if-tally-ge-STEP_LIMIT.false,
-        c.loop-vertex-test.true,
-        may_here _ _ c.args.busy.now c.loop-vertex.shut _ inv.0 ((looked).here c.loop-vertex-test.true),
-      );
-    }
+    let inv = c.loop-vertex.invariant in (
+      still_ready _ _ _ _ _ _ ready inv.0 inv.1,
+      c.requires.1,
+      c.if-tally-ge-STEP_LIMIT.false,
+      c.loop-vertex-test.true,
+      may_here _ _ c.args.busy.now c.loop-vertex.shut _ inv.0 (looked.here c.loop-vertex-test.true),
+    )
 
 pub returns-then-not-step_refused : goal.returns-then-not-step_refused
 returns-then-not-step_refused c =
     let ready : Ready c.args.vertices.now c.args.index.now c.args.course c.args.limit =
-    c.requires.ready.0 in
-    let looked : Looked c.args.edition c.args.program.now c.args.vertices.now c.args.index.now c.args.busy.now
+    c.requires.0 in
+    let looked : Looked c.args.program.now.edition c.args.program.now.bytes.now c.args.vertices.now c.args.index.now c.args.busy.now
     c.args.shut.now c.args.course c.args.limit c.args.candidates c.loop-vertex.shut c.loop-vertex.vertex
     c.loop-vertex.told =
     c.loop-vertex.invariant.3 in
     let inv = c.loop-vertex.invariant in
     taken_next _ _ _ _ c.args.busy.now c.args.shut.now _ _ ready c.args.candidates c.loop-vertex.shut _ _
     looked c.loop-vertex-test.true _ _ _ _ c.step_on_index-moved.result inv.0 inv.1 c.step_on_index-moved.ensures
-    c.found.result c.settled-left.result
+    c.found-behind.result c.settled-left.result
     c.reopened.result _ c.step_refused.ensures
-    (ap not c.if-not-step_refused.true) c.found.ensures
+    (ap not c.if-not-step_refused.true) c.found-behind.ensures
     c.settled-left.ensures c.reopened.ensures
 
 pub loop-vertex-preserved : goal.loop-vertex-preserved
 loop-vertex-preserved c =
     let ready : Ready c.args.vertices.now c.args.index.now c.args.course c.args.limit =
-    c.requires.ready.0 in
-    let looked : Looked c.args.edition c.args.program.now c.args.vertices.now c.args.index.now c.args.busy.now
+    c.requires.0 in
+    let looked : Looked c.args.program.now.edition c.args.program.now.bytes.now c.args.vertices.now c.args.index.now c.args.busy.now
     c.args.shut.now c.args.course c.args.limit c.args.candidates c.loop-vertex.shut c.loop-vertex.vertex
     c.loop-vertex.told =
     c.loop-vertex.invariant.3 in
     let inv = c.loop-vertex.invariant in
-    let found = c.look_further-vertex.ensures in
+    let found = c.next_able-vertex.ensures in
     turned_over _ _ _ _ c.args.busy.now c.args.shut.now _ _ ready c.args.candidates c.loop-vertex.shut _ _
     looked c.loop-vertex-test.true _ _ _ _ c.step_on_index-moved.result inv.0 inv.1 c.step_on_index-moved.ensures
-    c.step_refused.ensures (ap not c.if-not-step_refused.false) c.look_further-vertex.new.shut _ _ c.behind.ensures found.0 found.1
+    c.step_refused.ensures (ap not c.if-not-step_refused.false) c.next_able-vertex.new.shut _ _ c.max.ensures found.0 found.1
 
 pub returns : goal.returns
 returns c =
     let inv = c.loop-vertex.invariant in
-    (none_next _ _ _ _ _ _ _ _ c.requires.ready.0 _ _ _ _ inv.3 c.loop-vertex-test.false inv.2, inv.0, inv.1, inv.3.long, inv.3.barred)
+    (none_next _ _ _ _ _ _ _ _ c.requires.0 _ _ _ _ inv.3 c.loop-vertex-test.false inv.2, inv.0, inv.1, inv.3.long, inv.3.barred)
 
-pub found-requires : goal.found-requires
-found-requires c =
+pub found-behind-requires : goal.found-behind-requires
+found-behind-requires c =
     let ready : Ready c.args.vertices.now c.args.index.now c.args.course c.args.limit =
-    c.requires.ready.0 in
+    c.requires.0 in
     let usable : c.loop-vertex.vertex < usable_limit =
     omega (arith, c.loop-vertex-test.true, made_rows _ _ _ _ ready) in
     usable
@@ -84,7 +81,7 @@ found-requires c =
 pub settled-left-requires : goal.settled-left-requires
 settled-left-requires c =
     let ready : Ready c.args.vertices.now c.args.index.now c.args.course c.args.limit =
-    c.requires.ready.0 in
+    c.requires.0 in
     let same_vertices : length c.step_on_index-moved.new.vertices ≡ length c.args.vertices.now =
     c.step_on_index-moved.auto.vertices ∙ ap length c.loop-vertex.invariant.0 in
     let rows_left : vertex_words * c.args.course.tally.made ≤ length c.step_on_index-moved.new.vertices =
@@ -94,8 +91,8 @@ settled-left-requires c =
 pub bounds-shut-vertex : goal.bounds-shut-vertex
 bounds-shut-vertex c =
     let ready : Ready c.args.vertices.now c.args.index.now c.args.course c.args.limit =
-    c.requires.ready.0 in
-    let looked : Looked c.args.edition c.args.program.now c.args.vertices.now c.args.index.now c.args.busy.now
+    c.requires.0 in
+    let looked : Looked c.args.program.now.edition c.args.program.now.bytes.now c.args.vertices.now c.args.index.now c.args.busy.now
     c.args.shut.now c.args.course c.args.limit c.args.candidates c.loop-vertex.shut c.loop-vertex.vertex
     c.loop-vertex.told =
     c.loop-vertex.invariant.3 in
@@ -104,11 +101,3 @@ bounds-shut-vertex c =
     let short : c.loop-vertex.vertex < length c.loop-vertex.shut =
     omega (arith, usable, looked.long) in
     short
-
-pub behind-requires : goal.behind-requires
-behind-requires c =
-    let ready : Ready c.args.vertices.now c.args.index.now c.args.course c.args.limit =
-    c.requires.ready.0 in
-    let usable : c.loop-vertex.vertex < usable_limit =
-    omega (arith, c.loop-vertex-test.true, made_rows _ _ _ _ ready) in
-    usable

@@ -7,7 +7,7 @@ use Rattle.walks.proofs.walk.take_next.Given as goal
 abbrev pub invariant-loop-vertex : goal.invariant-loop-vertex
 invariant-loop-vertex l =
     (l.vertices ≡ l.initial.vertices) × (l.index ≡ l.initial.index) × (l.vertex ≤ l.made)
-    × Looked l.edition l.program l.initial.vertices l.initial.index l.busy l.initial.shut l.course l.limit l.candidates l.shut l.vertex l.told
+    × Looked l.program.edition l.program.bytes.now l.initial.vertices l.initial.index l.busy l.initial.shut l.course l.limit l.candidates l.shut l.vertex l.told
 
 abbrev pub decreases-loop-vertex : goal.decreases-loop-vertex
 decreases-loop-vertex l = l.made - l.vertex

@@ -9,19 +9,16 @@ use Rattle.walks.proofs.walk.walk.Goals as goal
 
 pub take_in-requires : goal.take_in-requires
 take_in-requires c =
-    let known = c.requires.2 in
+    let known = c.requires.0 in
     let rows = sound_rows _ known in
     (refl, omega (arith, rows), omega (arith, rows), usable_ends _ known)
 
 pub walk_on-walked-requires : goal.walk_on-walked-requires
 walk_on-walked-requires c =
-    let pre = c.requires in
     let taken = c.take_in.ensures in (
-      pre.0,
-      pre.1,
-      ready_for c.edge_rows-limit.ensures (taken_in _ _ _ _ pre.2 taken.1 taken.0),
+      ready_for c.edge_rows-limit.ensures (taken_in _ _ _ _ c.requires.0 taken.1 taken.0),
       c.edge_rows-limit.ensures,
-      pre.3,
+      c.requires.1,
       refl,
     )
 
@@ -30,5 +27,5 @@ returns c =
     let walked = c.walk_on-walked.ensures in
     let rested = c.rest-rested.ensures in
     rested_lent _ _ c.walk_on-walked.new.busy _ c.walk_on-walked.new.shut c.rest-rested.result walked.0
-    (stands_for_lent _ _ _ _ c.requires.2 c.take_in.ensures.1) c.hand_back.ensures walked.4 rested.0
+    (stands_for_lent _ _ _ _ c.requires.0 c.take_in.ensures.1) c.hand_back.ensures walked.4 rested.0
     (rested.1 _ (sym walked.2))

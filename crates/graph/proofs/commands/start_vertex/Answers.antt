@@ -1,0 +1,16 @@
+-- A refusal that is due ends the call with everything as it was; with none due, what is stored is what the definition leaves.
+use mathlib.Core.Path.{refl, sym}
+use Rattle.graph.specs.Commands.{start}
+use Rattle.graph.proofs.CallLaws.{refused_outcome, accepted_outcome, start_room}
+use Rattle.graph.proofs.commands.start_vertex.Goals as goal
+
+pub returns-in_err-start_refusal : goal.returns-in_err-start_refusal
+unfolding start
+returns-in_err-start_refusal c = refused_outcome _ _ _ _ _ _ _ c.from_residual.ensures.1 c.in_err-start_refusal.ensures
+
+pub set_status-requires : goal.set_status-requires
+set_status-requires c = start_room _ _ (sym c.in_ok-start_refusal.ensures)
+
+pub returns : goal.returns
+unfolding start
+returns c = accepted_outcome _ _ _ c.in_ok-start_refusal.ensures (rw c.set_status.ensures refl)

@@ -1,9 +1,0 @@
--- Before turn i the first i were asked.
-use Prim.Native.Nat.{◌≤◌}
-use Rattle.reachability.specs.Pairs.{pair_limit}
-use Rattle.looks.specs.Looking.{Asking}
-use Rattle.looks.proofs.sift.ask_window.Given as goal
-
-abbrev pub invariant-loop-i : goal.invariant-loop-i
-invariant-loop-i l =
-    (l.i ≤ pair_limit) × Asking l.edition l.program l.vertices l.index l.course l.limit l.base l.starts l.goals l.kinds l.i
