@@ -2,6 +2,7 @@
 use Rattle.std.specs.Prelude.{ℕ, ◌+◌, ◌/◌, ◌%◌, List, [], ◌∷◌, ◌++◌, if◌then◌else◌, nat_lt, codes, decimal}
 use Rattle.std.specs.List.{flat_map}
 use Rattle.refusal.specs.declared.Refusal.{Refusal}
+use Rattle.refusal.specs.Reasons.{number}
 use Rattle.graph.specs.declared.Tally.{Tally}
 use Rattle.cases.specs.Sums.{table_sum}
 
@@ -19,7 +20,7 @@ bytes_text bytes = flat_map byte_text bytes
 
 -- a refusal's number and place
 abbrev pub refused_text : Refusal → List ℕ
-refused_text r = codes "refused " ++ decimal r.number ++ codes " " ++ decimal r.place
+refused_text r = codes "refused " ++ decimal (number r.reason) ++ codes " " ++ decimal r.place
 
 -- the tally, and a sum over each table
 abbrev pub left_text : Tally → List ℕ → List ℕ → List ℕ

@@ -36,7 +36,8 @@ impl fmt::Display for Refused {
     ghost output = { λ r. Some (refused_text r.0) };
 
     fn fmt<W: fmt::Write>(&self, f: &mut fmt::Formatter<W>) -> fmt::Result {
-        let Refusal { number, place } = self.0;
+        let Refusal { reason, place } = self.0;
+        let number = reason.number();
         write!(f, "refused {number} {place}")
     }
 }

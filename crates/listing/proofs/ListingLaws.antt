@@ -18,7 +18,7 @@ use Rattle.machine.specs.Stepping.{step_limit}
 use Rattle.machine.proofs.GhostMachine.GhostLaws.{clash}
 use Rattle.listing.specs.declared.text.Heading.{Heading}
 use Rattle.listing.specs.declared.text.Step.{Step}
-use Rattle.listing.specs.declared.text.Refused.{Refused}
+use Rattle.refusal.specs.declared.Refusal.{Refusal}
 use Rattle.listing.specs.Lines.{first_text, next_text, FirstLine, NextLine}
 use Rattle.listing.proofs.LineLaws.{chosen_counts}
 use Rattle.listing.specs.Listing.{StepLines, no_step, a_step, Lines, refused, listed, all_rows, Lists}
@@ -57,7 +57,7 @@ going_first {ed} {bytes} old new h tally {vertices} {edges} line wrote =
 
 -- behind the line of a refusal there is nothing
 pub lists_refusal :
-    {ed : Edition} {bytes : List ℕ} (old new : Option (List ℕ)) (r : Refused) {vertices edges : List ℕ}
+    {ed : Edition} {bytes : List ℕ} (old new : Option (List ℕ)) (r : Refusal) {vertices edges : List ℕ}
     → FirstLine ed bytes all_rows (Err r) (first_text (Err r)) vertices edges
     → Appends old new (first_text (Err r)) → Lists ed bytes old new
 lists_refusal {ed} {bytes} old new r line wrote =

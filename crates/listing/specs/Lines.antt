@@ -1,6 +1,8 @@
 -- The lister's lines in an edition, one call after the other. "The lister .. runs the lowest vertex first and prints a heading, then per step the stepping
 -- vertex, the word, its vertices or job number." "A refused program prints `refused`, number and place on one line."
 use Rattle.std.specs.Prelude.{ℕ, ◌≡◌, true, List, [], Result, Ok, Err, Option, Some, None}
+use Rattle.refusal.specs.declared.Refusal.{Refusal}
+use Rattle.refusal.specs.Reasons.{number}
 use Rattle.graph.specs.declared.Tally.{Tally}
 use Rattle.graph.specs.Tables.{Lent, lent}
 use Rattle.program.specs.Trees.{Body, counts}
@@ -14,13 +16,12 @@ use Rattle.machine.specs.Running.{choose, choice}
 use Rattle.engine.specs.Answers.{said}
 use Rattle.listing.specs.declared.text.Heading.{Heading}
 use Rattle.listing.specs.declared.text.Step.{Step}
-use Rattle.listing.specs.declared.text.Refused.{Refused}
 use Rattle.listing.specs.Text.{heading_text, step_text, refusal_text}
 
 -- the text of a first line
-abbrev pub first_text : Result (Heading × Tally) Refused → List ℕ
+abbrev pub first_text : Result (Heading × Tally) Refusal → List ℕ
 first_text (Ok (h, tally)) = heading_text h.vertices h.jobs h.steps
-first_text (Err r) = refusal_text r.0.number r.0.place
+first_text (Err r) = refusal_text (number r.reason) r.place
 
 -- the text of a next line, or none
 abbrev pub next_text : Option (Step × Tally) → List ℕ
@@ -36,7 +37,7 @@ abbrev pub Kept : Lent → List ℕ → List ℕ → Type 0
 Kept s vertices edges = (vertices ≡ s.vertices) × (edges ≡ s.edges)
 
 -- Loading these bytes onto s: the text of the line is the heading where that is accepted, and the refusal where it is refused.
-abbrev pub FirstLine : Edition → List ℕ → Lent → Result (Heading × Tally) Refused → List ℕ → List ℕ → List ℕ → Type 0
+abbrev pub FirstLine : Edition → List ℕ → Lent → Result (Heading × Tally) Refusal → List ℕ → List ℕ → List ℕ → Type 0
 FirstLine ed bytes s (Ok (h, tally)) text vertices edges =
     (is_loaded (load ed bytes s).answer ≡ true) × (lent vertices edges tally ≡ (load ed bytes s).after)
     × ((t : Body) × (reading ed bytes ≡ program t)

@@ -12,10 +12,10 @@ pub use crate::text::{Heading, Refused, Step};
 use engine::load::load_by_value;
 use engine::look::lowest_vertex;
 use engine::steps::step_by_value;
-use engine::{Loading, Lowest};
 use graph::Tally;
 use program::reading::read;
-use program::{Edition, ProgramRead};
+use program::Edition;
+use refusal::Refusal;
 
 // No line is longer, its end included (proofs/LineLengths.antt).
 pub const LINE_BYTES: usize = 64;
@@ -26,23 +26,18 @@ pub fn first_line(
     vertices: &mut [u32],
     edges: &mut [u32],
     edition: Edition,
-) -> Result<(Heading, Tally), Refused>
+) -> Result<(Heading, Tally), Refusal>
     ensures { FirstLine edition program.now (unused vertices.old edges.old) result (first_text result) vertices.new edges.new }
 {
-    let items = match read(program, edition) {
-        ProgramRead::Refused(refusal) => return Err(Refused(refusal)),
-        ProgramRead::Program(items) => items,
-    };
+    let items = read(program, edition)?;
     let nothing = Tally {
         made: 0,
         held: 0,
         steps: 0,
     };
     let loaded = load_by_value(program, vertices, edges, nothing, edition);
-    match loaded.answer {
-        Loading::Refused(refusal) => Err(Refused(refusal)),
-        Loading::Loaded => Ok((Heading::of(items, edition), loaded.tally)),
-    }
+    loaded.answer?;
+    Ok((Heading::of(items, edition), loaded.tally))
 }
 
 // Steps the lowest vertex that can step, as `lowest_vertex` finds it. The line is that step's, with the tally with which the next one is asked
@@ -56,9 +51,8 @@ pub fn next_line(
 ) -> Option<(Step, Tally)>
     ensures { NextLine edition program.now (lent vertices.old edges.old tally) result (next_text result) vertices.new edges.new }
 {
-    let vertex = match lowest_vertex(program, vertices, edges, tally, edition) {
-        Lowest::Vertex(vertex) => vertex,
-        Lowest::NoVertex | Lowest::Refused(_) => return None,
+    let Ok(Some(vertex)) = lowest_vertex(program, vertices, edges, tally, edition) else {
+        return None;
     };
     let done = step_by_value(program, vertices, edges, tally, edition, vertex);
     let answer = done.answer;

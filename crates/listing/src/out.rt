@@ -2,7 +2,7 @@
 ghost use Rattle.std.specs.Prelude.{◌≡◌, ◌+◌, ◌≤◌, IfSome, OnOk, length, take};
 ghost use Rattle.listing.specs.Listing.{Lists};
 
-use crate::{first_line, next_line};
+use crate::{Refused, first_line, next_line};
 use graph::rows::{EDGE_TABLE, VERTEX_TABLE};
 use program::Edition;
 use program::format::PROGRAM_BYTES;
@@ -44,7 +44,7 @@ pub fn list<W: Write>(out: &mut W, program: &[u8], edition: Edition) -> io::Resu
     let mut edges = [0u32; EDGE_TABLE];
     let (heading, mut tally) = match first_line(program, &mut vertices, &mut edges, edition) {
         Ok(first) => first,
-        Err(refused) => return writeln!(out, "{refused}"),
+        Err(refusal) => return writeln!(out, "{}", Refused(refusal)),
     };
     writeln!(out, "{heading}")?;
     while let Some((step, after)) = next_line(program, &mut vertices, &mut edges, tally, edition) {

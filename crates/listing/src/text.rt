@@ -1,6 +1,7 @@
 // The lister's lines: a heading, a step, and a refused program. Each is shown as specs/Text.antt has it, without
 // the line's end.
 ghost use Rattle.std.specs.Prelude.{◌≡◌, Some};
+ghost use Rattle.refusal.specs.Reasons.{number};
 ghost use Rattle.program.specs.Encodings.{vertex_formula, step_formula};
 ghost use Rattle.program.specs.Answers.{item_counts};
 ghost use Rattle.engine.specs.Answers.{said};
@@ -95,11 +96,12 @@ impl fmt::Display for Said {
 pub struct Refused(pub Refusal);
 
 impl fmt::Display for Refused {
-    ghost output = { λ r. Some (refused_words r.0.number r.0.place) };
+    ghost output = { λ r. Some (refused_words (number r.0.reason) r.0.place) };
 
     #[tactic(auto, using(crate::proofs::NumeralLaws::numeral_is, crate::proofs::NumeralLaws::grouped), unfolding(crate::specs::Text::refused_words))]
     fn fmt<W: fmt::Write>(&self, f: &mut fmt::Formatter<W>) -> fmt::Result {
-        let Refusal { number, place } = self.0;
+        let Refusal { reason, place } = self.0;
+        let number = reason.number();
         write!(f, "refused {number} {place}")
     }
 }

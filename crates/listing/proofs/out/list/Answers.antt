@@ -4,7 +4,7 @@ use Rattle.listing.proofs.ListingLaws.{going_first, lists_refusal, going_on, lis
 use Rattle.listing.proofs.out.list.Goals as goal
 
 pub returns-in-Err : goal.returns-in-Err
-returns-in-Err g c = on_ok_weaker c.writeln.result (λ wrote. lists_refusal _ _ c.in-Err.refused c.in-Err.ensures wrote) c.writeln.ensures.bytes
+returns-in-Err g c = on_ok_weaker c.writeln.result (λ wrote. lists_refusal _ _ c.in-Err.refusal c.in-Err.ensures wrote) c.writeln.ensures.bytes
 
 pub loop-step-init : goal.loop-step-init
 loop-step-init g c = going_first _ _ _ _ c.in-Ok.ensures c.in_ok-writeln.ensures.bytes
