@@ -4,7 +4,6 @@ ghost use Rattle.std.specs.Prelude.{◌≡◌, length};
 
 use cases::draw::{Draw, begin};
 use cases::sum;
-use chains::Answer;
 use chains::showing::chain_by_value;
 use graph::Tally;
 use graph::rows::{EDGE_WORDS, NEW, STATUS, VERTEX_WORDS};
@@ -119,7 +118,7 @@ fn asked(
     list: &mut [u32],
 ) -> u32 {
     match chain_by_value(vertices, edges, tally, source, target, list) {
-        Answer::Chain(vertices) => vertices,
-        Answer::Refused(refusal) => 100 + refusal.number % 100,
+        Ok(vertices) => vertices,
+        Err(refusal) => 100 + refusal.reason.number() % 100,
     }
 }

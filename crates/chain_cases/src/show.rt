@@ -1,21 +1,21 @@
 // Asks for a chain, and shows what was answered and what the list then holds.
 use cases::{Refused, sum};
-use chains::Answer;
 use chains::showing::chain_by_value;
 use graph::Tally;
+use refusal::Refusal;
 use std::fmt;
 use std::io;
 use std::io::Write;
 
 // What was answered.
 #[derive(Clone, Copy)]
-struct Said(Answer);
+struct Said(Result<u32, Refusal>);
 
 impl fmt::Display for Said {
     fn fmt<W: fmt::Write>(&self, f: &mut fmt::Formatter<W>) -> fmt::Result {
         match self.0 {
-            Answer::Chain(vertices) => write!(f, "chain {vertices}"),
-            Answer::Refused(refusal) => write!(f, "{}", Refused(refusal)),
+            Ok(vertices) => write!(f, "chain {vertices}"),
+            Err(refusal) => write!(f, "{}", Refused(refusal)),
         }
     }
 }

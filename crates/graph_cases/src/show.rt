@@ -1,6 +1,6 @@
 // Shows what a call answered and left.
 use cases::{Left, Refused};
-use graph::{Answer, Done, OpenDone, Opening};
+use graph::{Answer, Done, OpenDone};
 use std::io::Write;
 use std::{fmt, io};
 
@@ -36,8 +36,8 @@ pub(crate) fn opened(
         edges,
     };
     match answer {
-        Opening::Opened => writeln!(out, "opened{left}"),
-        Opening::Refused(refusal) => writeln!(out, "{}{left}", Refused(refusal)),
+        Ok(()) => writeln!(out, "opened{left}"),
+        Err(refusal) => writeln!(out, "{}{left}", Refused(refusal)),
     }
 }
 
