@@ -2,6 +2,7 @@
 // shows in, and numbers that look drawn.
 #![tactic(auto)]
 
+pub mod changes;
 pub mod draw;
 
 ghost use Rattle.std.specs.Prelude.{◌≡◌, ◌++◌, Some, OnOk, codes};
