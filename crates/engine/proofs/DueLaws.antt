@@ -7,9 +7,11 @@ use mathlib.Core.Option.{some, none-ne-some}
 use lib.ListN.{length}
 use borrow.Author.Tests.{lt-ltb, le-ltb, eq-eqb, ne_eqb, ltb-true}
 use Rattle.graph.specs.Tests.{both}
-use Rattle.graph.specs.Tables.{Lent, NEW, EXECUTING, FINISHED, place_word, scope_word, phase_word, made_word, future_word, vertex_word, status}
+use Rattle.graph.specs.declared.Tally.{Tally}
+use Rattle.graph.specs.Tables.{Lent, lent, vertex_rows, edge_rows, NEW, EXECUTING, FINISHED, place_word, scope_word, phase_word, made_word, future_word, vertex_word, status}
 use Rattle.graph.specs.Sound.{sound}
 use Rattle.graph.proofs.TestLaws.{both_true, both_left, both_right, both-false_left, both-false_right, not_of_true, not_of_false}
+use Rattle.graph.proofs.SoundLaws.{sound_fits}
 use Rattle.graph.proofs.CallLaws.{answered, answered_yes, answered_no}
 use Rattle.refusal.specs.declared.Refusal.{Refusal}
 use Rattle.refusal.specs.Refusals.{nothing_starts}
@@ -139,6 +141,10 @@ pub due_there :
     (ed : Edition) (bytes : List ℕ) (s : Lent) (k : ℕ) {d : Due} → sound s ≡ true → s.steps < step_limit → k < s.made
     → status s.vertices k ≡ EXECUTING → DueThere ed bytes s.vertices s.made k d → d ≡ due ed bytes s k
 due_there ed bytes s k known few lt is h = h s refl refl ∙ sym (due_executing ed bytes s k (steppable_of s known few) lt is)
+
+-- the rows that are used are there
+pub rows_there : (v e : List ℕ) (t : Tally) → sound (lent v e t) ≡ true → (t.made ≤ vertex_rows v) × (t.held ≤ edge_rows e)
+rows_there v e t h = let fits = sound_fits (lent v e t) h in (fits.vertices_fit, fits.edges_fit)
 
 -- tables that take steps are sound
 pub steppable-sound : (s : Lent) → steppable s ≡ true → sound s ≡ true

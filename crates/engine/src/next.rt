@@ -71,7 +71,7 @@ pub(crate) fn next_due(
 }
 
 // A start is due: only the tally and the vertex's own row are looked at.
-#[tactic(auto, using(crate::proofs::DueLaws::dues, graph::proofs::SoundChecks::fits_rows, graph::proofs::SoundChecks::sound_rows), unfolding(machine::specs::Stepping::start_due))]
+#[tactic(auto, using(crate::proofs::DueLaws::dues, graph::proofs::SoundChecks::fits_rows, crate::proofs::DueLaws::rows_there), unfolding(machine::specs::Stepping::start_due))]
 pub(crate) fn start_due(vertices: &[u32], edges: &[u32], tally: Tally, vertex: u32) -> bool
     ensures { result ≡ start_due (lent vertices.now edges.now tally) vertex }
 {

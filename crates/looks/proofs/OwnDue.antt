@@ -38,8 +38,9 @@ use Rattle.engine.specs.declared.Due.TheVariants as of_due
 use Rattle.engine.specs.Answers.{own_words, due_of}
 use Rattle.engine.specs.Internal.Underway.{DueThere, may_start, takes}
 use Rattle.engine.proofs.CandidateLaws.{start_can, executing_can}
-use Rattle.index.specs.declared.Asked.{Asked}
-use Rattle.index.specs.declared.Asked.TheVariants as of_asked
+use Rattle.std.specs.Prelude as of_code
+use Rattle.refusal.specs.declared.Reason.{Reason}
+use Rattle.index.specs.declared.Pair.{Pair}
 use Rattle.looks.specs.declared.Hinge.{Hinge}
 use Rattle.looks.specs.declared.Kind.TheVariants as of_kind
 use Rattle.index.specs.Asking.{Asks, Foretells}
@@ -183,7 +184,7 @@ hinges_so so by =
 module _ (ed : Edition) (bytes v x : List ℕ) (k : Course) (limit t : ℕ) (ready : Ready v x k limit) (early : k.tally.steps < step_limit)
     (made : t < k.tally.made) (runs : status v t ≡ EXECUTING) (d : code.Due) (there : DueThere ed bytes v k.tally.made t (due_of d)) where
   -- a refusal
-  pub refused_cannot : (n : ℕ) → d ≡ of_due.Refused n → CannotOn ed bytes v x k limit t
+  pub refused_cannot : (n : Reason) → d ≡ of_due.Refused n → CannotOn ed bytes v x k limit t
   unfolding takes
   refused_cannot n is = due_can ed bytes v x k limit t ready early made runs there (λ e rows. rw is refl)
 
@@ -210,11 +211,11 @@ kind_barred false h = clash cc
 
 -- it hinges on a pair
 pub hinged_pair :
-    (v x : List ℕ) (k : Course) (limit : ℕ) (c : single.Command) (a : Asked) {start goal : ℕ} {appends b : Bool} → Asks v x k limit c a
-    → a ≡ of_asked.Pair start goal appends → appends ≡ b
-    → HingedBy v x k limit c (record { start = start; goal = goal; kind = cond b of_kind.PathOrRow of_kind.Path })
-hinged_pair v x k limit c a {start} {goal} {appends} {b} asks is told =
-    let pair : Asks v x k limit c (of_asked.Pair start goal appends) = subst (Asks v x k limit c) is asks in
+    (v x : List ℕ) (k : Course) (limit : ℕ) (c : single.Command) (a : of_code.Option Pair) {p : Pair} {b : Bool} → Asks v x k limit c a
+    → a ≡ of_code.Some p → p.appends ≡ b
+    → HingedBy v x k limit c (record { start = p.start; goal = p.goal; kind = cond b of_kind.PathOrRow of_kind.Path })
+hinged_pair v x k limit c a {p} {b} asks is told =
+    let pair : Asks v x k limit c (of_code.Some p) = subst (Asks v x k limit c) is asks in
     record {
       start_usable = pair.0;
       goal_usable = pair.1;

@@ -16,7 +16,6 @@ use engine::Due;
 use engine::leaps::{LEAP_WORDS, fill_leaps, leaping_due};
 use graph::Command;
 use graph::rows::{EXECUTING, STATUS, USABLE_LIMIT, VERTEX_WORDS};
-use index::Asked;
 use index::looks::{asked, would_take};
 use reachability::order::{ORDER_WORDS, order_rows};
 use reachability::pairs::{PAIRS, Telling, tell_pairs};
@@ -121,27 +120,21 @@ impl<'a> Look<'a> {
         requires { Executes self.now.vertices.now self.now.course (caller_of given) × (is_start given ≡ false) }
         ensures { HingedBy self.now.vertices.now self.now.index.now self.now.course self.now.limit given result }
     {
-        match asked(self.vertices, self.course, given) {
-            Asked::Pair {
-                start,
-                goal,
-                appends,
-            } => Hinge {
-                start,
-                goal,
-                kind: if appends { Kind::PathOrRow } else { Kind::Path },
-            },
-            Asked::Nothing => if would_take(
-                self.vertices,
-                self.index,
-                self.limit,
-                self.course,
-                given,
-            ) {
-                hinging_on(Kind::Nothing)
-            } else {
-                hinging_on(Kind::Barred)
-            },
+        if let Some(pair) = asked(self.vertices, self.course, given) {
+            return Hinge {
+                start: pair.start,
+                goal: pair.goal,
+                kind: if pair.appends {
+                    Kind::PathOrRow
+                } else {
+                    Kind::Path
+                },
+            };
+        }
+        if would_take(self.vertices, self.index, self.limit, self.course, given) {
+            hinging_on(Kind::Nothing)
+        } else {
+            hinging_on(Kind::Barred)
         }
     }
 }

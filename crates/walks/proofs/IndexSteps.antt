@@ -15,6 +15,7 @@ use native.Mathlib.Omega.{arith}
 use lib.Dec.{eqb}
 use lib.Seq.{get_or-set_other}
 use borrow.Author.Tests.{eq-eqb, not-true, not-false}
+use Rattle.refusal.specs.declared.Reason.{Reason}
 use Rattle.graph.specs.Tests.{both, either}
 use Rattle.graph.specs.Tables.{Lent, lent, RELEASED, EXECUTING, vertex_words, status_word, in_count_word, vertex_rows, edge_rows}
 use Rattle.graph.specs.Tables.{status, in_count, set_status}
@@ -120,9 +121,9 @@ module _ {v x : List ℕ} {k : Course} {limit t : ℕ} (ready : Ready v x k limi
     (due_here : DueOn v x k limit t (due_of d)) where
   -- a refusal
   pub refused_on :
-      (n : ℕ) {low high : ℕ} → d ≡ of_due.Refused n
+      (n : Reason) {low high : ℕ} → d ≡ of_due.Refused n
       → DoesOn v x k limit t (due_of d)
-      (record { answer = of_answer.Refused (record { number = n; place = 0 }); course = k; lowest = low; highest = high })
+      (record { answer = of_answer.Refused (record { reason = n; place = 0 }); course = k; lowest = low; highest = high })
       v
       x
   refused_on n is =

@@ -1,6 +1,7 @@
 -- "Where an answer is an enum, a definition gives this paper's number and values for each of its cases": the plain machine's answers have
 -- them.
 use Rattle.std.proofs.Math.Option.{Option, none, some}
+use Rattle.refusal.specs.Reasons.{number}
 use Rattle.machine.specs.Answers.{StepSaid}
 use Rattle.machine.specs.Running as of_run
 use Rattle.machine.specs.Dispatching as of_dispatch
@@ -17,7 +18,7 @@ abbrev pub ending_of : Ending → of_run.Ending
 ending_of of_ending.Done = of_run.done
 ending_of of_ending.Stuck = of_run.stuck
 ending_of of_ending.Spent = of_run.spent
-ending_of (of_ending.Refused r) = of_run.refused r.number r.place
+ending_of (of_ending.Refused r) = of_run.refused (number r.reason) r.place
 
 -- its last step
 abbrev pub last_of : LastStep → Option StepSaid
@@ -31,4 +32,4 @@ dispatch_ending_of of_dispatch_ending.Stuck = of_dispatch.stuck
 dispatch_ending_of of_dispatch_ending.Waiting = of_dispatch.waiting
 dispatch_ending_of of_dispatch_ending.Full = of_dispatch.full
 dispatch_ending_of of_dispatch_ending.Spent = of_dispatch.spent
-dispatch_ending_of (of_dispatch_ending.Refused r) = of_dispatch.refused r.number r.place
+dispatch_ending_of (of_dispatch_ending.Refused r) = of_dispatch.refused (number r.reason) r.place

@@ -1,5 +1,6 @@
 // A dispatch: a walk that hands jobs out to a host's threads, and how it ends.
 ghost use Rattle.std.specs.Prelude.{◌≡◌, ◌*◌, ◌≤◌, eqb, length};
+ghost use Rattle.refusal.specs.Reasons.{number};
 ghost use Rattle.graph.specs.Tests.{every};
 ghost use Rattle.graph.specs.Tables.{lent, vertex_words, status, FINISHED};
 ghost use Rattle.machine.specs.Dispatching as of_dispatch;
@@ -17,7 +18,7 @@ use looks::look::MarkedProgram;
 use program::Edition;
 use program::ends::mark_ends;
 use program::format::PROGRAM_BYTES;
-use refusal::{BUSY_TABLE_TOO_SHORT, Refusal, UNSOUND_TABLES};
+use refusal::Reason;
 
 // A dispatch, with the tally by value.
 pub fn dispatch_by_value(
@@ -33,10 +34,10 @@ pub fn dispatch_by_value(
     ensures { Dispatched edition program.now (lent vertices.old edges.old tally) busy.old jobs.old budget (dispatch_ending_of result.answer.ending) result.answer.taken (lent vertices.new edges.new result.tally) busy.new jobs.new result.answer.handed }
 {
     if !is_steppable(vertices, edges, tally) {
-        return refused(UNSOUND_TABLES, tally);
+        return refused(Reason::UnsoundTables, tally);
     }
     if busy.len() < vertex_rows(vertices) {
-        return refused(BUSY_TABLE_TOO_SHORT, tally);
+        return refused(Reason::BusyTableTooShort, tally);
     }
     let mut ends = [0u16; PROGRAM_BYTES];
     mark_ends(program, edition, &mut ends);
@@ -55,15 +56,10 @@ pub fn dispatch_by_value(
     ended(ending, walked.taken, handed, after)
 }
 
-fn refused(number: u32, tally: Tally) -> DispatchDone
-    ensures { (dispatch_ending_of result.answer.ending ≡ of_dispatch.refused number 0) × (result.answer.taken ≡ 0) × (result.answer.handed ≡ 0) × (result.tally ≡ tally) }
+fn refused(reason: Reason, tally: Tally) -> DispatchDone
+    ensures { (dispatch_ending_of result.answer.ending ≡ of_dispatch.refused (number reason) 0) × (result.answer.taken ≡ 0) × (result.answer.handed ≡ 0) × (result.tally ≡ tally) }
 {
-    ended(
-        DispatchEnding::Refused(Refusal { number, place: 0 }),
-        0,
-        0,
-        tally,
-    )
+    ended(DispatchEnding::Refused(reason.into()), 0, 0, tally)
 }
 
 fn ended(ending: DispatchEnding, taken: u32, handed: u32, tally: Tally) -> DispatchDone

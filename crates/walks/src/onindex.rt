@@ -15,7 +15,7 @@ use engine::next::{
     async_next, end_next, finish_next, force_next, fork_next, future_next, job_next, own_words,
     yielding_fork_next,
 };
-use engine::steps::{as_step, command_refused, counted, store};
+use engine::steps::{counted, store};
 use engine::{Answer, Due, Own};
 use graph::rows::{EXECUTING, RELEASED, SCOPE, STATUS, VERTEX_WORDS, set_status};
 use index::Course;
@@ -23,7 +23,7 @@ use index::layout::NOWHERE;
 use looks::look::MarkedProgram;
 use program::ends::item_by_ends;
 use program::{Edition, ItemRead};
-use refusal::{NOTHING_STARTS, Refusal};
+use refusal::Reason;
 
 // One step of a vertex that may step, where a row of the index is left and steps are.
 pub(crate) fn step_on_index(
@@ -87,7 +87,7 @@ fn item_due(
     ensures { Next edition program.now vertices.now vertex scope (own_words own) made (due_of result) }
 {
     match item {
-        ItemRead::Refused(_) => Due::Refused(NOTHING_STARTS),
+        ItemRead::Refused(_) => Due::Refused(Reason::NothingStarts),
         ItemRead::End { .. } => end_next(vertex, own),
         ItemRead::Job { number, past } => job_next(vertex, own, number, past.place),
         ItemRead::Async { body, past } => async_next(vertex, scope, own, made, body, past.place),
@@ -157,8 +157,8 @@ fn do_on_index(
     ensures { DoesOn vertices.old index.old course limit vertex (due_of next) result vertices.new index.new }
 {
     match next {
-        Due::Refused(number) => Moved {
-            answer: Answer::Refused(Refusal { number, place: 0 }),
+        Due::Refused(reason) => Moved {
+            answer: Answer::Refused(reason.into()),
             course,
             lowest: NOWHERE,
             highest: 0,
@@ -178,10 +178,10 @@ fn do_on_index(
         }
         Due::Command { command, own } => {
             let changed = index::commands::command(vertices, index, limit, course, command);
-            let answer = changed.answer;
-            if command_refused(answer) {
+            let answer = Answer::from(changed.answer);
+            if changed.answer.is_refused() {
                 return Moved {
-                    answer: as_step(answer),
+                    answer,
                     course: changed.course,
                     lowest: NOWHERE,
                     highest: 0,
@@ -189,7 +189,7 @@ fn do_on_index(
             }
             store(vertices, vertex as usize, own);
             Moved {
-                answer: as_step(answer),
+                answer,
                 course: one_step(changed.course),
                 lowest: changed.lowest,
                 highest: changed.highest,

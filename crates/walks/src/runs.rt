@@ -18,7 +18,7 @@ use looks::look::MarkedProgram;
 use program::Edition;
 use program::ends::mark_ends;
 use program::format::PROGRAM_BYTES;
-use refusal::{Refusal, UNSOUND_TABLES};
+use refusal::Reason;
 
 // A run, with the tally by value.
 pub fn run_by_value(
@@ -65,10 +65,7 @@ fn refused(tally: Tally) -> RunDone
     ensures { (ending_of result.answer.ending ≡ of_run.refused unsound_tables 0) × (last_of result.answer.last ≡ none) × (result.answer.taken ≡ 0) × (result.tally ≡ tally) }
 {
     ended(
-        Ending::Refused(Refusal {
-            number: UNSOUND_TABLES,
-            place: 0,
-        }),
+        Ending::Refused(Reason::UnsoundTables.into()),
         LastStep::NoStep,
         0,
         tally,

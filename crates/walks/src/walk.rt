@@ -6,7 +6,6 @@ ghost use Rattle.graph.specs.Tables.{lent, usable_limit, largest_word, vertex_wo
 ghost use Rattle.graph.specs.Sound.{sound};
 ghost use Rattle.index.specs.Layout.{row_limit};
 ghost use Rattle.index.specs.Underway.{state_of, Ready, may_step};
-ghost use Rattle.machine.specs.Answers.{accepted};
 ghost use Rattle.machine.specs.Dispatching.{desk, hand_out, room};
 ghost use Rattle.engine.specs.Answers.{said};
 ghost use Rattle.machine.specs.Running.{lowest};
@@ -198,7 +197,7 @@ fn take_next(
     while vertex < made {
         let moved = step_on_index(program, vertices, index, limit, course, vertex);
         let answer = moved.answer;
-        if !step_refused(answer) {
+        if !answer.is_refused() {
             let behind = found(candidates, vertex, told);
             let left = settled(vertices, made, behind, moved.lowest, moved.highest);
             return Some(Taken {
@@ -221,13 +220,6 @@ fn take_next(
         vertex = look.next_able(shut, (vertex + 1).max(candidates.skip));
     }
     None
-}
-
-// A step was refused.
-fn step_refused(answer: Answer) -> bool
-    ensures { result ≡ not (accepted (said answer)) }
-{
-    matches!(answer, Answer::Refused(_))
 }
 
 // A step that answers this lets no other vertex step that was refused before.

@@ -15,25 +15,25 @@ command-changed-requires c =
     (c.requires.ready.0, own.0, c.requires.ready.1, own.1)
 
 -- a command that is refused
-pub returns-then-command_refused : goal.returns-then-command_refused
-returns-then-command_refused c =
+pub returns-then-is_refused : goal.returns-then-is_refused
+returns-then-is_refused c =
     turned_on c.requires.ready.0 c.requires.ready.3 _ c.requires.due_on _ _ c.in-Command.is c.command-changed.result c.command-changed.ensures
-    _ c.command_refused.ensures _ c.if-command_refused.true c.as_step.ensures
+    _ c.is_refused.ensures _ c.if-is_refused.true c.from-answer.ensures
 
 -- a command that is taken: row and count behind it
 pub store-requires-in-Command : goal.store-requires-in-Command
 store-requires-in-Command c =
     (stored_ready c.requires.ready.0 c.requires.ready.3 _ c.requires.due_on _ _ c.in-Command.is c.command-changed.result
-    c.command-changed.ensures _ c.command_refused.ensures).0
+    c.command-changed.ensures _ c.is_refused.ensures).0
 
 pub one_step-requires-in-Command : goal.one_step-requires-in-Command
 one_step-requires-in-Command c =
     (stored_ready c.requires.ready.0 c.requires.ready.3 _ c.requires.due_on _ _ c.in-Command.is c.command-changed.result
-    c.command-changed.ensures _ c.command_refused.ensures).1
+    c.command-changed.ensures _ c.is_refused.ensures).1
 
 -- a refusal
 pub returns-in-Refused : goal.returns-in-Refused
-returns-in-Refused c = refused_on c.requires.ready.0 c.requires.ready.3 _ c.requires.due_on _ c.in-Refused.is
+returns-in-Refused c = rw c.into.ensures (refused_on c.requires.ready.0 c.requires.ready.3 _ c.requires.due_on _ c.in-Refused.is)
 
 -- a job
 pub returns-in-Job : goal.returns-in-Job
@@ -42,8 +42,8 @@ returns-in-Job c =
     c.one_step.ensures
 
 -- a command
-pub returns-else-command_refused : goal.returns-else-command_refused
-returns-else-command_refused c =
+pub returns-else-is_refused : goal.returns-else-is_refused
+returns-else-is_refused c =
     taken_on c.requires.ready.0 c.requires.ready.3 _ c.requires.due_on _ _ c.in-Command.is c.command-changed.result c.command-changed.ensures
-    _ c.command_refused.ensures _ _ _ c.if-command_refused.false
-    c.as_step-in-Command.ensures c.store-in-Command.ensures c.one_step-in-Command.ensures
+    _ c.is_refused.ensures _ _ _ c.if-is_refused.false
+    c.from-answer.ensures c.store-in-Command.ensures c.one_step-in-Command.ensures

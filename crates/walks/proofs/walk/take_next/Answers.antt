@@ -35,8 +35,8 @@ step_on_index-moved-requires c =
       may_here _ _ c.args.busy.now c.loop-vertex.shut _ inv.0 (looked.here c.loop-vertex-test.true),
     )
 
-pub returns-then-not-step_refused : goal.returns-then-not-step_refused
-returns-then-not-step_refused c =
+pub returns-then-not-is_refused : goal.returns-then-not-is_refused
+returns-then-not-is_refused c =
     let ready : Ready c.args.vertices.now c.args.index.now c.args.course c.args.limit =
     c.requires.0 in
     let looked : Looked c.args.program.now.edition c.args.program.now.bytes.now c.args.vertices.now c.args.index.now c.args.busy.now
@@ -47,8 +47,8 @@ returns-then-not-step_refused c =
     taken_next _ _ _ _ c.args.busy.now c.args.shut.now _ _ ready c.args.candidates c.loop-vertex.shut _ _
     looked c.loop-vertex-test.true _ _ _ _ c.step_on_index-moved.result inv.0 inv.1 c.step_on_index-moved.ensures
     c.found-behind.result c.settled-left.result
-    c.reopened.result _ c.step_refused.ensures
-    (ap not c.if-not-step_refused.true) c.found-behind.ensures
+    c.reopened.result _ c.is_refused.ensures
+    (ap not c.if-not-is_refused.true) c.found-behind.ensures
     c.settled-left.ensures c.reopened.ensures
 
 pub loop-vertex-preserved : goal.loop-vertex-preserved
@@ -63,7 +63,7 @@ loop-vertex-preserved c =
     let found = c.next_able-vertex.ensures in
     turned_over _ _ _ _ c.args.busy.now c.args.shut.now _ _ ready c.args.candidates c.loop-vertex.shut _ _
     looked c.loop-vertex-test.true _ _ _ _ c.step_on_index-moved.result inv.0 inv.1 c.step_on_index-moved.ensures
-    c.step_refused.ensures (ap not c.if-not-step_refused.false) c.next_able-vertex.new.shut _ _ c.max.ensures found.0 found.1
+    c.is_refused.ensures (ap not c.if-not-is_refused.false) c.next_able-vertex.new.shut _ _ c.max.ensures found.0 found.1
 
 pub returns : goal.returns
 returns c =
