@@ -13,8 +13,8 @@ use engine::load::load_by_value;
 use engine::look::lowest_vertex;
 use engine::steps::step_by_value;
 use graph::Tally;
-use program::reading::read;
 use program::Edition;
+use program::reading::read;
 use refusal::Refusal;
 
 // No line is longer, its end included (proofs/LineLengths.antt).
