@@ -23,7 +23,11 @@ impl Change {
     {
         match self {
             Change::Vertex { row, word, to } => {
-                set(vertices, VERTEX_WORDS * (row as usize) + (word as usize), to);
+                set(
+                    vertices,
+                    VERTEX_WORDS * (row as usize) + (word as usize),
+                    to,
+                );
                 tally
             }
             Change::Edge { row, word, to } => {

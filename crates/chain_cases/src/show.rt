@@ -3,9 +3,8 @@ use cases::{Refused, sum};
 use chains::showing::chain_by_value;
 use graph::Tally;
 use refusal::Refusal;
-use std::fmt;
-use std::io;
 use std::io::Write;
+use std::{fmt, io};
 
 // What was answered.
 #[derive(Clone, Copy)]

@@ -45,8 +45,20 @@ fn of_program(out: &mut impl Write, program: &[u8], edition: Edition) -> io::Res
     write!(out, "{} ", Which(edition))?;
     program_line(out, program)?;
     host(out, program, edition, &mut [9; JOB_WORDS], Ends::All)?;
-    host(out, program, edition, &mut [9; 2 * JOB_WORDS + 1], Ends::All)?;
-    host(out, program, edition, &mut [9; 2 * JOB_WORDS + 1], Ends::Last)?;
+    host(
+        out,
+        program,
+        edition,
+        &mut [9; 2 * JOB_WORDS + 1],
+        Ends::All,
+    )?;
+    host(
+        out,
+        program,
+        edition,
+        &mut [9; 2 * JOB_WORDS + 1],
+        Ends::Last,
+    )?;
     host(out, program, edition, &mut [9; 5 * JOB_WORDS], Ends::All)?;
     host(out, program, edition, &mut [9; 5 * JOB_WORDS], Ends::Last)
 }

@@ -66,6 +66,16 @@ impl<'a> Lent<'a> {
         done.answer
     }
 
+    // What the last call left, to the end of the line.
+    fn left(&self, out: &mut impl Write) -> io::Result<()> {
+        let left = Left {
+            tally: self.tally,
+            vertices: self.vertices,
+            edges: self.edges,
+        };
+        writeln!(out, "{left}")
+    }
+
     pub(crate) fn alter(&mut self, change: Change) {
         self.tally = change.make(self.vertices, self.edges, self.tally);
     }
@@ -79,13 +89,14 @@ impl<'a> Lent<'a> {
         jobs: &mut [u32],
     ) -> io::Result<DispatchAnswer> {
         let answer = self.dispatch(budget, busy, jobs);
-        let left = Left {
-            tally: self.tally,
-            vertices: self.vertices,
-            edges: self.edges,
-        };
-        write!(out, "{} | {} {}", Handed { answer, jobs }, sum(busy), sum(jobs))?;
-        writeln!(out, "{left}")?;
+        write!(
+            out,
+            "{} | {} {}",
+            Handed { answer, jobs },
+            sum(busy),
+            sum(jobs)
+        )?;
+        self.left(out)?;
         Ok(answer)
     }
 }

@@ -12,9 +12,8 @@ use graph::rows::{
     TARGET, VERTEX_WORDS,
 };
 use program::Edition;
-use std::fmt;
-use std::io;
 use std::io::Write;
+use std::{fmt, io};
 
 // What is lent: which vertices are marked, as the sum of 2 to the power of each; the words of marks and of the list; and the budget.
 #[derive(Clone, Copy)]
@@ -82,7 +81,12 @@ fn stuck(out: &mut impl Write) -> io::Result<()> {
     of_async(out, 1, Some(vertex(0, PLACE, 2)), lends(0, 5, 15, ENOUGH))?;
     of_async(out, 1, Some(vertex(0, PLACE, 2)), lends(3, 5, 0, 0))?;
     of_async(out, 1, Some(vertex(0, STATUS, NEW)), lends(0, 5, 15, 0))?;
-    of_async(out, 0, Some(vertex(0, IN_COUNT, 1)), lends(1, 5, 15, ENOUGH))?;
+    of_async(
+        out,
+        0,
+        Some(vertex(0, IN_COUNT, 1)),
+        lends(1, 5, 15, ENOUGH),
+    )?;
     of_async(out, 4, Some(vertex(0, PLACE, 2)), lends(4, 5, 15, ENOUGH))?;
     of_async(out, 4, Some(vertex(0, PLACE, 2)), lends(4, 5, 0, 0))?;
     of_async(out, 4, Some(vertex(0, PLACE, 2)), lends(1, 5, 15, ENOUGH))?;
@@ -109,9 +113,19 @@ fn looks(out: &mut impl Write) -> io::Result<()> {
 // 12 before 44, and both before anything else.
 fn refusals(out: &mut impl Write) -> io::Result<()> {
     of_async(out, 4, Some(vertex(1, STATUS, 0)), lends(0, 5, 15, ENOUGH))?;
-    of_async(out, 4, Some(vertex(1, STATUS, FINISHED + 1)), lends(7, 4, 15, ENOUGH))?;
+    of_async(
+        out,
+        4,
+        Some(vertex(1, STATUS, FINISHED + 1)),
+        lends(7, 4, 15, ENOUGH),
+    )?;
     of_async(out, 4, Some(edge(1, SOURCE, 3)), lends(0, 5, 0, 0))?;
-    of_async(out, 4, Some(edge(0, TARGET, u32::MAX)), lends(0, 0, 15, ENOUGH))?;
+    of_async(
+        out,
+        4,
+        Some(edge(0, TARGET, u32::MAX)),
+        lends(0, 0, 15, ENOUGH),
+    )?;
     of_async(out, 4, Some(tally(3, 2, 8192)), lends(5, 5, 15, ENOUGH))?;
     of_async(out, 4, Some(tally(3, 2, 8192)), lends(5, 4, 15, 0))?;
     of_async(out, 4, Some(tally(6, 2, 4)), lends(0, 7, 15, ENOUGH))?;
@@ -135,16 +149,51 @@ fn marks(out: &mut impl Write) -> io::Result<()> {
     unaltered(out, 0, lends(4, 5, 15, ENOUGH))?;
     unaltered(out, 0, lends(126, 7, 15, ENOUGH))?;
     unaltered(out, 2, lends(120, 7, 15, ENOUGH))?;
-    of_async(out, 4, Some(vertex(0, STATUS, FINISHED)), lends(1, 5, 15, ENOUGH))?;
-    of_async(out, 4, Some(vertex(0, STATUS, RELEASED)), lends(1, 5, 15, ENOUGH))?;
-    of_async(out, 4, Some(vertex(2, STATUS, EXECUTING)), lends(4, 5, 15, ENOUGH))
+    of_async(
+        out,
+        4,
+        Some(vertex(0, STATUS, FINISHED)),
+        lends(1, 5, 15, ENOUGH),
+    )?;
+    of_async(
+        out,
+        4,
+        Some(vertex(0, STATUS, RELEASED)),
+        lends(1, 5, 15, ENOUGH),
+    )?;
+    of_async(
+        out,
+        4,
+        Some(vertex(2, STATUS, EXECUTING)),
+        lends(4, 5, 15, ENOUGH),
+    )
 }
 
 fn below_and_above(out: &mut impl Write) -> io::Result<()> {
-    of_async(out, 4, Some(vertex(1, IN_COUNT, 0)), lends(1, 5, 15, ENOUGH))?;
-    of_async(out, 4, Some(vertex(1, IN_COUNT, 0)), lends(2, 5, 15, ENOUGH))?;
-    of_async(out, 4, Some(vertex(1, IN_COUNT, 0)), lends(4, 5, 15, ENOUGH))?;
-    of_async(out, 4, Some(vertex(1, IN_COUNT, 0)), lends(3, 5, 15, ENOUGH))?;
+    of_async(
+        out,
+        4,
+        Some(vertex(1, IN_COUNT, 0)),
+        lends(1, 5, 15, ENOUGH),
+    )?;
+    of_async(
+        out,
+        4,
+        Some(vertex(1, IN_COUNT, 0)),
+        lends(2, 5, 15, ENOUGH),
+    )?;
+    of_async(
+        out,
+        4,
+        Some(vertex(1, IN_COUNT, 0)),
+        lends(4, 5, 15, ENOUGH),
+    )?;
+    of_async(
+        out,
+        4,
+        Some(vertex(1, IN_COUNT, 0)),
+        lends(3, 5, 15, ENOUGH),
+    )?;
     of_async(out, 4, Some(vertex(1, IN_COUNT, 0)), lends(5, 5, 15, 1))?;
     of_async(out, 4, Some(vertex(1, IN_COUNT, 0)), lends(7, 5, 0, 0))
 }
@@ -177,12 +226,48 @@ fn forks(out: &mut impl Write, edition: Edition) -> io::Result<()> {
     of_fork(out, edition, 10, None, lends(8, 5, 15, ENOUGH))?;
     of_fork(out, edition, 15, None, lends(4, 5, 3, 2))?;
     of_fork(out, edition, 15, None, lends(8, 5, 3, 2))?;
-    of_fork(out, edition, 7, Some(vertex(0, PHASE, 9)), lends(0, 5, 15, ENOUGH))?;
-    of_fork(out, edition, 9, Some(vertex(0, PHASE, 9)), lends(0, 5, 15, ENOUGH))?;
-    of_fork(out, edition, 11, Some(vertex(3, PLACE, 2)), lends(0, 5, 15, ENOUGH))?;
-    of_fork(out, edition, 12, Some(vertex(2, PLACE, 2)), lends(0, 5, 15, ENOUGH))?;
-    of_fork(out, edition, 15, Some(vertex(3, PLACE, 2)), lends(0, 5, 15, ENOUGH))?;
-    of_fork(out, edition, 3, Some(edge(0, TARGET, 2)), lends(0, 5, 15, ENOUGH))?;
+    of_fork(
+        out,
+        edition,
+        7,
+        Some(vertex(0, PHASE, 9)),
+        lends(0, 5, 15, ENOUGH),
+    )?;
+    of_fork(
+        out,
+        edition,
+        9,
+        Some(vertex(0, PHASE, 9)),
+        lends(0, 5, 15, ENOUGH),
+    )?;
+    of_fork(
+        out,
+        edition,
+        11,
+        Some(vertex(3, PLACE, 2)),
+        lends(0, 5, 15, ENOUGH),
+    )?;
+    of_fork(
+        out,
+        edition,
+        12,
+        Some(vertex(2, PLACE, 2)),
+        lends(0, 5, 15, ENOUGH),
+    )?;
+    of_fork(
+        out,
+        edition,
+        15,
+        Some(vertex(3, PLACE, 2)),
+        lends(0, 5, 15, ENOUGH),
+    )?;
+    of_fork(
+        out,
+        edition,
+        3,
+        Some(edge(0, TARGET, 2)),
+        lends(0, 5, 15, ENOUGH),
+    )?;
     of_fork(
         out,
         edition,
@@ -317,7 +402,11 @@ fn mark(busy: &mut [u32], marked: u32) {
 
 // Any number but 0 marks a vertex.
 fn mark_of(rest: u32) -> u32 {
-    if rest % 2 == 1 { u32::MAX - rest / 2 } else { 0 }
+    if rest % 2 == 1 {
+        u32::MAX - rest / 2
+    } else {
+        0
+    }
 }
 
 // Of 1,025 vertex rows 1,024 are used, and need as many words of marks.

@@ -216,13 +216,7 @@ fn further_futures(out: &mut impl Write) -> io::Result<()> {
 }
 
 // A run of so many steps, and then the vertex names another future.
-fn future(
-    out: &mut impl Write,
-    program: &[u8],
-    steps: u32,
-    row: u32,
-    word: u32,
-) -> io::Result<()> {
+fn future(out: &mut impl Write, program: &[u8], steps: u32, row: u32, word: u32) -> io::Result<()> {
     let mut vertices = [0u32; 8 * VERTEX_WORDS];
     let mut edges = [0u32; 8 * EDGE_WORDS];
     write!(out, "after {steps} steps vertex {row} names {word}: ")?;

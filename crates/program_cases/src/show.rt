@@ -3,9 +3,8 @@ use cases::Refused;
 use program::items::item_at;
 use program::reading::{edge_rows, read, steps, vertices};
 use program::{Edition, ItemCounts, ItemRead};
-use std::fmt;
-use std::io;
 use std::io::Write;
+use std::{fmt, io};
 
 // In either edition, the second's on a line of its own.
 pub(crate) fn readings(out: &mut impl Write, program: &[u8]) -> io::Result<()> {
