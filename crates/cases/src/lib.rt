@@ -1,65 +1,80 @@
-// What the programs of cases share: what they write to standard output, a sum over a table that any changed word shows in, and numbers that
-// look drawn. No contract can say what is written.
+// What the programs of cases share: how they show a program's bytes, a refusal and what a call left, a sum over a table that any changed word
+// shows in, and numbers that look drawn.
 #![tactic(auto)]
 
+pub mod changes;
 pub mod draw;
 
-ghost use Rattle.std.specs.Prelude.{◌≡◌};
+ghost use Rattle.std.specs.Prelude.{◌≡◌, ◌++◌, Some, OnOk, codes};
+ghost use Rattle.std.specs.Io.KnownBytes.{Appends};
+ghost use Rattle.cases.specs.Shown.{bytes_text, refused_text, left_text};
 ghost use Rattle.cases.specs.Sums.{table_sum};
 
-// The number of standard output.
-const STDOUT_FILENO: i32 = 1;
+use graph::Tally;
+use refusal::Refusal;
+use std::{fmt, io};
 
-pub fn text(bytes: &[u8]) {
-    io::write_all(STDOUT_FILENO, bytes);
+// Each byte of a program in two hex digits, with a space before it.
+#[derive(Clone, Copy)]
+pub struct Bytes<'a>(pub &'a [u8]);
+
+impl<'a> fmt::Display for Bytes<'a> {
+    ghost output = { λ b. Some (bytes_text b.0.now) };
+
+    fn fmt<W: fmt::Write>(&self, f: &mut fmt::Formatter<W>) -> fmt::Result {
+        for &byte in self.0 {
+            write!(f, " {byte:02x}")?;
+        }
+        Ok(())
+    }
 }
 
-pub fn number(before: &[u8], n: u32) {
-    text(before);
-    io::print_decimal(STDOUT_FILENO, n as u64);
+// A refusal's number and place.
+#[derive(Clone, Copy)]
+pub struct Refused(pub Refusal);
+
+impl fmt::Display for Refused {
+    ghost output = { λ r. Some (refused_text r.0) };
+
+    fn fmt<W: fmt::Write>(&self, f: &mut fmt::Formatter<W>) -> fmt::Result {
+        let Refusal { reason, place } = self.0;
+        let number = reason.number();
+        write!(f, "refused {number} {place}")
+    }
 }
 
-pub fn hex(before: &[u8], byte: u8) {
-    text(before);
-    io::print_hex(STDOUT_FILENO, byte as u64, 2);
+// What a call left: the tally, and a sum over each table.
+#[derive(Clone, Copy)]
+pub struct Left<'a> {
+    pub tally: Tally,
+    pub vertices: &'a [u32],
+    pub edges: &'a [u32],
 }
 
-// Each byte of a program, with a space before it.
-pub fn bytes(program: &[u8]) {
-    for i in 0..program.len() {
-        hex(b" ", program[i]);
+impl<'a> fmt::Display for Left<'a> {
+    ghost output = { λ l. Some (left_text l.tally l.vertices.now l.edges.now) };
+
+    fn fmt<W: fmt::Write>(&self, f: &mut fmt::Formatter<W>) -> fmt::Result {
+        let Tally { made, held, steps } = self.tally;
+        let vertices = sum(self.vertices);
+        let edges = sum(self.edges);
+        write!(f, " | {made} {held} {steps} | {vertices} {edges}")
     }
 }
 
 // The line with a program's bytes.
-pub fn program_line(program: &[u8]) {
-    text(b"program");
-    bytes(program);
-    text(b"\n");
-}
-
-// A refusal's number and place.
-pub fn refused(refusal: u32, place: u32) {
-    number(b"refused ", refusal);
-    number(b" ", place);
+pub fn program_line<W: io::Write>(out: &mut W, program: &[u8]) -> io::Result<()>
+    ensures { OnOk result (Appends (W.contents out.old) (W.contents out.new) (codes "program" ++ bytes_text program.now ++ codes "\n")) }
+{
+    writeln!(out, "program{}", Bytes(program))
 }
 
 pub fn sum(table: &[u32]) -> u32
     ensures { result ≡ table_sum table.now }
 {
     let mut total: u64 = 0;
-    for i in 0..table.len() {
-        total = (total * 31 + (table[i] as u64) + 1) % 1000003;
+    for &word in table {
+        total = (total * 31 + (word as u64) + 1) % 1000003;
     }
     total as u32
-}
-
-// What a call left, to the end of the line: the tally, and a sum over each table.
-pub fn left(made: u32, held: u32, steps: u32, vertices: &[u32], edges: &[u32]) {
-    number(b" | ", made);
-    number(b" ", held);
-    number(b" ", steps);
-    number(b" | ", sum(vertices));
-    number(b" ", sum(edges));
-    text(b"\n");
 }

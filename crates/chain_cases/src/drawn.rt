@@ -3,10 +3,12 @@
 ghost use Rattle.std.specs.Prelude.{◌≡◌, length};
 
 use cases::draw::{Draw, begin};
-use cases::{number, sum, text};
+use cases::sum;
 use chains::showing::chain_by_value;
 use graph::Tally;
 use graph::rows::{EDGE_WORDS, NEW, STATUS, VERTEX_WORDS};
+use std::io;
+use std::io::Write;
 
 // The pairs that are asked for: numbers below this.
 const NUMBERS: usize = 9;
@@ -18,14 +20,15 @@ const ROOM: usize = 10;
 
 const WORDS_BELOW: u32 = 11;
 
-pub(crate) fn all() {
-    text(b"drawn\n");
+pub(crate) fn all(out: &mut impl Write) -> io::Result<()> {
+    writeln!(out, "drawn")?;
     for seed in 0..300 {
-        graph(seed);
+        graph(out, seed)?;
     }
+    Ok(())
 }
 
-fn graph(seed: u32) {
+fn graph(out: &mut impl Write, seed: u32) -> io::Result<()> {
     let mut vertices = [NEW; 8 * VERTEX_WORDS];
     let mut edges = [0u32; 14 * EDGE_WORDS];
     let d = begin(seed).next();
@@ -34,23 +37,19 @@ fn graph(seed: u32) {
     let status = d.next().next().below(40);
     vertices[VERTEX_WORDS + STATUS] = if status < 36 { 1 + status % 4 } else { 5 };
     ends(&mut edges, made, d.next().next().next());
-    pairs(
-        &vertices,
-        &edges,
-        Tally {
-            made,
-            held,
-            steps: 0,
-        },
-        begin(seed),
-    );
+    let tally = Tally {
+        made,
+        held,
+        steps: 0,
+    };
+    pairs(out, &vertices, &edges, tally, begin(seed))
 }
 
 // Mostly made vertices.
 fn ends(edges: &mut [u32], made: u32, d: Draw) {
     let mut now = d;
-    for i in 0..edges.len() {
-        edges[i] = end(now, made);
+    for place in edges {
+        *place = end(now, made);
         now = now.next().next();
     }
 }
@@ -62,15 +61,24 @@ fn end(d: Draw, made: u32) -> u32 {
     d.next().below(made)
 }
 
-fn pairs(vertices: &[u32], edges: &[u32], tally: Tally, d: Draw) {
+fn pairs(
+    out: &mut impl Write,
+    vertices: &[u32],
+    edges: &[u32],
+    tally: Tally,
+    d: Draw,
+) -> io::Result<()> {
     let mut lists = [77u32; ROOM * PAIRS];
     let mut answers = [0u32; PAIRS];
     each(vertices, edges, tally, d, &mut lists, &mut answers);
-    number(b"", tally.made);
-    number(b" ", tally.held);
-    number(b" | ", sum(&answers));
-    number(b" ", sum(&lists));
-    text(b"\n");
+    writeln!(
+        out,
+        "{} {} | {} {}",
+        tally.made,
+        tally.held,
+        sum(&answers),
+        sum(&lists)
+    )
 }
 
 fn each(
@@ -109,8 +117,7 @@ fn asked(
     target: u32,
     list: &mut [u32],
 ) -> u32 {
-    let answer = chain_by_value(vertices, edges, tally, source, target, list);
-    match answer {
+    match chain_by_value(vertices, edges, tally, source, target, list) {
         Ok(vertices) => vertices,
         Err(refusal) => 100 + refusal.reason.number() % 100,
     }

@@ -8,9 +8,12 @@ mod drawn;
 mod long;
 mod show;
 
-use cases::text;
+ghost use Rattle.std.specs.Prelude.{◌≤◌};
+
 use graph::Tally;
 use graph::rows::{NEW, STATUS, VERTEX_WORDS};
+use std::io;
+use std::io::Write;
 
 // Edges by source and target, the last of them from a vertex to itself.
 const EDGES: [u32; 24] = [
@@ -25,66 +28,79 @@ pub(crate) fn tally(made: u32, held: u32) -> Tally {
     }
 }
 
-fn main() {
-    small();
-    refused();
-    long::all();
-    drawn::all();
+// It ends quietly where it cannot write.
+fn main(rt: HostRuntime) {
+    let _ = all(&mut io::writer(&rt));
+}
+
+fn all(out: &mut impl Write) -> io::Result<()> {
+    small(out)?;
+    refused(out)?;
+    long::all(out)?;
+    drawn::all(out)
 }
 
 // What is asked for in a small graph, with a list of eight words or fewer.
-fn asked(made: u32, held: u32, source: u32, target: u32, words: usize) {
+fn asked(
+    out: &mut impl Write,
+    made: u32,
+    held: u32,
+    source: u32,
+    target: u32,
+    words: usize,
+) -> io::Result<()>
+    requires { words ≤ 8 }
+{
     let vertices = [NEW; 9 * VERTEX_WORDS];
     let mut list = [77u32; 8];
-    if words <= 8 {
-        show::call(
-            &vertices,
-            &EDGES,
-            tally(made, held),
-            source,
-            target,
-            &mut list[..words],
-        );
-    }
+    show::call(
+        out,
+        &vertices,
+        &EDGES,
+        tally(made, held),
+        source,
+        target,
+        &mut list[..words],
+    )
 }
 
 // Two chains of equal length that differ late, against a longer one with lower numbers; two that differ at once; a vertex alone, on a loop too;
 // no chain; lists just long enough and one short.
-fn small() {
-    text(b"small\n");
-    asked(9, 12, 5, 0, 8);
-    asked(9, 12, 5, 1, 8);
-    asked(9, 12, 2, 0, 8);
-    asked(9, 12, 6, 0, 8);
-    asked(9, 12, 8, 0, 8);
-    asked(9, 12, 8, 8, 8);
-    asked(9, 12, 3, 3, 8);
-    asked(9, 0, 3, 3, 8);
-    asked(9, 12, 0, 5, 8);
-    asked(9, 12, 5, 0, 4);
-    asked(9, 12, 5, 0, 3);
-    asked(9, 12, 4, 4, 1);
-    asked(9, 12, 4, 4, 0);
+fn small(out: &mut impl Write) -> io::Result<()> {
+    writeln!(out, "small")?;
+    asked(out, 9, 12, 5, 0, 8)?;
+    asked(out, 9, 12, 5, 1, 8)?;
+    asked(out, 9, 12, 2, 0, 8)?;
+    asked(out, 9, 12, 6, 0, 8)?;
+    asked(out, 9, 12, 8, 0, 8)?;
+    asked(out, 9, 12, 8, 8, 8)?;
+    asked(out, 9, 12, 3, 3, 8)?;
+    asked(out, 9, 0, 3, 3, 8)?;
+    asked(out, 9, 12, 0, 5, 8)?;
+    asked(out, 9, 12, 5, 0, 4)?;
+    asked(out, 9, 12, 5, 0, 3)?;
+    asked(out, 9, 12, 4, 4, 1)?;
+    asked(out, 9, 12, 4, 4, 0)
 }
 
 // 12, 20, 41 and 42, each before the later ones.
-fn refused() {
-    text(b"refused\n");
-    asked(10, 12, 10, 10, 0);
-    asked(9, 13, 9, 9, 0);
-    asked(8, 12, 8, 8, 0);
-    asked(9, 12, 9, 0, 0);
-    asked(9, 12, 0, 9, 0);
-    asked(9, 12, 4294967295, 4294967295, 0);
-    asked(9, 12, 0, 5, 0);
-    asked(9, 11, 7, 8, 0);
-    unknown_status();
+fn refused(out: &mut impl Write) -> io::Result<()> {
+    writeln!(out, "refused")?;
+    asked(out, 10, 12, 10, 10, 0)?;
+    asked(out, 9, 13, 9, 9, 0)?;
+    asked(out, 8, 12, 8, 8, 0)?;
+    asked(out, 9, 12, 9, 0, 0)?;
+    asked(out, 9, 12, 0, 9, 0)?;
+    asked(out, 9, 12, 4294967295, 4294967295, 0)?;
+    asked(out, 9, 12, 0, 5, 0)?;
+    asked(out, 9, 11, 7, 8, 0)?;
+    unknown_status(out)
 }
 
-fn unknown_status() {
+fn unknown_status(out: &mut impl Write) -> io::Result<()> {
     let mut vertices = [NEW; 2 * VERTEX_WORDS];
     let mut list = [77u32; 2];
     vertices[VERTEX_WORDS + STATUS] = 5;
-    show::call(&vertices, &EDGES, tally(2, 1), 1, 0, &mut list);
-    show::call(&vertices, &EDGES, tally(1, 0), 0, 0, &mut list);
+    show::call(out, &vertices, &EDGES, tally(2, 1), 1, 0, &mut list)?;
+    show::call(out, &vertices, &EDGES, tally(1, 0), 0, 0, &mut list)
 }

@@ -1,55 +1,65 @@
-// Asks for a chain, and writes what was answered and what the list then holds.
-use cases::{number, refused, sum, text};
+// Asks for a chain, and shows what was answered and what the list then holds.
+use cases::{Refused, sum};
 use chains::showing::chain_by_value;
 use graph::Tally;
 use refusal::Refusal;
+use std::io::Write;
+use std::{fmt, io};
 
-pub(crate) fn answer(said: Result<u32, Refusal>) {
-    match said {
-        Ok(vertices) => number(b"chain ", vertices),
-        Err(refusal) => refused(refusal.reason.number(), refusal.place),
+// What was answered.
+#[derive(Clone, Copy)]
+struct Said(Result<u32, Refusal>);
+
+impl fmt::Display for Said {
+    fn fmt<W: fmt::Write>(&self, f: &mut fmt::Formatter<W>) -> fmt::Result {
+        match self.0 {
+            Ok(vertices) => write!(f, "chain {vertices}"),
+            Err(refusal) => write!(f, "{}", Refused(refusal)),
+        }
     }
 }
 
-fn words(list: &[u32]) {
-    for i in 0..list.len() {
-        number(b" ", list[i]);
-    }
-}
-
-fn asked(source: u32, target: u32) {
-    number(b"from ", target);
-    number(b" to ", source);
-    text(b": ");
+// What is asked, and what is answered.
+fn asked(
+    out: &mut impl Write,
+    vertices: &[u32],
+    edges: &[u32],
+    tally: Tally,
+    source: u32,
+    target: u32,
+    list: &mut [u32],
+) -> io::Result<()> {
+    let answer = chain_by_value(vertices, edges, tally, source, target, list);
+    write!(out, "from {target} to {source}: {} |", Said(answer))
 }
 
 // With every word of the list.
 pub(crate) fn call(
+    out: &mut impl Write,
     vertices: &[u32],
     edges: &[u32],
     tally: Tally,
     source: u32,
     target: u32,
     list: &mut [u32],
-) {
-    asked(source, target);
-    answer(chain_by_value(vertices, edges, tally, source, target, list));
-    text(b" |");
-    words(list);
-    text(b"\n");
+) -> io::Result<()> {
+    asked(out, vertices, edges, tally, source, target, list)?;
+    for word in list {
+        write!(out, " {word}")?;
+    }
+    writeln!(out, "")
 }
 
 // With a sum over the list.
 pub(crate) fn sum_of_call(
+    out: &mut impl Write,
     vertices: &[u32],
     edges: &[u32],
     tally: Tally,
     source: u32,
     target: u32,
     list: &mut [u32],
-) {
-    asked(source, target);
-    answer(chain_by_value(vertices, edges, tally, source, target, list));
-    number(b" | ", sum(list));
-    text(b"\n");
+) -> io::Result<()> {
+    asked(out, vertices, edges, tally, source, target, list)?;
+    writeln!(out, " {}", sum(list))
 }

@@ -1,57 +1,53 @@
-// Writes what a dispatch answered and left.
-use cases::{number, refused, sum, text};
-use graph::Tally;
+// How answers are shown.
+use cases::Refused;
 use program::Edition;
+use std::fmt;
 use walks::{DispatchAnswer, DispatchEnding};
 
 // The list has three words for each job: its vertex, its number and its offset.
 pub(crate) const JOB_WORDS: usize = 3;
 
-pub(crate) fn edition(e: Edition) {
-    match e {
-        Edition::First => text(b"edition 1"),
-        Edition::Second => text(b"edition 2"),
-    }
-}
+#[derive(Clone, Copy)]
+pub(crate) struct Which(pub Edition);
 
-pub(crate) fn answer(a: DispatchAnswer, jobs: &[u32]) {
-    let how = a.ending;
-    ending(how);
-    number(b", taken ", a.taken);
-    number(b", handed ", a.handed);
-    rows(jobs, a.handed);
-}
-
-fn ending(e: DispatchEnding) {
-    match e {
-        DispatchEnding::Done => text(b"done"),
-        DispatchEnding::Stuck => text(b"stuck"),
-        DispatchEnding::Waiting => text(b"waiting"),
-        DispatchEnding::Full => text(b"full"),
-        DispatchEnding::Spent => text(b"spent"),
-        DispatchEnding::Refused(r) => refused(r.number, r.place),
-    }
-}
-
-fn rows(jobs: &[u32], handed: u32) {
-    for k in 0..handed {
-        row(jobs, JOB_WORDS * (k as usize));
-    }
-}
-
-fn row(jobs: &[u32], at: usize) {
-    if at < jobs.len() {
-        if 2 < jobs.len() - at {
-            number(b", ", jobs[at]);
-            number(b" ", jobs[at + 1]);
-            number(b" ", jobs[at + 2]);
+impl fmt::Display for Which {
+    fn fmt<W: fmt::Write>(&self, f: &mut fmt::Formatter<W>) -> fmt::Result {
+        match self.0 {
+            Edition::First => write!(f, "edition 1"),
+            Edition::Second => write!(f, "edition 2"),
         }
     }
 }
 
-// Sums of the marks and the list, and what `cases::left` writes.
-pub(crate) fn left(t: Tally, vertices: &[u32], edges: &[u32], busy: &[u32], jobs: &[u32]) {
-    number(b" | ", sum(busy));
-    number(b" ", sum(jobs));
-    cases::left(t.made, t.held, t.steps, vertices, edges);
+// What a dispatch answered, and the jobs that it handed out in this list.
+#[derive(Clone, Copy)]
+pub(crate) struct Handed<'a> {
+    pub answer: DispatchAnswer,
+    pub jobs: &'a [u32],
+}
+
+impl<'a> fmt::Display for Handed<'a> {
+    fn fmt<W: fmt::Write>(&self, f: &mut fmt::Formatter<W>) -> fmt::Result {
+        let DispatchAnswer {
+            ending,
+            taken,
+            handed,
+        } = self.answer;
+        match ending {
+            DispatchEnding::Done => write!(f, "done")?,
+            DispatchEnding::Stuck => write!(f, "stuck")?,
+            DispatchEnding::Waiting => write!(f, "waiting")?,
+            DispatchEnding::Full => write!(f, "full")?,
+            DispatchEnding::Spent => write!(f, "spent")?,
+            DispatchEnding::Refused(refusal) => write!(f, "{}", Refused(refusal))?,
+        }
+        write!(f, ", taken {taken}, handed {handed}")?;
+        for job in self.jobs.chunks_exact(JOB_WORDS).take(handed as usize) {
+            write!(f, ",")?;
+            for word in job {
+                write!(f, " {word}")?;
+            }
+        }
+        Ok(())
+    }
 }

@@ -1,223 +1,160 @@
 // The number of edges into each vertex: whether it is true; and moments of a program at which the host has altered such a number, or another
 // word. Then a step of a released vertex looks at the tally and its own row, and any other step, a run and a look at everything.
-ghost use Rattle.std.specs.Prelude.{◌≤◌};
+ghost use Rattle.std.specs.Prelude.{◌<◌};
 
-use crate::examples::{ASYNC, FORK, loaded};
-use crate::turns::calls;
-use cases::{number, text};
+use crate::examples::{ASYNC, FORK, edge, loaded, vertex};
+use crate::lent::{Lent, NOTHING};
+use cases::changes::Change;
 use graph::Tally;
 use graph::rows::{
     EDGE_WORDS, EXECUTING, FINISHED, IN_COUNT, MADE, NEW, PHASE, RELEASED, SCOPE, SOURCE, STATUS,
     TARGET, VERTEX_WORDS,
 };
 use program::Edition;
-
-// What is altered: a word of a vertex row or of an edge row, told by row and word, or the tally.
-const VERTEX: u32 = 0;
-
-const EDGE: u32 = 1;
-
-const TALLY: u32 = 2;
-
-const LARGEST: u32 = 4294967295;
+use std::io;
+use std::io::Write;
 
 // At the async's fourth step vertex 0 executes, 1 waits for it and for 2, and 2 is released with no edge into it. The fork yields at its
 // eighth step.
-pub(crate) fn all() {
-    statuses();
-    ends();
-    tallies();
-    numbers();
-    phases();
-    scopes();
-    firsts();
+pub(crate) fn all(out: &mut impl Write) -> io::Result<()> {
+    statuses(out)?;
+    ends(out)?;
+    tallies(out)?;
+    numbers(out)?;
+    phases(out)?;
+    scopes(out)?;
+    firsts(out)
 }
 
-fn statuses() {
-    of_async(4, VERTEX, 1, STATUS as u32, 0);
-    of_async(4, VERTEX, 1, STATUS as u32, FINISHED + 1);
-    of_async(4, VERTEX, 0, STATUS as u32, LARGEST);
-    of_async(4, VERTEX, 2, STATUS as u32, FINISHED + 1);
-    of_async(2, VERTEX, 1, STATUS as u32, EXECUTING);
-    of_fork(3, VERTEX, 2, STATUS as u32, FINISHED);
-    of_fork(7, VERTEX, 0, STATUS as u32, RELEASED);
-    of_fork(8, VERTEX, 0, STATUS as u32, EXECUTING);
-    of_fork(8, VERTEX, 0, STATUS as u32, NEW);
+fn statuses(out: &mut impl Write) -> io::Result<()> {
+    of_async(out, 4, vertex(1, STATUS, 0))?;
+    of_async(out, 4, vertex(1, STATUS, FINISHED + 1))?;
+    of_async(out, 4, vertex(0, STATUS, u32::MAX))?;
+    of_async(out, 4, vertex(2, STATUS, FINISHED + 1))?;
+    of_async(out, 2, vertex(1, STATUS, EXECUTING))?;
+    of_fork(out, 3, vertex(2, STATUS, FINISHED))?;
+    of_fork(out, 7, vertex(0, STATUS, RELEASED))?;
+    of_fork(out, 8, vertex(0, STATUS, EXECUTING))?;
+    of_fork(out, 8, vertex(0, STATUS, NEW))
 }
 
-fn ends() {
-    of_async(4, EDGE, 1, SOURCE as u32, 3);
-    of_async(4, EDGE, 0, TARGET as u32, 3);
-    of_async(4, EDGE, 0, TARGET as u32, LARGEST);
-    of_fork(3, EDGE, 0, TARGET as u32, 0);
-    of_fork(4, EDGE, 1, SOURCE as u32, 3);
-    of_fork(4, EDGE, 0, TARGET as u32, 3);
+fn ends(out: &mut impl Write) -> io::Result<()> {
+    of_async(out, 4, edge(1, SOURCE, 3))?;
+    of_async(out, 4, edge(0, TARGET, 3))?;
+    of_async(out, 4, edge(0, TARGET, u32::MAX))?;
+    of_fork(out, 3, edge(0, TARGET, 0))?;
+    of_fork(out, 4, edge(1, SOURCE, 3))?;
+    of_fork(out, 4, edge(0, TARGET, 3))
 }
 
 // Steps, and then vertices and edges, that are one too many or just as many as there may be; and too few vertices for the edges.
-fn tallies() {
-    of_async(4, TALLY, 3, 2, 8192);
-    of_async(4, TALLY, 3, 2, 8191);
-    of_async(4, TALLY, 6, 2, 4);
-    of_async(4, TALLY, 3, 4, 4);
-    of_async(4, TALLY, 2, 2, 4);
-    of_fork(7, TALLY, 4, 3, 8191);
+fn tallies(out: &mut impl Write) -> io::Result<()> {
+    of_async(out, 4, tally(3, 2, 8192))?;
+    of_async(out, 4, tally(3, 2, 8191))?;
+    of_async(out, 4, tally(6, 2, 4))?;
+    of_async(out, 4, tally(3, 4, 4))?;
+    of_async(out, 4, tally(2, 2, 4))?;
+    of_fork(out, 7, tally(4, 3, 8191))
 }
 
 // The async's second step is before the edge from 2 to 1, the sixth is the stop of 0. The fork's fourth and fifth lead edges into the vertex that
 // does them.
-fn numbers() {
-    of_async(4, VERTEX, 2, IN_COUNT as u32, 5);
-    of_async(4, VERTEX, 1, IN_COUNT as u32, 0);
-    of_async(2, VERTEX, 1, IN_COUNT as u32, LARGEST);
-    of_async(2, VERTEX, 1, IN_COUNT as u32, LARGEST - 1);
-    of_async(6, VERTEX, 2, IN_COUNT as u32, 5);
-    of_async(6, VERTEX, 1, IN_COUNT as u32, 0);
-    of_async(6, VERTEX, 1, IN_COUNT as u32, LARGEST);
-    of_fork(3, VERTEX, 0, IN_COUNT as u32, LARGEST);
-    of_fork(3, VERTEX, 0, IN_COUNT as u32, LARGEST - 1);
-    of_fork(5, VERTEX, 0, IN_COUNT as u32, 0);
-    of_fork(8, VERTEX, 0, IN_COUNT as u32, 0);
-    of_fork(8, VERTEX, 0, IN_COUNT as u32, 1);
-    of_fork(8, VERTEX, 0, IN_COUNT as u32, 5);
+fn numbers(out: &mut impl Write) -> io::Result<()> {
+    of_async(out, 4, vertex(2, IN_COUNT, 5))?;
+    of_async(out, 4, vertex(1, IN_COUNT, 0))?;
+    of_async(out, 2, vertex(1, IN_COUNT, u32::MAX))?;
+    of_async(out, 2, vertex(1, IN_COUNT, u32::MAX - 1))?;
+    of_async(out, 6, vertex(2, IN_COUNT, 5))?;
+    of_async(out, 6, vertex(1, IN_COUNT, 0))?;
+    of_async(out, 6, vertex(1, IN_COUNT, u32::MAX))?;
+    of_fork(out, 3, vertex(0, IN_COUNT, u32::MAX))?;
+    of_fork(out, 3, vertex(0, IN_COUNT, u32::MAX - 1))?;
+    of_fork(out, 5, vertex(0, IN_COUNT, 0))?;
+    of_fork(out, 8, vertex(0, IN_COUNT, 0))?;
+    of_fork(out, 8, vertex(0, IN_COUNT, 1))?;
+    of_fork(out, 8, vertex(0, IN_COUNT, 5))
 }
 
 // The first edition's fork has nine commands, the second's seven, of which the last yields.
-fn phases() {
-    moment(&FORK, Edition::First, 9, VERTEX, 0, PHASE as u32, 9);
-    of_fork(1, VERTEX, 0, PHASE as u32, 6);
-    of_fork(3, VERTEX, 0, PHASE as u32, 6);
-    of_fork(7, VERTEX, 0, PHASE as u32, 5);
-    of_fork(7, VERTEX, 0, PHASE as u32, 7);
-    of_fork(7, VERTEX, 0, PHASE as u32, 8);
-    of_fork(7, VERTEX, 0, PHASE as u32, LARGEST);
+fn phases(out: &mut impl Write) -> io::Result<()> {
+    moment(out, &FORK, Edition::First, 9, vertex(0, PHASE, 9))?;
+    of_fork(out, 1, vertex(0, PHASE, 6))?;
+    of_fork(out, 3, vertex(0, PHASE, 6))?;
+    of_fork(out, 7, vertex(0, PHASE, 5))?;
+    of_fork(out, 7, vertex(0, PHASE, 7))?;
+    of_fork(out, 7, vertex(0, PHASE, 8))?;
+    of_fork(out, 7, vertex(0, PHASE, u32::MAX))
 }
 
 // An async's edge onto the vertex that does it, and one from a vertex to itself.
-fn scopes() {
-    of_async(2, VERTEX, 0, SCOPE as u32, 0);
-    moment(&ASYNC, Edition::Second, 2, VERTEX, 0, SCOPE as u32, 0);
-    of_async(2, VERTEX, 0, SCOPE as u32, 2);
+fn scopes(out: &mut impl Write) -> io::Result<()> {
+    of_async(out, 2, vertex(0, SCOPE, 0))?;
+    moment(out, &ASYNC, Edition::Second, 2, vertex(0, SCOPE, 0))?;
+    of_async(out, 2, vertex(0, SCOPE, 2))
 }
 
 // A fork's edge onto the vertex that does it, from that vertex itself, from one that it leads to, from the second branch, and from none.
-fn firsts() {
-    of_fork(3, VERTEX, 0, MADE as u32, 0);
-    of_fork(3, VERTEX, 0, MADE as u32, 1);
-    of_fork(3, VERTEX, 0, MADE as u32, 3);
-    of_fork(3, VERTEX, 0, MADE as u32, 4);
+fn firsts(out: &mut impl Write) -> io::Result<()> {
+    of_fork(out, 3, vertex(0, MADE, 0))?;
+    of_fork(out, 3, vertex(0, MADE, 1))?;
+    of_fork(out, 3, vertex(0, MADE, 3))?;
+    of_fork(out, 3, vertex(0, MADE, 4))
 }
 
 // A moment of the async in the first edition.
-fn of_async(steps: u32, what: u32, a: u32, b: u32, c: u32) {
-    moment(&ASYNC, Edition::First, steps, what, a, b, c);
+fn of_async(out: &mut impl Write, steps: u32, change: Change) -> io::Result<()> {
+    moment(out, &ASYNC, Edition::First, steps, change)
 }
 
 // A moment of the fork in the second edition.
-fn of_fork(steps: u32, what: u32, a: u32, b: u32, c: u32) {
-    moment(&FORK, Edition::Second, steps, what, a, b, c);
+fn of_fork(out: &mut impl Write, steps: u32, change: Change) -> io::Result<()> {
+    moment(out, &FORK, Edition::Second, steps, change)
+}
+
+fn tally(made: u32, held: u32, steps: u32) -> Change {
+    Change::Tally(Tally { made, held, steps })
 }
 
 // So many steps of a program, and then this is altered.
-fn moment(program: &[u8], edition: Edition, steps: u32, what: u32, a: u32, b: u32, c: u32) {
+fn moment(
+    out: &mut impl Write,
+    program: &[u8],
+    edition: Edition,
+    steps: u32,
+    change: Change,
+) -> io::Result<()> {
     let mut vertices = [0u32; 5 * VERTEX_WORDS];
     let mut edges = [0u32; 3 * EDGE_WORDS];
-    number(b"after ", steps);
-    named(what);
-    number(b" ", a);
-    number(b" ", b);
-    number(b" ", c);
-    text(b": ");
-    let before = loaded(program, &mut vertices, &mut edges, edition, steps);
-    let tally = altered(&mut vertices, &mut edges, before, what, a, b, c);
-    calls(
+    write!(out, "after {steps} steps {change}: ")?;
+    let mut lent = Lent {
         program,
-        &mut vertices,
-        &mut edges,
-        tally,
         edition,
-        &[2, 1, 0, 3],
-    );
+        vertices: &mut vertices,
+        edges: &mut edges,
+        tally: NOTHING,
+    };
+    loaded(out, &mut lent, steps)?;
+    lent.alter(change);
+    lent.write_calls(out, &[2, 1, 0, 3])
 }
 
-fn named(what: u32) {
-    if what == VERTEX {
-        text(b" steps vertex");
-    } else if what == EDGE {
-        text(b" steps edge");
-    } else {
-        text(b" steps tally");
-    }
-}
-
-fn altered(
-    vertices: &mut [u32],
-    edges: &mut [u32],
-    tally: Tally,
-    what: u32,
-    a: u32,
-    b: u32,
-    c: u32,
-) -> Tally {
-    if what == TALLY {
-        return Tally {
-            made: a,
-            held: b,
-            steps: c,
-        };
-    }
-    if what == VERTEX {
-        write(vertices, VERTEX_WORDS * (a as usize) + (b as usize), c);
-    } else {
-        write(edges, EDGE_WORDS * (a as usize) + (b as usize), c);
-    }
-    tally
-}
-
-fn write(table: &mut [u32], at: usize, word: u32) {
-    if at < table.len() {
-        table[at] = word;
-    }
-}
-
-// 1 where the word of each made vertex is the number of held edges into it, in tables of at most 300 rows.
-pub(crate) fn are_true(vertices: &[u32], edges: &[u32], tally: Tally) -> u32
-    ensures { result ≤ 1 }
-{
+// Whether the word of each made vertex is the number of held edges into it, in tables of at most 300 rows.
+pub(crate) fn are_true(lent: &Lent<'_>) -> bool {
     let mut into = [0u32; 300];
-    count(edges, tally.held, &mut into);
-    compare(vertices, tally.made, &into)
+    count(lent.edges, lent.tally.held, &mut into);
+    lent.vertices
+        .chunks_exact(VERTEX_WORDS)
+        .zip(&into)
+        .take(lent.tally.made as usize)
+        .all(|(row, count)| row.get(IN_COUNT) == Some(count))
 }
 
 fn count(edges: &[u32], held: u32, into: &mut [u32]) {
-    for i in 0..held {
-        one_more(
-            into,
-            word(edges, EDGE_WORDS * (i as usize) + TARGET) as usize,
-        );
-    }
-}
-
-fn one_more(into: &mut [u32], vertex: usize) {
-    if vertex < into.len() {
-        into[vertex] = into[vertex] % 1024 + 1;
-    }
-}
-
-fn compare(vertices: &[u32], made: u32, into: &[u32]) -> u32
-    ensures { result ≤ 1 }
-{
-    for k in 0..made {
-        if word(vertices, VERTEX_WORDS * (k as usize) + IN_COUNT) != word(into, k as usize) {
-            return 0;
+    for edge in edges.chunks_exact(EDGE_WORDS).take(held as usize) {
+        if let Some(&target) = edge.get(TARGET) {
+            if let Some(count) = into.get_mut(target as usize) {
+                *count = count.saturating_add(1);
+            }
         }
     }
-    1
-}
-
-fn word(table: &[u32], at: usize) -> u32 {
-    if at < table.len() {
-        return table[at];
-    }
-    LARGEST
 }

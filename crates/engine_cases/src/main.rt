@@ -13,15 +13,24 @@
 mod counts;
 mod editions;
 mod examples;
+mod lent;
 mod programs;
 mod show;
 mod soak;
 mod turns;
 
-fn main() {
-    programs::all();
-    examples::all();
-    editions::all();
-    counts::all();
-    soak::all();
+use std::io;
+use std::io::Write;
+
+// It ends quietly where it cannot write.
+fn main(rt: HostRuntime) {
+    let _ = all(&mut io::writer(&rt));
+}
+
+fn all(out: &mut impl Write) -> io::Result<()> {
+    programs::all(out)?;
+    examples::all(out)?;
+    editions::all(out)?;
+    counts::all(out)?;
+    soak::all(out)
 }

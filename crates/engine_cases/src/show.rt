@@ -1,74 +1,63 @@
-// Writes what a call answered and left.
-use cases::{number, refused, text};
-use engine::{Answer, Loading};
-use graph::Tally;
+// How answers are shown.
+use cases::Refused;
+use engine::Answer;
 use program::Edition;
-use refusal::Refusal;
+use std::fmt;
 use walks::{Ending, LastStep, RunAnswer};
 
-pub(crate) fn edition(e: Edition) {
-    match e {
-        Edition::First => text(b"edition 1 "),
-        Edition::Second => text(b"edition 2 "),
-    }
-}
+#[derive(Clone, Copy)]
+pub(crate) struct Which(pub Edition);
 
-pub(crate) fn loading(a: Loading) {
-    match a {
-        Loading::Loaded => text(b"loaded"),
-        Loading::Refused(r) => refusal(r),
-    }
-}
-
-pub(crate) fn answer(a: Answer) {
-    match a {
-        Answer::Start => text(b"start"),
-        Answer::New(v) => number(b"new ", v),
-        Answer::Edge(a, b) => {
-            number(b"edge ", a);
-            number(b" ", b);
+impl fmt::Display for Which {
+    fn fmt<W: fmt::Write>(&self, f: &mut fmt::Formatter<W>) -> fmt::Result {
+        match self.0 {
+            Edition::First => write!(f, "edition 1"),
+            Edition::Second => write!(f, "edition 2"),
         }
-        Answer::Release(v) => number(b"release ", v),
-        Answer::Transfer(v) => number(b"transfer ", v),
-        Answer::Job { number: n, offset } => {
-            number(b"job ", n);
-            number(b" ", offset);
+    }
+}
+
+// What a step answered.
+#[derive(Clone, Copy)]
+pub(crate) struct Said(pub Answer);
+
+impl fmt::Display for Said {
+    fn fmt<W: fmt::Write>(&self, f: &mut fmt::Formatter<W>) -> fmt::Result {
+        match self.0 {
+            Answer::Start => write!(f, "start"),
+            Answer::New(v) => write!(f, "new {v}"),
+            Answer::Edge(a, b) => write!(f, "edge {a} {b}"),
+            Answer::Release(v) => write!(f, "release {v}"),
+            Answer::Transfer(v) => write!(f, "transfer {v}"),
+            Answer::Job { number, offset } => write!(f, "job {number} {offset}"),
+            Answer::Stop => write!(f, "stop"),
+            Answer::Yield => write!(f, "yield"),
+            Answer::Refused(refusal) => write!(f, "{}", Refused(refusal)),
         }
-        Answer::Stop => text(b"stop"),
-        Answer::Yield => text(b"yield"),
-        Answer::Refused(r) => refusal(r),
     }
 }
 
-pub(crate) fn refusal(r: Refusal) {
-    refused(r.number, r.place);
-}
+// What a run answered.
+#[derive(Clone, Copy)]
+pub(crate) struct Ran(pub RunAnswer);
 
-pub(crate) fn run(a: RunAnswer) {
-    let how = a.ending;
-    let step = a.last;
-    ending(how);
-    last(step);
-    number(b", taken ", a.taken);
-}
-
-fn ending(e: Ending) {
-    match e {
-        Ending::Done => text(b"done"),
-        Ending::Stuck => text(b"stuck"),
-        Ending::Spent => text(b"spent"),
-        Ending::Refused(r) => refusal(r),
+impl fmt::Display for Ran {
+    fn fmt<W: fmt::Write>(&self, f: &mut fmt::Formatter<W>) -> fmt::Result {
+        let RunAnswer {
+            ending,
+            last,
+            taken,
+        } = self.0;
+        match ending {
+            Ending::Done => write!(f, "done")?,
+            Ending::Stuck => write!(f, "stuck")?,
+            Ending::Spent => write!(f, "spent")?,
+            Ending::Refused(refusal) => write!(f, "{}", Refused(refusal))?,
+        }
+        match last {
+            LastStep::NoStep => write!(f, ", last none")?,
+            LastStep::Step(answer) => write!(f, ", last {}", Said(answer))?,
+        }
+        write!(f, ", taken {taken}")
     }
-}
-
-fn last(step: LastStep) {
-    text(b", last ");
-    match step {
-        LastStep::NoStep => text(b"none"),
-        LastStep::Step(a) => answer(a),
-    }
-}
-
-pub(crate) fn left(t: Tally, vertices: &[u32], edges: &[u32]) {
-    cases::left(t.made, t.held, t.steps, vertices, edges);
 }

@@ -5,52 +5,67 @@ ghost use Rattle.std.specs.Prelude.{◌+◌, ◌-◌, ◌*◌, ◌<◌, ◌≤�
 
 use crate::counts::are_true;
 use crate::editions::other;
-use crate::turns::ran;
-use crate::{editions, show};
-use cases::{number, program_line, text};
-use engine::load::load_by_value;
-use engine::look::lowest_vertex;
-use engine::steps::step_by_value;
-use engine::{Answer, Lowest};
-use graph::Tally;
+use crate::lent::{Lent, NOTHING};
+use crate::show::Which;
+use cases::program_line;
+use engine::Answer;
 use graph::rows::{EDGE_WORDS, VERTEX_WORDS};
+use program::Edition;
 use program::format::{ASYNC, END, FINISH, FORCE, FORK, FUTURE, JOB};
 use program::reading::{read, steps};
-use program::{Edition, ProgramRead};
+use std::io;
+use std::io::Write;
 
-pub(crate) fn all() {
+pub(crate) fn all(out: &mut impl Write) -> io::Result<()> {
     for seed in 0..30u64 {
-        one(seed * 7919 + 11);
+        one(out, seed * 7919 + 11)?;
     }
+    Ok(())
 }
 
-fn one(seed: u64) {
+fn one(out: &mut impl Write, seed: u64) -> io::Result<()> {
     let mut program = [0u8; 160];
     let n = draw(&mut program, seed);
-    in_each_order(&program[..n], seed);
+    in_each_order(out, &program[..n], seed)
 }
 
-// Four orders until all steps are taken, one with the other edition among its steps, and runs.
-const MIXED: u32 = 4;
-
-const RUNS: u32 = 5;
-
-fn in_each_order(program: &[u8], seed: u64) {
-    let edition = editions::numbered(random(seed) / 1048576);
-    show::edition(edition);
-    program_line(program);
-    let needed = steps_needed(program, edition);
-    for order in 0..RUNS + 1 {
-        in_order(program, edition, seed, order, needed);
-    }
+// Steps of the lowest vertex that can step; of all that are made and the two next numbers each in turn, from below or from above, or any;
+// the same where the other edition's steps are among them; and runs.
+#[derive(Clone, Copy, PartialEq, Eq)]
+enum Order {
+    Lowest,
+    FromBelow,
+    FromAbove,
+    Any,
+    Mixed,
+    Runs,
 }
 
-fn steps_needed(program: &[u8], edition: Edition) -> u64 {
-    let reading = read(program, edition);
-    match reading {
-        ProgramRead::Refused(refusal) => 0,
-        ProgramRead::Program(items) => steps(items, edition),
+const ORDERS: [Order; 6] = [
+    Order::Lowest,
+    Order::FromBelow,
+    Order::FromAbove,
+    Order::Any,
+    Order::Mixed,
+    Order::Runs,
+];
+
+fn in_each_order(out: &mut impl Write, program: &[u8], seed: u64) -> io::Result<()> {
+    let edition = if random(seed) / 1048576 % 2 == 1 {
+        Edition::First
+    } else {
+        Edition::Second
+    };
+    write!(out, "{} ", Which(edition))?;
+    program_line(out, program)?;
+    let needed = match read(program, edition) {
+        Ok(items) => steps(items, edition),
+        Err(_) => 0,
+    };
+    for order in ORDERS {
+        in_order(out, program, edition, seed, order, needed)?;
     }
+    Ok(())
 }
 
 fn random(drawn: u64) -> u64 {
@@ -93,10 +108,7 @@ fn draw(program: &mut [u8], seed: u64) -> usize
 
 // How many futures are open in the last body.
 fn in_last(futures: &[u32; 16], open: usize) -> u32 {
-    if open == 0 {
-        return 0;
-    }
-    if 16 < open {
+    if open == 0 || 16 < open {
         return 0;
     }
     futures[open - 1]
@@ -104,10 +116,7 @@ fn in_last(futures: &[u32; 16], open: usize) -> u32 {
 
 // In the bodies of an item, of which a fork has two, those futures are open that are open at it; behind a future it is open, too.
 fn opened(futures: &mut [u32; 16], open: usize, kind: u8, here: u32) {
-    if open == 0 {
-        return;
-    }
-    if 14 < open {
+    if open == 0 || 14 < open {
         return;
     }
     if kind == FUTURE {
@@ -124,17 +133,17 @@ fn kind(drawn: u64, open: usize, room: usize, futures: u32) -> u8
     if room < 6 {
         return END;
     }
-    let n = drawn % 20;
-    if n < 6 {
-        return closing(open, room);
+    match drawn % 20 {
+        0..=5 => closing(open, room),
+        6..=9 => JOB,
+        10..=16 if 12 < open => JOB,
+        10 | 11 => ASYNC,
+        12 => FINISH,
+        13 | 14 => FORK,
+        15 | 16 => FUTURE,
+        _ if futures == 0 => JOB,
+        _ => FORCE,
     }
-    if n < 10 {
-        return JOB;
-    }
-    if n < 17 {
-        return if 12 < open { JOB } else { with_bodies(n) };
-    }
-    if futures == 0 { JOB } else { FORCE }
 }
 
 // How many bodies an item of this kind has that has one.
@@ -146,20 +155,7 @@ fn bodies(kind: u8) -> usize
 
 // The main body goes on while there is much room.
 fn closing(open: usize, room: usize) -> u8 {
-    if 1 < open {
-        return END;
-    }
-    if room < 40 { END } else { FINISH }
-}
-
-fn with_bodies(drawn: u64) -> u8 {
-    if drawn < 12 {
-        return ASYNC;
-    }
-    if drawn == 12 {
-        return FINISH;
-    }
-    if drawn < 15 { FORK } else { FUTURE }
+    if 1 < open || room < 40 { END } else { FINISH }
 }
 
 // A number below `count`, or 0.
@@ -172,25 +168,18 @@ fn one_of(drawn: u64, count: u32) -> u32 {
 
 // A number of at most so many bytes as are drawn, one to five; once in eight times it is the greatest of them.
 fn drawn_number(drawn: u64) -> u32 {
-    let bytes = drawn / 65536 % 5 + 1;
     let number = if drawn / 524288 % 8 == 0 {
         4294967295
     } else {
         drawn % 2147483648 * 48271
     };
-    if bytes == 1 {
-        return (number % 128) as u32;
+    match drawn / 65536 % 5 {
+        0 => (number % 128) as u32,
+        1 => (number % 16384) as u32,
+        2 => (number % 2097152) as u32,
+        3 => (number % 268435456) as u32,
+        _ => (number % 4294967296) as u32,
     }
-    if bytes == 2 {
-        return (number % 16384) as u32;
-    }
-    if bytes == 3 {
-        return (number % 2097152) as u32;
-    }
-    if bytes == 4 {
-        return (number % 268435456) as u32;
-    }
-    (number % 4294967296) as u32
 }
 
 // An item with this number, and where it ends.
@@ -220,128 +209,95 @@ fn groups(program: &mut [u8], at: usize, number: u32) -> usize
     at + 5
 }
 
-fn in_order(program: &[u8], edition: Edition, seed: u64, order: u32, needed: u64) {
+fn in_order(
+    out: &mut impl Write,
+    program: &[u8],
+    edition: Edition,
+    seed: u64,
+    order: Order,
+    needed: u64,
+) -> io::Result<()> {
     let mut vertices = [0u32; 300 * VERTEX_WORDS];
     let mut edges = [0u32; 300 * EDGE_WORDS];
-    let none = Tally {
-        made: 0,
-        held: 0,
-        steps: 0,
+    let mut lent = Lent {
+        program,
+        edition,
+        vertices: &mut vertices,
+        edges: &mut edges,
+        tally: NOTHING,
     };
-    let loaded = load_by_value(program, &mut vertices, &mut edges, none, edition);
-    let begun = loaded.tally;
-    number(b"order ", order);
-    if order == RUNS {
-        runs(program, &mut vertices, &mut edges, begun, edition, needed);
+    let _ = lent.load();
+    write!(out, "order {}", order as u32)?;
+    if order == Order::Runs {
+        runs(out, &mut lent, needed)
     } else {
-        turns(
-            program,
-            &mut vertices,
-            &mut edges,
-            begun,
-            edition,
-            order,
-            seed,
-            needed,
-        );
+        turns(out, &mut lent, order, seed, needed)
     }
 }
 
-// Steps of vertices named in an order, until it is over.
+// Steps of vertices named in an order, until it is over. A refused step is not counted: what it spoiled would show after the next one.
 fn turns(
-    program: &[u8],
-    vertices: &mut [u32],
-    edges: &mut [u32],
-    begun: Tally,
-    edition: Edition,
-    order: u32,
+    out: &mut impl Write,
+    lent: &mut Lent<'_>,
+    order: Order,
     seed: u64,
     needed: u64,
-) {
-    let mut now = begun;
+) -> io::Result<()> {
     let mut drawn = seed;
     let mut refused: u32 = 0;
     let mut counted: u32 = 0;
-    text(b" jobs");
+    write!(out, " jobs")?;
     for turn in 0..30000u32 {
-        if is_over(order, turn, now.steps as u64, needed) {
+        if is_over(order, turn, lent.tally.steps as u64, needed) {
             break;
         }
         drawn = random(drawn);
-        let vertex = named(
-            program,
-            vertices,
-            edges,
-            now,
-            edition,
-            order,
-            turn,
-            drawn / 4096,
-        );
-        let stepping = of_turn(edition, order, drawn / 65536);
-        let done = step_by_value(program, vertices, edges, now, stepping, vertex);
-        let answer = done.answer;
-        now = done.tally;
-        let refusals = written(answer);
-        refused = refused % 65536 + refusals;
-        counted = counted % 65536 + true_after(refusals, vertices, edges, now);
+        let vertex = named(lent, order, turn, drawn / 4096);
+        let edition = of_turn(lent.edition, order, drawn / 65536);
+        let answer = lent.step(vertex, edition);
+        if let Answer::Job { number, offset } = answer {
+            write!(out, " {offset}:{number}")?;
+        }
+        if answer.is_refused() {
+            refused = refused.saturating_add(1);
+        } else if are_true(lent) {
+            counted = counted.saturating_add(1);
+        }
     }
-    number(b" refused ", refused);
-    number(b" counted ", counted);
-    show::left(now, vertices, edges);
+    write!(out, " refused {refused} counted {counted}")?;
+    lent.left(out)
 }
 
 // All steps are taken; where editions mix, nobody promises how many these are.
-fn is_over(order: u32, turn: u32, taken: u64, needed: u64) -> bool {
-    if order == MIXED {
+fn is_over(order: Order, turn: u32, taken: u64, needed: u64) -> bool {
+    if order == Order::Mixed {
         return turn == 600;
     }
     taken == needed
 }
 
 // One step in eight is the other edition's, where editions mix.
-fn of_turn(edition: Edition, order: u32, drawn: u64) -> Edition {
-    if order == MIXED {
-        if drawn % 8 == 0 {
-            return other(edition);
-        }
+fn of_turn(edition: Edition, order: Order, drawn: u64) -> Edition {
+    if order == Order::Mixed && drawn % 8 == 0 {
+        other(edition)
+    } else {
+        edition
     }
-    edition
 }
 
-// A refused step is not counted: what it spoiled would show after the next one.
-fn true_after(refusals: u32, vertices: &[u32], edges: &[u32], tally: Tally) -> u32
-    ensures { result ≤ 1 }
-{
-    if 0 < refusals {
-        return 0;
+// The vertex of a turn.
+fn named(lent: &Lent<'_>, order: Order, turn: u32, drawn: u64) -> u32 {
+    let numbers = lent.tally.made % 4096 + 2;
+    match order {
+        Order::Lowest => match lent.lowest() {
+            Ok(Some(vertex)) => vertex,
+            Ok(None) => 4294967295,
+            Err(_) => 4294967294,
+        },
+        Order::FromBelow => below(turn as u64, numbers),
+        Order::FromAbove => numbers - 1 - below(turn as u64, numbers),
+        Order::Any | Order::Mixed | Order::Runs => below(drawn, numbers),
     }
-    are_true(vertices, edges, tally)
-}
-
-// The vertex of a turn: the lowest that can step; or of all that are made and the two next numbers each in turn, from below or from
-// above, or any.
-fn named(
-    program: &[u8],
-    vertices: &[u32],
-    edges: &[u32],
-    tally: Tally,
-    edition: Edition,
-    order: u32,
-    turn: u32,
-    drawn: u64,
-) -> u32 {
-    let numbers = tally.made % 4096 + 2;
-    if order == 0 {
-        return lowest(lowest_vertex(program, vertices, edges, tally, edition));
-    }
-    if order == 1 {
-        return below(turn as u64, numbers);
-    }
-    if order == 2 {
-        return numbers - 1 - below(turn as u64, numbers);
-    }
-    below(drawn, numbers)
 }
 
 fn below(drawn: u64, numbers: u32) -> u32
@@ -351,54 +307,18 @@ fn below(drawn: u64, numbers: u32) -> u32
     (drawn % (numbers as u64)) as u32
 }
 
-fn lowest(found: Lowest) -> u32 {
-    match found {
-        Lowest::Vertex(v) => v,
-        Lowest::NoVertex => 4294967295,
-        Lowest::Refused(refusal) => 4294967294,
-    }
-}
-
-// Writes a job's offset and number; answers 1 for a refusal.
-fn written(answer: Answer) -> u32
-    ensures { result ≤ 1 }
-{
-    match answer {
-        Answer::Start => 0,
-        Answer::New(v) => 0,
-        Answer::Edge(a, b) => 0,
-        Answer::Release(v) => 0,
-        Answer::Transfer(v) => 0,
-        Answer::Job { number: n, offset } => {
-            number(b" ", offset);
-            number(b":", n);
-            0
-        }
-        Answer::Stop => 0,
-        Answer::Yield => 0,
-        Answer::Refused(r) => 1,
-    }
-}
-
 // Runs with budgets from 0 to 16.
-fn runs(
-    program: &[u8],
-    vertices: &mut [u32],
-    edges: &mut [u32],
-    begun: Tally,
-    edition: Edition,
-    needed: u64,
-) {
-    let mut now = begun;
+fn runs(out: &mut impl Write, lent: &mut Lent<'_>, needed: u64) -> io::Result<()> {
     let mut counted: u32 = 0;
-    text(b" runs\n");
+    writeln!(out, " runs")?;
     for turn in 0..300u32 {
-        if (now.steps as u64) == needed {
+        if (lent.tally.steps as u64) == needed {
             break;
         }
-        now = ran(program, vertices, edges, now, edition, turn * 5 % 17);
-        counted = counted % 65536 + are_true(vertices, edges, now);
+        lent.write_run(out, turn * 5 % 17)?;
+        if are_true(lent) {
+            counted = counted.saturating_add(1);
+        }
     }
-    number(b"counted ", counted);
-    text(b"\n");
+    writeln!(out, "counted {counted}")
 }

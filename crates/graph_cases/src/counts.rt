@@ -1,7 +1,8 @@
 // The number of edges into a vertex: what the commands make of it, and what start answers by it where another row is not as it must be.
-use crate::{none, script};
-use cases::text;
+use crate::script;
 use graph::rows::{EDGE_WORDS, VERTEX_WORDS};
+use std::io;
+use std::io::Write;
 
 // From an opening on. An edge held already, one out of a finished vertex and a transfer change no number, a new vertex has 0, and start waits
 // until it is 0 again.
@@ -146,29 +147,29 @@ const ELSEWHERE: [u64; 59] = [
     6_0000_0000_0000,
 ];
 
-pub(crate) fn all() {
-    text(b"counted\n");
-    kept();
-    text(b"counts altered\n");
-    altered();
-    text(b"bad elsewhere\n");
-    elsewhere();
+pub(crate) fn all(out: &mut impl Write) -> io::Result<()> {
+    writeln!(out, "counted")?;
+    kept(out)?;
+    writeln!(out, "counts altered")?;
+    altered(out)?;
+    writeln!(out, "bad elsewhere")?;
+    elsewhere(out)
 }
 
-fn kept() {
+fn kept(out: &mut impl Write) -> io::Result<()> {
     let mut vertices = [77u32; 5 * VERTEX_WORDS + 2];
     let mut edges = [77u32; 4 * EDGE_WORDS + 1];
-    script::run(&mut vertices, &mut edges, none(), &KEPT);
+    script::run(out, &mut vertices, &mut edges, &KEPT)
 }
 
-fn altered() {
+fn altered(out: &mut impl Write) -> io::Result<()> {
     let mut vertices = [77u32; 4 * VERTEX_WORDS + 2];
     let mut edges = [77u32; 3 * EDGE_WORDS + 1];
-    script::run(&mut vertices, &mut edges, none(), &ALTERED);
+    script::run(out, &mut vertices, &mut edges, &ALTERED)
 }
 
-fn elsewhere() {
+fn elsewhere(out: &mut impl Write) -> io::Result<()> {
     let mut vertices = [77u32; 4 * VERTEX_WORDS + 2];
     let mut edges = [77u32; EDGE_WORDS + 1];
-    script::run(&mut vertices, &mut edges, none(), &ELSEWHERE);
+    script::run(out, &mut vertices, &mut edges, &ELSEWHERE)
 }

@@ -21,8 +21,8 @@ pub(crate) fn words(table: &mut [u32], d: Draw, low: u32) -> Draw
     requires { low ≤ 1 }
 {
     let mut now = d.next();
-    for i in 0..table.len() {
-        table[i] = word(now, low);
+    for place in table {
+        *place = word(now, low);
         now = now.next().next();
     }
     now
@@ -39,8 +39,7 @@ pub(crate) fn mostly_executing(vertices: &mut [u32], seed: u32) {
 pub(crate) fn length(d: Draw, most: usize, limit: u32) -> usize
     ensures { result ≤ most }
 {
-    let n = d.below(limit) as usize;
-    if n < most { n } else { most }
+    most.min(d.below(limit) as usize)
 }
 
 pub(crate) fn tally(d: Draw) -> Tally {
@@ -65,28 +64,23 @@ pub(crate) fn in_counts(vertices: &mut [u32], edges: &[u32], held: u32, d: Draw)
 fn in_count(vertices: &mut [u32], row: usize, count: u32, kind: u32)
     requires { row < 5 }
 {
-    let at = VERTEX_WORDS * row + IN_COUNT;
-    if vertices.len() <= at {
-        return;
-    }
-    if kind < 4 {
-        vertices[at] = count;
-    } else if kind < 6 {
-        vertices[at] = 0;
-    } else if kind == 6 {
-        vertices[at] = 4294967295;
+    if let Some(word) = vertices.get_mut(VERTEX_WORDS * row + IN_COUNT) {
+        match kind {
+            0..=3 => *word = count,
+            4 | 5 => *word = 0,
+            6 => *word = u32::MAX,
+            _ => {}
+        }
     }
 }
 
 // How many of the held edges lead into the vertex.
 fn into(edges: &[u32], held: u32, vertex: u32) -> u32 {
-    let mut count: u32 = 0;
-    for i in 0..edges.len() {
-        if i % EDGE_WORDS == TARGET && i / EDGE_WORDS < (held as usize) && edges[i] == vertex {
-            count = count % 1024 + 1;
-        }
-    }
-    count
+    edges
+        .chunks_exact(EDGE_WORDS)
+        .take(held as usize)
+        .filter(|edge| edge.get(TARGET) == Some(&vertex))
+        .count() as u32
 }
 
 // Any command, or one that repeats a held edge.
@@ -124,45 +118,33 @@ fn any_command(d: Draw) -> Command {
     let v = d.next().next().next().below(17);
     let target = d.next().next().next().next().below(4);
     let vertex = if v < 16 { v % 4 } else { 4 };
-    if kind == 0 {
-        return Command::NewTd {
+    match kind {
+        0 => Command::NewTd {
             caller,
             place: vertex,
             scope: target,
-        };
-    }
-    if kind < 5 {
-        return Command::NewEdge {
+        },
+        1..=4 => Command::NewEdge {
             caller,
             source: vertex,
             target,
-        };
-    }
-    if kind < 8 {
-        return Command::NewEdge {
+        },
+        5..=7 => Command::NewEdge {
             caller,
             source: vertex,
             target: caller,
-        };
+        },
+        8 | 9 => Command::Release { caller, vertex },
+        10..=12 => Command::Transfer { caller, vertex },
+        13..=16 => Command::Start { vertex },
+        17 | 18 => Command::Stop { caller },
+        _ => Command::Yield { caller },
     }
-    if kind < 10 {
-        return Command::Release { caller, vertex };
-    }
-    if kind < 13 {
-        return Command::Transfer { caller, vertex };
-    }
-    if kind < 17 {
-        return Command::Start { vertex };
-    }
-    if kind < 19 {
-        return Command::Stop { caller };
-    }
-    Command::Yield { caller }
 }
 
 // The edges 1 → 2, 2 → 3, .. in as many rows as there are.
 pub(crate) fn path(edges: &mut [u32]) {
-    for i in 0..edges.len() {
-        edges[i] = ((i / EDGE_WORDS + i % EDGE_WORDS + 1) % USABLE_LIMIT) as u32;
+    for (i, end) in edges.iter_mut().enumerate() {
+        *end = ((i / EDGE_WORDS + i % EDGE_WORDS + 1) % USABLE_LIMIT) as u32;
     }
 }

@@ -11,121 +11,119 @@ mod script;
 mod show;
 mod stops;
 
-use cases::draw::{Draw, begin};
-use cases::text;
-use graph::Tally;
+use cases::draw::begin;
 use graph::rows::{
     EDGE_TABLE, EDGE_WORDS, EXECUTING, FINISHED, NEW, RELEASED, STATUS, VERTEX_TABLE, VERTEX_WORDS,
 };
+use std::io;
+use std::io::Write;
 
-pub(crate) fn none() -> Tally {
-    Tally {
-        made: 0,
-        held: 0,
-        steps: 0,
-    }
+// It ends quietly where it cannot write.
+fn main(rt: HostRuntime) {
+    let _ = all(&mut io::writer(&rt));
 }
 
-fn main() {
-    bare();
-    full();
-    twice();
-    cycle();
-    futures();
-    yields();
-    counts::all();
-    short();
-    long();
-    path();
-    text(b"gaps\n");
-    stops::gaps();
-    text(b"bad rows\n");
-    stops::bad_rows();
-    text(b"drawn\n");
-    all_drawn(0, 600, false);
-    text(b"repeated\n");
-    all_drawn(600, 1000, true);
+fn all(out: &mut impl Write) -> io::Result<()> {
+    bare(out)?;
+    full(out)?;
+    twice(out)?;
+    cycle(out)?;
+    futures(out)?;
+    yields(out)?;
+    counts::all(out)?;
+    short(out)?;
+    long(out)?;
+    path(out)?;
+    writeln!(out, "gaps")?;
+    stops::gaps(out)?;
+    writeln!(out, "bad rows")?;
+    stops::bad_rows(out)?;
+    writeln!(out, "drawn")?;
+    all_drawn(out, 0, 600, false)?;
+    writeln!(out, "repeated")?;
+    all_drawn(out, 600, 1000, true)
 }
 
-fn bare() {
+fn bare(out: &mut impl Write) -> io::Result<()> {
     let mut vertices = [77u32; 3 * VERTEX_WORDS + 2];
     let mut edges = [77u32; 4 * EDGE_WORDS + 1];
-    text(b"bare\n");
-    script::run(&mut vertices, &mut edges, none(), &script::BARE);
+    writeln!(out, "bare")?;
+    script::run(out, &mut vertices, &mut edges, &script::BARE)
 }
 
-fn full() {
+fn full(out: &mut impl Write) -> io::Result<()> {
     let mut vertices = [77u32; 4 * VERTEX_WORDS + 2];
     let mut edges = [77u32; 3 * EDGE_WORDS + 1];
-    text(b"full\n");
-    script::run(&mut vertices, &mut edges, none(), &script::FULL);
+    writeln!(out, "full")?;
+    script::run(out, &mut vertices, &mut edges, &script::FULL)
 }
 
-fn twice() {
+fn twice(out: &mut impl Write) -> io::Result<()> {
     let mut vertices = [77u32; 4 * VERTEX_WORDS];
     let mut edges = [77u32; 2 * EDGE_WORDS + 1];
-    text(b"twice\n");
-    script::run(&mut vertices, &mut edges, none(), &script::TWICE);
+    writeln!(out, "twice")?;
+    script::run(out, &mut vertices, &mut edges, &script::TWICE)
 }
 
-fn cycle() {
+fn cycle(out: &mut impl Write) -> io::Result<()> {
     let mut vertices = [NEW; 6 * VERTEX_WORDS];
     let mut edges = [1u32, 2, 2, 1, 2, 3, 3, 3, 1, 4, 5, 1, 77, 77];
     vertices[STATUS] = EXECUTING;
     vertices[2 * VERTEX_WORDS + STATUS] = RELEASED;
     vertices[4 * VERTEX_WORDS + STATUS] = EXECUTING;
     vertices[5 * VERTEX_WORDS + STATUS] = FINISHED;
-    text(b"cycle\n");
-    script::run(&mut vertices, &mut edges, none(), &script::CYCLE);
+    writeln!(out, "cycle")?;
+    script::run(out, &mut vertices, &mut edges, &script::CYCLE)
 }
 
-fn futures() {
+fn futures(out: &mut impl Write) -> io::Result<()> {
     let mut vertices = [77u32; 6 * VERTEX_WORDS + 2];
     let mut edges = [77u32; EDGE_WORDS];
-    text(b"futures\n");
-    script::run(&mut vertices, &mut edges, none(), &script::FUTURES);
+    writeln!(out, "futures")?;
+    script::run(out, &mut vertices, &mut edges, &script::FUTURES)
 }
 
-fn yields() {
+fn yields(out: &mut impl Write) -> io::Result<()> {
     let mut vertices = [77u32; 5 * VERTEX_WORDS + 2];
     let mut edges = [77u32; 4 * EDGE_WORDS + 1];
-    text(b"yields\n");
-    script::run(&mut vertices, &mut edges, none(), &script::YIELDS);
+    writeln!(out, "yields")?;
+    script::run(out, &mut vertices, &mut edges, &script::YIELDS)
 }
 
-fn short() {
+fn short(out: &mut impl Write) -> io::Result<()> {
     let mut vertices = [2u32; VERTEX_WORDS - 1];
     let mut edges = [2u32; EDGE_WORDS - 1];
-    text(b"short\n");
-    script::run(&mut vertices, &mut edges, none(), &script::SHORT);
+    writeln!(out, "short")?;
+    script::run(out, &mut vertices, &mut edges, &script::SHORT)
 }
 
-fn long() {
+fn long(out: &mut impl Write) -> io::Result<()> {
     let mut vertices = [3u32; VERTEX_TABLE + 22];
     let mut edges = [1u32; EDGE_TABLE + 7];
-    text(b"long\n");
-    script::run(&mut vertices, &mut edges, none(), &script::LONG);
+    writeln!(out, "long")?;
+    script::run(out, &mut vertices, &mut edges, &script::LONG)
 }
 
 // 1,024 vertices, the first executing, with the edges 1 → 2 → .. → 1,023.
-fn path() {
+fn path(out: &mut impl Write) -> io::Result<()> {
     let mut vertices = [1u32; VERTEX_TABLE];
     let mut edges = [0u32; EDGE_TABLE];
     vertices[STATUS] = EXECUTING;
     draw::path(&mut edges);
-    text(b"path\n");
-    script::run(&mut vertices, &mut edges, none(), &script::PATH);
+    writeln!(out, "path")?;
+    script::run(out, &mut vertices, &mut edges, &script::PATH)
 }
 
 // The tables of the seeds from `first` up to `end`.
-fn all_drawn(first: u32, end: u32, repeats: bool) {
+fn all_drawn(out: &mut impl Write, first: u32, end: u32, repeats: bool) -> io::Result<()> {
     for seed in first..end {
-        drawn(seed, repeats);
+        drawn(out, seed, repeats)?;
     }
+    Ok(())
 }
 
 // Small tables of drawn words and lengths, a drawn tally and a drawn command, which may be to repeat a held edge.
-fn drawn(seed: u32, repeats: bool) {
+fn drawn(out: &mut impl Write, seed: u32, repeats: bool) -> io::Result<()> {
     let mut vertices = [0u32; 5 * VERTEX_WORDS + 4];
     let mut edges = [0u32; 5 * EDGE_WORDS];
     let d = draw::words(&mut vertices, begin(seed), 1);
@@ -133,13 +131,10 @@ fn drawn(seed: u32, repeats: bool) {
     let d = draw::words(&mut edges, d, 0);
     let tally = draw::tally(d);
     let d = draw::in_counts(&mut vertices, &edges, tally.held, d.next().next().next());
-    drawn_call(&mut vertices, &mut edges, tally, d, repeats);
-}
-
-fn drawn_call(vertices: &mut [u32], edges: &mut [u32], tally: Tally, d: Draw, repeats: bool) {
     let n = draw::length(d, vertices.len(), 600);
     let d = d.next();
     let m = draw::length(d, edges.len(), 200);
-    let command = draw::command(d, edges, tally.held, repeats);
-    script::call(&mut vertices[..n], &mut edges[..m], tally, command);
+    let command = draw::command(d, &edges, tally.held, repeats);
+    script::call(out, &mut vertices[..n], &mut edges[..m], tally, command)?;
+    Ok(())
 }

@@ -6,6 +6,8 @@ use crate::show;
 use graph::commands::{command_by_value, open_by_value};
 use graph::rows::{EDGE_WORDS, VERTEX_WORDS};
 use graph::{Command, Tally};
+use std::io;
+use std::io::Write;
 
 const OPEN: u32 = 0;
 
@@ -245,20 +247,26 @@ pub(crate) const PATH: [u64; 7] = [
 ];
 
 pub(crate) fn call(
+    out: &mut impl Write,
     vertices: &mut [u32],
     edges: &mut [u32],
     tally: Tally,
     command: Command,
-) -> Tally {
+) -> io::Result<Tally> {
     let done = command_by_value(vertices, edges, tally, command);
-    show::done(done, vertices, edges);
-    done.tally
+    show::done(out, done, vertices, edges)?;
+    Ok(done.tally)
 }
 
-fn open(vertices: &mut [u32], edges: &mut [u32], tally: Tally) -> Tally {
+fn open(
+    out: &mut impl Write,
+    vertices: &mut [u32],
+    edges: &mut [u32],
+    tally: Tally,
+) -> io::Result<Tally> {
     let done = open_by_value(vertices, edges, tally);
-    show::opened(done, vertices, edges);
-    done.tally
+    show::opened(out, done, vertices, edges)?;
+    Ok(done.tally)
 }
 
 fn command(kind: u32, caller: u32, a: u32, b: u32) -> Command {
@@ -282,43 +290,13 @@ fn command(kind: u32, caller: u32, a: u32, b: u32) -> Command {
 }
 
 fn alter(table: &mut [u32], at: usize, number: u32) {
-    if at < table.len() {
-        table[at] = if number < 9000 {
+    if let Some(word) = table.get_mut(at) {
+        *word = if number < 9000 {
             number
         } else {
             4294957296 + number % 10000
         };
     }
-}
-
-fn one(
-    vertices: &mut [u32],
-    edges: &mut [u32],
-    tally: Tally,
-    kind: u32,
-    a: u32,
-    b: u32,
-    c: u32,
-) -> Tally {
-    if kind == TALLY {
-        return Tally {
-            made: a,
-            held: b,
-            steps: c,
-        };
-    }
-    if kind == VERTEX_WORD {
-        alter(vertices, VERTEX_WORDS * (a as usize) + (b as usize), c);
-        return tally;
-    }
-    if kind == EDGE_WORD {
-        alter(edges, EDGE_WORDS * (a as usize) + (b as usize), c);
-        return tally;
-    }
-    if kind == OPEN {
-        return open(vertices, edges, tally);
-    }
-    call(vertices, edges, tally, command(kind, a, b, c))
 }
 
 // The number that four digits of a call are, counted from the last four.
@@ -328,18 +306,50 @@ fn digits(call: u64, place: u64) -> u32
     (call / place % 10000) as u32
 }
 
-pub(crate) fn run(vertices: &mut [u32], edges: &mut [u32], tally: Tally, calls: &[u64]) {
-    let mut now = tally;
-    for i in 0..calls.len() {
-        let c = calls[i];
-        now = one(
-            vertices,
-            edges,
-            now,
-            digits(c, 1000000000000),
-            digits(c, 100000000),
-            digits(c, 10000),
-            digits(c, 1),
-        );
+fn one(
+    out: &mut impl Write,
+    vertices: &mut [u32],
+    edges: &mut [u32],
+    tally: Tally,
+    written: u64,
+) -> io::Result<Tally> {
+    let kind = digits(written, 1_0000_0000_0000);
+    let a = digits(written, 1_0000_0000);
+    let b = digits(written, 1_0000);
+    let c = digits(written, 1);
+    match kind {
+        TALLY => Ok(Tally {
+            made: a,
+            held: b,
+            steps: c,
+        }),
+        VERTEX_WORD => {
+            alter(vertices, VERTEX_WORDS * (a as usize) + (b as usize), c);
+            Ok(tally)
+        }
+        EDGE_WORD => {
+            alter(edges, EDGE_WORDS * (a as usize) + (b as usize), c);
+            Ok(tally)
+        }
+        OPEN => open(out, vertices, edges, tally),
+        _ => call(out, vertices, edges, tally, command(kind, a, b, c)),
     }
+}
+
+// From an empty tally on.
+pub(crate) fn run(
+    out: &mut impl Write,
+    vertices: &mut [u32],
+    edges: &mut [u32],
+    calls: &[u64],
+) -> io::Result<()> {
+    let mut now = Tally {
+        made: 0,
+        held: 0,
+        steps: 0,
+    };
+    for &written in calls {
+        now = one(out, vertices, edges, now, written)?;
+    }
+    Ok(())
 }

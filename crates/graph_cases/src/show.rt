@@ -1,41 +1,57 @@
-// Writes what a call answered and left.
-use cases::{left, number, refused, text};
+// Shows what a call answered and left.
+use cases::{Left, Refused};
 use graph::{Answer, Done, OpenDone};
-use refusal::Refusal;
+use std::io::Write;
+use std::{fmt, io};
 
-fn opening(a: Result<(), Refusal>) {
-    match a {
-        Ok(()) => text(b"opened"),
-        Err(r) => refused(r.reason.number(), r.place),
-    }
-}
+// What a command answered.
+#[derive(Clone, Copy)]
+struct Said(Answer);
 
-fn answer(a: Answer) {
-    match a {
-        Answer::Start => text(b"start"),
-        Answer::New(v) => number(b"new ", v),
-        Answer::Edge(a, b) => {
-            number(b"edge ", a);
-            number(b" ", b);
+impl fmt::Display for Said {
+    fn fmt<W: fmt::Write>(&self, f: &mut fmt::Formatter<W>) -> fmt::Result {
+        match self.0 {
+            Answer::Start => write!(f, "start"),
+            Answer::New(v) => write!(f, "new {v}"),
+            Answer::Edge(a, b) => write!(f, "edge {a} {b}"),
+            Answer::Release(v) => write!(f, "release {v}"),
+            Answer::Transfer(v) => write!(f, "transfer {v}"),
+            Answer::Stop => write!(f, "stop"),
+            Answer::Yield => write!(f, "yield"),
+            Answer::Refused(refusal) => write!(f, "{}", Refused(refusal)),
         }
-        Answer::Release(v) => number(b"release ", v),
-        Answer::Transfer(v) => number(b"transfer ", v),
-        Answer::Stop => text(b"stop"),
-        Answer::Yield => text(b"yield"),
-        Answer::Refused(r) => refused(r.reason.number(), r.place),
     }
 }
 
-pub(crate) fn opened(d: OpenDone, vertices: &[u32], edges: &[u32]) {
-    let a = d.answer;
-    let t = d.tally;
-    opening(a);
-    left(t.made, t.held, t.steps, vertices, edges);
+pub(crate) fn opened(
+    out: &mut impl Write,
+    done: OpenDone,
+    vertices: &[u32],
+    edges: &[u32],
+) -> io::Result<()> {
+    let OpenDone { answer, tally } = done;
+    let left = Left {
+        tally,
+        vertices,
+        edges,
+    };
+    match answer {
+        Ok(()) => writeln!(out, "opened{left}"),
+        Err(refusal) => writeln!(out, "{}{left}", Refused(refusal)),
+    }
 }
 
-pub(crate) fn done(d: Done, vertices: &[u32], edges: &[u32]) {
-    let a = d.answer;
-    let t = d.tally;
-    answer(a);
-    left(t.made, t.held, t.steps, vertices, edges);
+pub(crate) fn done(
+    out: &mut impl Write,
+    done: Done,
+    vertices: &[u32],
+    edges: &[u32],
+) -> io::Result<()> {
+    let Done { answer, tally } = done;
+    let left = Left {
+        tally,
+        vertices,
+        edges,
+    };
+    writeln!(out, "{}{left}", Said(answer))
 }

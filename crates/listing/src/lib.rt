@@ -5,101 +5,56 @@
 pub mod out;
 mod text;
 
-ghost use Rattle.std.specs.Prelude.{take};
-ghost use Rattle.io.specs.Counts.{IsPrefixLen};
 ghost use Rattle.graph.specs.Tables.{lent};
-ghost use Rattle.listing.specs.Lines.{length_of, unused, FirstLine, NextLine};
+ghost use Rattle.listing.specs.Lines.{first_text, next_text, unused, FirstLine, NextLine};
 
-use crate::text::{heading, refusal_line, step_line};
+pub use crate::text::{Heading, Refused, Step};
 use engine::load::load_by_value;
 use engine::look::lowest_vertex;
 use engine::steps::step_by_value;
-use engine::{Loading, Lowest};
 use graph::Tally;
+use program::Edition;
 use program::reading::read;
-use program::{Edition, ProgramRead};
 use refusal::Refusal;
 
-// Room for the longest line.
+// No line is longer, its end included (proofs/LineLengths.antt).
 pub const LINE_BYTES: usize = 64;
 
-// The length of a line at the start of what was lent for it, and the tally with which the next one is asked for. `Last` ends the listing,
-// with a line or with none.
-#[derive(Clone, Copy)]
-pub enum Line {
-    Text { length: usize, tally: Tally },
-    Last { length: usize },
-}
-
-// Loads a program. The line is the heading, or the refusal.
+// Loads a program. The line is the heading, with the tally with which the next one is asked for, or the refusal.
 pub fn first_line(
     program: &[u8],
     vertices: &mut [u32],
     edges: &mut [u32],
     edition: Edition,
-    line: &mut [u8; LINE_BYTES],
-) -> Line
-    ensures prefix_len { IsPrefixLen (length_of result) line.new }
-    ensures first_line { FirstLine edition program.now (unused vertices.old edges.old) result (take (length_of result) line.new) vertices.new edges.new }
+) -> Result<(Heading, Tally), Refusal>
+    ensures { FirstLine edition program.now (unused vertices.old edges.old) result (first_text result) vertices.new edges.new }
 {
-    let reading = read(program, edition);
-    match reading {
-        ProgramRead::Refused(refusal) => Line::Last {
-            length: refusal_line(
-                Refusal {
-                    number: refusal.number,
-                    place: refusal.place,
-                },
-                line,
-            ),
-        },
-        ProgramRead::Program(items) => {
-            let nothing = Tally {
-                made: 0,
-                held: 0,
-                steps: 0,
-            };
-            let loaded = load_by_value(program, vertices, edges, nothing, edition);
-            let answer = loaded.answer;
-            let tally = loaded.tally;
-            if let Loading::Refused(refusal) = answer {
-                return Line::Last {
-                    length: refusal_line(refusal, line),
-                };
-            }
-            Line::Text {
-                length: heading(items, edition, line),
-                tally,
-            }
-        }
-    }
+    let items = read(program, edition)?;
+    let nothing = Tally {
+        made: 0,
+        held: 0,
+        steps: 0,
+    };
+    let loaded = load_by_value(program, vertices, edges, nothing, edition);
+    loaded.answer?;
+    Ok((Heading::of(items, edition), loaded.tally))
 }
 
-// Steps the lowest vertex that can step, as `lowest_vertex` finds it. The line is that step's; there is none where that finds none or is
-// refused.
+// Steps the lowest vertex that can step, as `lowest_vertex` finds it. The line is that step's, with the tally with which the next one is asked
+// for; there is none where that finds none or is refused.
 pub fn next_line(
     program: &[u8],
     vertices: &mut [u32],
     edges: &mut [u32],
     tally: Tally,
     edition: Edition,
-    line: &mut [u8; LINE_BYTES],
-) -> Line
-    ensures prefix_len { IsPrefixLen (length_of result) line.new }
-    ensures next_line { NextLine edition program.now (lent vertices.old edges.old tally) result (take (length_of result) line.new) vertices.new edges.new }
+) -> Option<(Step, Tally)>
+    ensures { NextLine edition program.now (lent vertices.old edges.old tally) result (next_text result) vertices.new edges.new }
 {
-    let lowest = lowest_vertex(program, vertices, edges, tally, edition);
-    match lowest {
-        Lowest::Vertex(vertex) => {
-            let done = step_by_value(program, vertices, edges, tally, edition, vertex);
-            let answer = done.answer;
-            let tally = done.tally;
-            Line::Text {
-                length: step_line(vertex, answer, line),
-                tally,
-            }
-        }
-        Lowest::NoVertex => Line::Last { length: 0 },
-        Lowest::Refused(refusal) => Line::Last { length: 0 },
-    }
+    let Ok(Some(vertex)) = lowest_vertex(program, vertices, edges, tally, edition) else {
+        return None;
+    };
+    let done = step_by_value(program, vertices, edges, tally, edition, vertex);
+    let answer = done.answer;
+    Some((Step { vertex, answer }, done.tally))
 }

@@ -1,49 +1,55 @@
-// The listing of a program in an edition, written to standard output. No contract can say what is written: the lines are proved, that all of them are
-// written in order and nothing else is tested.
-use crate::{LINE_BYTES, Line, first_line, next_line};
-use engine::next::STEP_LIMIT;
+// The listing of a program in an edition, written into a sink: all of its lines, in order, and nothing else.
+ghost use Rattle.std.specs.Prelude.{◌≡◌, ◌+◌, ◌≤◌, IfSome, OnOk, length, take};
+ghost use Rattle.listing.specs.Listing.{Lists};
+
+use crate::{Refused, first_line, next_line};
 use graph::rows::{EDGE_TABLE, VERTEX_TABLE};
 use program::Edition;
 use program::format::PROGRAM_BYTES;
+use std::io;
+use std::io::{Read, Write};
 
-// The numbers of standard input and standard output.
-const STDIN_FILENO: i32 = 0;
-
-const STDOUT_FILENO: i32 = 1;
-
-// Lists the program that standard input holds. One byte more is read than a program may have, so that a longer input is refused.
-pub fn list_input(edition: Edition) {
-    let mut input = [0u8; PROGRAM_BYTES + 1];
-    let n = io::read_full(STDIN_FILENO, &mut input);
-    list(&input[..n], edition);
+// Lists the program that the input holds. One byte more is read than a program may have, so that a longer input is refused. Where reading
+// fails, what was read until then is listed, and the error is handed on.
+pub fn list_input<R: Read, W: Write>(input: &mut R, out: &mut W, edition: Edition) -> io::Result<()>
+    ensures { OnOk result (IfSome (R.remaining input.old) (λ bytes. Lists edition (take (PROGRAM_BYTES + 1) bytes) (W.contents out.old) (W.contents out.new))) }
+{
+    let mut program = [0u8; PROGRAM_BYTES + 1];
+    let (length, read) = fill(input, &mut program);
+    list(out, &program[..length], edition)?;
+    read
 }
 
-// The tables have all the rows that any program can need, and no listing has more lines than there are turns. It ends quietly where it
-// cannot write.
-pub fn list(program: &[u8], edition: Edition) {
-    let mut vertices = [0u32; VERTEX_TABLE];
-    let mut edges = [0u32; EDGE_TABLE];
-    let mut line = [0u8; LINE_BYTES];
-    let mut given = first_line(program, &mut vertices, &mut edges, edition, &mut line);
-    for turn in 0..STEP_LIMIT {
-        match given {
-            Line::Last { length } => {
-                io::write_all(STDOUT_FILENO, &line[..length]);
-                return;
-            }
-            Line::Text { length, tally } => {
-                if !io::write_all(STDOUT_FILENO, &line[..length]) {
-                    return;
-                }
-                given = next_line(
-                    program,
-                    &mut vertices,
-                    &mut edges,
-                    tally,
-                    edition,
-                    &mut line,
-                );
-            }
+// Reads until the buffer is full, the input ends or a read fails, and answers how many bytes it put at the buffer's start, and that error.
+fn fill<R: Read>(input: &mut R, buffer: &mut [u8]) -> (usize, io::Result<()>)
+    ensures bound { result.0 ≤ length buffer.new }
+    ensures bytes { OnOk result.1 (IfSome (R.remaining input.old) (λ bytes. take result.0 buffer.new ≡ take (length buffer.old) bytes)) }
+{
+    let mut filled = 0;
+    while filled < buffer.len() {
+        match input.read(&mut buffer[filled..]) {
+            Ok(0) => break,
+            Ok(n) => filled += n,
+            Err(error) => return (filled, Err(error)),
         }
     }
+    (filled, Ok(()))
+}
+
+// The tables have all the rows that any program can need.
+pub fn list<W: Write>(out: &mut W, program: &[u8], edition: Edition) -> io::Result<()>
+    ensures { OnOk result (Lists edition program.now (W.contents out.old) (W.contents out.new)) }
+{
+    let mut vertices = [0u32; VERTEX_TABLE];
+    let mut edges = [0u32; EDGE_TABLE];
+    let (heading, mut tally) = match first_line(program, &mut vertices, &mut edges, edition) {
+        Ok(first) => first,
+        Err(refusal) => return writeln!(out, "{}", Refused(refusal)),
+    };
+    writeln!(out, "{heading}")?;
+    while let Some((step, after)) = next_line(program, &mut vertices, &mut edges, tally, edition) {
+        writeln!(out, "{step}")?;
+        tally = after;
+    }
+    Ok(())
 }

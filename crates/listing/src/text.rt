@@ -1,109 +1,107 @@
-// The lister's lines as text: a heading, one line for each step, and a refusal. Each is written to the start of a lent line and is proved
-// to be what specs/Text.antt gives.
-ghost use Rattle.std.specs.Prelude.{◌+◌, ◌≤◌, ◌≡◌, ◌++◌, length, take};
-ghost use Rattle.io.specs.Counts.{IsPrefixLen};
+// The lister's lines: a heading, a step, and a refused program. Each is shown as specs/Text.antt has it, without
+// the line's end.
+ghost use Rattle.std.specs.Prelude.{◌≡◌, Some};
+ghost use Rattle.refusal.specs.Reasons.{number};
 ghost use Rattle.program.specs.Encodings.{vertex_formula, step_formula};
 ghost use Rattle.program.specs.Answers.{item_counts};
 ghost use Rattle.engine.specs.Answers.{said};
-ghost use Rattle.listing.specs.Text.{numeral, answer_text, heading_text, step_text, refusal_text};
-ghost use Rattle.listing.specs.Internal.Puts.{Put, pair_text, pair_room, answer_room};
+ghost use Rattle.listing.specs.Text.{answer_text, heading_words, refused_words, step_words};
 
-use crate::LINE_BYTES;
 use engine::Answer;
-use io::decimal;
 use program::reading::{steps, vertices};
 use program::{Edition, ItemCounts};
 use refusal::Refusal;
+use std::fmt;
 
-// The heading of a program with these items.
-pub(crate) fn heading(items: ItemCounts, edition: Edition, line: &mut [u8; LINE_BYTES]) -> usize
-    ensures prefix_len { IsPrefixLen result line.new }
-    ensures line_after { take result line.new ≡ heading_text (vertex_formula edition (item_counts items)) items.jobs (step_formula edition (item_counts items)) }
-{
-    let jobs = items.jobs as u64;
-    let mut at = put_named(line, 0, b"vertices ", vertices(items, edition));
-    at = put_named(line, at, b" jobs ", jobs);
-    at = put_named(line, at, b" steps ", steps(items, edition));
-    put_text(line, at, b"\n")
+// The vertices, the jobs and the steps of a program.
+#[derive(Clone, Copy)]
+pub struct Heading {
+    pub vertices: u64,
+    pub jobs: u16,
+    pub steps: u64,
 }
 
-// The line of a step of this vertex that answers this.
-pub(crate) fn step_line(vertex: u32, answer: Answer, line: &mut [u8; LINE_BYTES]) -> usize
-    ensures prefix_len { IsPrefixLen result line.new }
-    ensures line_after { take result line.new ≡ step_text vertex (said answer) }
-{
-    let mut at = put_number(line, 0, vertex as u64);
-    at = put_text(line, at, b" ");
-    at = put_answer(line, at, answer);
-    put_text(line, at, b"\n")
-}
-
-// The line of a refused program.
-pub(crate) fn refusal_line(refusal: Refusal, line: &mut [u8; LINE_BYTES]) -> usize
-    ensures prefix_len { IsPrefixLen result line.new }
-    ensures line_after { take result line.new ≡ refusal_text refusal.number refusal.place }
-{
-    let at = put_pair(line, 0, b"refused ", refusal.number, refusal.place);
-    put_text(line, at, b"\n")
-}
-
-// Puts what a step answered behind the line's first `at` bytes, and answers where it ends, as all of these do.
-fn put_answer(line: &mut [u8], at: usize, answer: Answer) -> usize
-    requires { at + answer_room ≤ length line.old }
-    ensures upper_bound { result ≤ at + answer_room }
-    ensures put { Put line.old at (answer_text (said answer)) line.new result }
-{
-    match answer {
-        Answer::Start => put_text(line, at, b"start"),
-        Answer::New(v) => put_named(line, at, b"new ", v as u64),
-        Answer::Edge(a, b) => put_pair(line, at, b"edge ", a, b),
-        Answer::Release(v) => put_named(line, at, b"release ", v as u64),
-        Answer::Transfer(v) => put_named(line, at, b"transfer ", v as u64),
-        Answer::Job { number, offset: _ } => put_named(line, at, b"job ", number as u64),
-        Answer::Stop => put_text(line, at, b"stop"),
-        Answer::Yield => put_text(line, at, b"yield"),
-        Answer::Refused(refusal) => put_pair(line, at, b"refused ", refusal.number, refusal.place),
+impl Heading {
+    // Of a program with these items.
+    pub(crate) fn of(items: ItemCounts, edition: Edition) -> Self
+        ensures vertices { result.vertices ≡ vertex_formula edition (item_counts items) }
+        ensures jobs { result.jobs ≡ items.jobs }
+        ensures steps { result.steps ≡ step_formula edition (item_counts items) }
+    {
+        Self {
+            vertices: vertices(items, edition),
+            jobs: items.jobs,
+            steps: steps(items, edition),
+        }
     }
 }
 
-// A word and two numbers.
-fn put_pair(line: &mut [u8], at: usize, word: &[u8], a: u32, b: u32) -> usize
-    requires { at + (length word.now + pair_room) ≤ length line.old }
-    ensures upper_bound { result ≤ at + (length word.now + pair_room) }
-    ensures put { Put line.old at (pair_text word.now a b) line.new result }
-{
-    let between = put_named(line, at, word, a as u64);
-    put_named(line, between, b" ", b as u64)
-}
+impl fmt::Display for Heading {
+    ghost output = { λ h. Some (heading_words h.vertices h.jobs h.steps) };
 
-// A word and a number.
-fn put_named(line: &mut [u8], at: usize, word: &[u8], n: u64) -> usize
-    requires { at + length (word.now ++ numeral n) ≤ length line.old }
-    ensures { Put line.old at (word.now ++ numeral n) line.new result }
-{
-    let behind = put_text(line, at, word);
-    put_number(line, behind, n)
-}
-
-// A number.
-fn put_number(line: &mut [u8], at: usize, n: u64) -> usize
-    requires { at + length (numeral n) ≤ length line.old }
-    ensures { Put line.old at (numeral n) line.new result }
-{
-    let mut digits = [0u8; 20];
-    let k = decimal(n, &mut digits);
-    put_text(line, at, &digits[..k])
-}
-
-// A text.
-fn put_text(line: &mut [u8], at: usize, text: &[u8]) -> usize
-    requires { at + length text.now ≤ length line.old }
-    ensures { Put line.old at text.now line.new result }
-{
-    let mut i = 0;
-    while i < text.len() {
-        line[at + i] = text[i];
-        i += 1;
+    #[tactic(auto, using(crate::proofs::NumeralLaws::numeral_is, crate::proofs::NumeralLaws::grouped), unfolding(crate::specs::Text::heading_words))]
+    fn fmt<W: fmt::Write>(&self, f: &mut fmt::Formatter<W>) -> fmt::Result {
+        let Self {
+            vertices,
+            jobs,
+            steps,
+        } = *self;
+        write!(f, "vertices {vertices} jobs {jobs} steps {steps}")
     }
-    at + i
+}
+
+// A step of a vertex, and what it answered.
+#[derive(Clone, Copy)]
+pub struct Step {
+    pub vertex: u32,
+    pub answer: Answer,
+}
+
+impl fmt::Display for Step {
+    ghost output = { λ s. Some (step_words s.vertex (said s.answer)) };
+
+    #[tactic(auto, using(crate::proofs::NumeralLaws::numeral_is, crate::proofs::NumeralLaws::grouped), unfolding(crate::specs::Text::step_words))]
+    fn fmt<W: fmt::Write>(&self, f: &mut fmt::Formatter<W>) -> fmt::Result {
+        let Self { vertex, answer } = *self;
+        let said = Said(answer);
+        write!(f, "{vertex} {said}")
+    }
+}
+
+// What a step answered.
+#[derive(Clone, Copy)]
+struct Said(Answer);
+
+impl fmt::Display for Said {
+    ghost output = { λ s. Some (answer_text (said s.0)) };
+
+    #[tactic(auto, using(crate::proofs::NumeralLaws::numeral_is, crate::proofs::NumeralLaws::grouped), unfolding(crate::specs::Text::answer_text))]
+    fn fmt<W: fmt::Write>(&self, f: &mut fmt::Formatter<W>) -> fmt::Result {
+        match self.0 {
+            Answer::Start => write!(f, "start"),
+            Answer::New(v) => write!(f, "new {v}"),
+            Answer::Edge(a, b) => write!(f, "edge {a} {b}"),
+            Answer::Release(v) => write!(f, "release {v}"),
+            Answer::Transfer(v) => write!(f, "transfer {v}"),
+            Answer::Job { number, .. } => write!(f, "job {number}"),
+            Answer::Stop => write!(f, "stop"),
+            Answer::Yield => write!(f, "yield"),
+            Answer::Refused(refusal) => write!(f, "{}", Refused(refusal)),
+        }
+    }
+}
+
+// A refused program, or a refused step.
+#[derive(Clone, Copy)]
+pub struct Refused(pub Refusal);
+
+impl fmt::Display for Refused {
+    ghost output = { λ r. Some (refused_words (number r.0.reason) r.0.place) };
+
+    #[tactic(auto, using(crate::proofs::NumeralLaws::numeral_is, crate::proofs::NumeralLaws::grouped), unfolding(crate::specs::Text::refused_words))]
+    fn fmt<W: fmt::Write>(&self, f: &mut fmt::Formatter<W>) -> fmt::Result {
+        let Refusal { reason, place } = self.0;
+        let number = reason.number();
+        write!(f, "refused {number} {place}")
+    }
 }

@@ -9,8 +9,16 @@ mod limits;
 mod short;
 mod show;
 
-fn main() {
-    examples::all();
-    limits::all();
-    short::all();
+use std::io;
+use std::io::Write;
+
+// It ends quietly where it cannot write.
+fn main(rt: HostRuntime) {
+    let _ = all(&mut io::writer(&rt));
+}
+
+fn all(out: &mut impl Write) -> io::Result<()> {
+    examples::all(out)?;
+    limits::all(out)?;
+    short::all(out)
 }

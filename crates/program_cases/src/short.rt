@@ -1,77 +1,64 @@
 // Every program of one and of two bytes, and every fifth byte of a job's number and of a force's. Those that differ in their last byte only
 // and are answered alike stand together, as `first-last number place`; an accepted program has the number 0. All are far
 // from the limit on vertices, with which alone the editions differ.
-use cases::{hex, number, text};
+ghost use Rattle.std.specs.Prelude.{◌≡◌, ◌<◌, length};
+
 use program::Edition;
 use program::format::{FORCE, JOB};
 use program::reading::read;
-use refusal::Refusal;
+use std::io;
+use std::io::Write;
 
-pub(crate) fn all() {
-    one_byte();
-    for first in 0..256u32 {
-        two_bytes(first);
+pub(crate) fn all(out: &mut impl Write) -> io::Result<()> {
+    last_bytes(out, &mut [0])?;
+    for first in 0..=u8::MAX {
+        write!(out, "{first:02x}")?;
+        last_bytes(out, &mut [first, 0])?;
     }
-    fifth_byte(JOB, 128);
-    fifth_byte(JOB, 255);
-    fifth_byte(FORCE, 128);
-    fifth_byte(FORCE, 255);
-}
-
-fn one_byte() {
-    let mut program = [0u8; 1];
-    last_bytes(&mut program);
-}
-
-fn two_bytes(first: u32) {
-    let mut program = [0u8; 2];
-    program[0] = (first % 256) as u8;
-    hex(b"", (first % 256) as u8);
-    last_bytes(&mut program);
+    fifth_byte(out, JOB, 128)?;
+    fifth_byte(out, JOB, 255)?;
+    fifth_byte(out, FORCE, 128)?;
+    fifth_byte(out, FORCE, 255)
 }
 
 // The last byte is the number's fifth, behind four that are the same.
-fn fifth_byte(first: u8, others: u8) {
-    let mut program = [others; 6];
-    program[0] = first;
-    hex(b"", first);
-    hex(b" and four times ", others);
-    last_bytes(&mut program);
+fn fifth_byte(out: &mut impl Write, first: u8, others: u8) -> io::Result<()> {
+    write!(out, "{first:02x} and four times {others:02x}")?;
+    last_bytes(out, &mut [first, others, others, others, others, 0])
 }
 
 // The answers for each last byte.
-fn last_bytes(program: &mut [u8]) {
-    let mut since: u32 = 0;
+fn last_bytes(out: &mut impl Write, program: &mut [u8]) -> io::Result<()>
+    requires { 0 < length program.old }
+{
+    let mut since = 0;
     let mut before = with_last(program, 0);
-    for last in 1..256 {
+    for last in 1..=u8::MAX {
         let answer = with_last(program, last);
         if answer != before {
-            alike(since, last - 1, before);
+            alike(out, since, last - 1, before)?;
             since = last;
             before = answer;
         }
     }
-    alike(since, 255, before);
-    text(b"\n");
+    alike(out, since, u8::MAX, before)?;
+    writeln!(out, "")
 }
 
-fn alike(first: u32, last: u32, answer: Option<Refusal>) {
-    hex(b" ", (first % 256) as u8);
-    hex(b"-", (last % 256) as u8);
-    let (reason, place) = match answer {
-        None => (0, 0),
-        Some(refusal) => (refusal.reason.number(), refusal.place),
-    };
-    number(b" ", reason);
-    number(b" ", place);
+fn alike(out: &mut impl Write, first: u8, last: u8, answer: (u32, u32)) -> io::Result<()> {
+    let (number, place) = answer;
+    write!(out, " {first:02x}-{last:02x} {number} {place}")
 }
 
-// What the program is refused with, if it is, with this last byte.
-fn with_last(program: &mut [u8], last: u32) -> Option<Refusal> {
-    let length = program.len();
-    if length == 0 {
-        return None;
+// What the program is answered with this last byte: a refusal's number and place.
+fn with_last(program: &mut [u8], last: u8) -> (u32, u32)
+    requires { 0 < length program.old }
+    ensures { length program.new ≡ length program.old }
+{
+    let end = program.len() - 1;
+    program[end] = last;
+    match read(program, Edition::First) {
+        Ok(_) => (0, 0),
+        Err(refusal) => (refusal.reason.number(), refusal.place),
     }
-    program[length - 1] = (last % 256) as u8;
-    read(program, Edition::First).err()
 }

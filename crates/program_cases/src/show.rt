@@ -1,67 +1,80 @@
-// Writes what reading answers.
-use cases::{number, text};
+// Shows what reading answers.
+use cases::Refused;
 use program::items::item_at;
 use program::reading::{edge_rows, read, steps, vertices};
 use program::{Edition, ItemCounts, ItemRead};
+use std::io::Write;
+use std::{fmt, io};
 
 // In either edition, the second's on a line of its own.
-pub(crate) fn readings(program: &[u8]) {
-    reading(program, Edition::First);
-    text(b"  second edition");
-    reading(program, Edition::Second);
+pub(crate) fn readings(out: &mut impl Write, program: &[u8]) -> io::Result<()> {
+    reading(out, program, Edition::First)?;
+    write!(out, "  second edition")?;
+    reading(out, program, Edition::Second)
 }
 
 // The items and what they need, or a refusal.
-pub(crate) fn reading(program: &[u8], edition: Edition) {
+pub(crate) fn reading(out: &mut impl Write, program: &[u8], edition: Edition) -> io::Result<()> {
     match read(program, edition) {
         Ok(items) => {
-            number(b": jobs ", items.jobs as u32);
-            number(b" asyncs ", items.asyncs as u32);
-            number(b" finishes ", items.finishes as u32);
-            number(b" forks ", items.forks as u32);
-            number(b" futures ", items.futures as u32);
-            number(b" forces ", items.forces as u32);
-            needs(items, edition);
+            let vertices = vertices(items, edition);
+            let edge_rows = edge_rows(items);
+            let steps = steps(items, edition);
+            writeln!(
+                out,
+                "{}, vertices {vertices} edge rows {edge_rows} steps {steps}",
+                Items(items)
+            )
         }
-        Err(refusal) => {
-            number(b": refused ", refusal.reason.number());
-            number(b" ", refusal.place);
-            text(b"\n");
-        }
+        Err(refusal) => writeln!(out, ": {}", Refused(refusal)),
     }
 }
 
-fn needs(items: ItemCounts, edition: Edition) {
-    large(b", vertices ", vertices(items, edition));
-    large(b" edge rows ", edge_rows(items));
-    large(b" steps ", steps(items, edition));
-    text(b"\n");
-}
+// How many items of each kind.
+#[derive(Clone, Copy)]
+struct Items(ItemCounts);
 
-fn large(before: &[u8], n: u64) {
-    number(before, (n % 4294967296) as u32);
+impl fmt::Display for Items {
+    fn fmt<W: fmt::Write>(&self, f: &mut fmt::Formatter<W>) -> fmt::Result {
+        let ItemCounts {
+            futures,
+            forces,
+            jobs,
+            asyncs,
+            finishes,
+            forks,
+        } = self.0;
+        write!(f, ": jobs {jobs} asyncs {asyncs} finishes {finishes}")?;
+        write!(f, " forks {forks} futures {futures} forces {forces}")
+    }
 }
 
 // What stands at a place, with the places that it names.
-pub(crate) fn item(program: &[u8], edition: Edition, place: u32) {
-    number(b"  ", place);
-    match item_at(program, edition, place) {
-        ItemRead::Job { number: n, past } => two(b" job ", n, past.place),
-        ItemRead::Async { body, past } => two(b" async ", body, past.place),
-        ItemRead::Finish { body, past } => two(b" finish ", body, past.place),
-        ItemRead::Fork { left, right, past } => {
-            number(b" fork ", left);
-            two(b" ", right, past.place);
-        }
-        ItemRead::Future { body, past } => two(b" future ", body, past.place),
-        ItemRead::Force { number: n, past } => two(b" force ", n, past.place),
-        ItemRead::End { past } => text(b" end\n"),
-        ItemRead::Refused(refusal) => two(b" refused ", refusal.reason.number(), refusal.place),
-    }
+pub(crate) fn item(
+    out: &mut impl Write,
+    program: &[u8],
+    edition: Edition,
+    place: u32,
+) -> io::Result<()> {
+    writeln!(out, "  {place} {}", Found(item_at(program, edition, place)))
 }
 
-fn two(before: &[u8], a: u32, b: u32) {
-    number(before, a);
-    number(b" ", b);
-    text(b"\n");
+#[derive(Clone, Copy)]
+struct Found(ItemRead);
+
+impl fmt::Display for Found {
+    fn fmt<W: fmt::Write>(&self, f: &mut fmt::Formatter<W>) -> fmt::Result {
+        match self.0 {
+            ItemRead::Job { number, past } => write!(f, "job {number} {}", past.place),
+            ItemRead::Async { body, past } => write!(f, "async {body} {}", past.place),
+            ItemRead::Finish { body, past } => write!(f, "finish {body} {}", past.place),
+            ItemRead::Fork { left, right, past } => {
+                write!(f, "fork {left} {right} {}", past.place)
+            }
+            ItemRead::Future { body, past } => write!(f, "future {body} {}", past.place),
+            ItemRead::Force { number, past } => write!(f, "force {number} {}", past.place),
+            ItemRead::End { .. } => write!(f, "end"),
+            ItemRead::Refused(refusal) => write!(f, "{}", Refused(refusal)),
+        }
+    }
 }

@@ -3,7 +3,9 @@
 
 use listing::out::list_input;
 use program::Edition;
+use std::io;
 
-fn main() {
-    list_input(Edition::Second);
+// It ends quietly where it cannot read or write.
+fn main(rt: HostRuntime) {
+    let _ = list_input(&mut rt.reader(), &mut io::writer(&rt), Edition::Second);
 }

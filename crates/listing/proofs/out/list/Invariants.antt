@@ -1,7 +1,12 @@
--- A line's length counts bytes of it.
-use Rattle.io.specs.Counts.{IsPrefixLen}
-use Rattle.listing.specs.Lines.{length_of}
+-- What is written and what is still to come make the listing. Each step is counted, and there are 8,192 at most.
+use Prim.Native.Nat.{◌-◌}
+use Rattle.graph.specs.Tables.{lent}
+use Rattle.listing.proofs.ListingLaws.{Going}
 use Rattle.listing.proofs.out.list.Given as goal
 
-abbrev pub invariant-loop-turn : goal.invariant-loop-turn
-invariant-loop-turn l = IsPrefixLen (length_of l.given) l.line
+abbrev pub invariant-loop-step : goal.invariant-loop-step
+invariant-loop-step g l =
+    Going l.edition l.program (g.W.Write.contents l.fn.out) (g.W.Write.contents l.out) (lent l.vertices l.edges l.tally)
+
+abbrev pub decreases-loop-step : goal.decreases-loop-step
+decreases-loop-step g l = 8192 - l.tally.steps
