@@ -79,7 +79,7 @@ pub fn fill_leaps(vertices: &[u32], made: u32, leaps: &mut [u32])
     fill_eightfold(made, USABLE_LIMIT, leaps);
 }
 
-// The first table: single hops.
+// The first table: single hops. Here and in the next a vertex's number is counted along, since it is what is asked for and where it is told.
 fn fill_hops(vertices: &[u32], made: u32, leaps: &mut [u32])
     requires { (vertex_words * made ≤ length vertices.now) × (made ≤ length leaps.old) }
     ensures { HopsAt vertices.now made leaps.new 0 1 made }
