@@ -13,7 +13,7 @@ use graph::rows::{FUTURE, SCOPE, USABLE_LIMIT, VERTEX_WORDS};
 use program::ItemRead;
 use program::marked::MarkedProgram;
 
-// A table's word where none is open.
+// A table's word where none is open. An `Option` takes eight bytes for four, and the tables lie on the stack.
 const NONE_OPEN: u32 = 0;
 
 // Three tables one behind the other, with a word for each vertex: where one hop, eight and sixty-four lead.

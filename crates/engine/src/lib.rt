@@ -25,7 +25,7 @@ pub struct LoadDone {
     pub tally: Tally,
 }
 
-// What a step answers: one of the eight things that an accepted step says, or the refusal.
+// What a step answers: one of the eight things that an accepted step says, or the refusal, one enum as the customer wants it (docs/DECISIONS.md, "Form").
 #[derive(Clone, Copy)]
 pub enum Answer {
     Start,
@@ -85,7 +85,8 @@ pub struct Own {
 }
 
 // What is due at a step of a vertex: a refusal, before any command; a job, with its number and offset; or a single command of the
-// calculus. With the last two comes what the vertex's own words are afterwards.
+// calculus. With the last two comes what the vertex's own words are afterwards. A `Result` of a job or a command would be no plainer: one `match` does
+// what is due, whichever it is.
 #[derive(Clone, Copy)]
 pub enum Due {
     Refused(Reason),

@@ -44,7 +44,7 @@ pub(crate) fn move_sources(edges: &mut [u32], held: usize, from: u32, to: u32)
     }
 }
 
-// The first edge out of `vertex`, or `held` where none is.
+// The first edge out of `vertex`, or `held` where none is, from which on its callers look at the rows behind.
 fn first_out_of(edges: &[u32], held: usize, vertex: u32) -> usize
     requires { edge_words * held ≤ length edges.now }
     ensures { FirstOutOf vertex edges.now held result }

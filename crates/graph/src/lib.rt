@@ -67,7 +67,8 @@ pub struct OpenDone {
     pub tally: Tally,
 }
 
-// What a single command answers.
+// What a single command answers. The refusal is one of its cases, as the customer wants a step's answer (docs/DECISIONS.md, "Form"), which says
+// whatever a command can.
 #[derive(Clone, Copy, Debug, PartialEq, Eq)]
 pub enum Answer {
     Start,

@@ -39,6 +39,7 @@ pub const VERTEX_TABLE: usize = VERTEX_WORDS * USABLE_LIMIT;
 
 pub const EDGE_TABLE: usize = EDGE_WORDS * USABLE_LIMIT;
 
+// The statuses are words of a table that hosts lend, where any other number may stand: no enum.
 pub const NEW: u32 = 1;
 
 pub const RELEASED: u32 = 2;

@@ -95,7 +95,8 @@ fn new_edge(
     Ok(opening_nobody(Answer::Edge(source, target), one_more_edge(course)))
 }
 
-// The refusals that an edge's ends cause: 20, 33, which spares the caller.
+// The refusals that an edge's ends cause: 20, 33, which spares the caller. Here and below, the tests are those of graph's `SoundTables`, but over the
+// lists of the index and with what a walk knows left out, which saves a step of a run its scans.
 #[inline(always)]
 pub(crate) fn ends_refusal(
     vertices: &[u32],

@@ -4,7 +4,7 @@ use graph::rows::{EDGE_WORDS, USABLE_LIMIT};
 
 pub const ROW_LIMIT: usize = 2 * USABLE_LIMIT;
 
-// The source of a dropped row: the vertex behind the last usable one.
+// The source of a dropped row: the vertex behind the last usable one. A number, since it stands among the index's words.
 pub const NOWHERE: u32 = 1024;
 
 // For each vertex, `NOWHERE` too, its last row in.

@@ -20,7 +20,8 @@ pub struct Course {
     pub peak: u32,
 }
 
-// The result of a command: its answer, the course afterwards, and between which numbers the vertices lie that may step now and could not before.
+// The result of a command: its answer, the course afterwards, and between which numbers the vertices lie that may step now and could not before: of nobody,
+// `NOWHERE` and 0, which min and max leave alone.
 #[derive(Clone, Copy, Debug, PartialEq, Eq)]
 pub struct Changed {
     pub answer: Answer,

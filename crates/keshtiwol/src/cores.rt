@@ -20,7 +20,7 @@ use walks::LastStep;
 use walks::dispatches::dispatch_by_value;
 use walks::runs::run_by_value;
 
-// The numbers of the commands.
+// The numbers of the commands, as hosts in C hand them over (include/keshtiwol.h).
 pub const NEW_TD: u32 = 1;
 
 pub const NEW_EDGE: u32 = 2;
@@ -35,7 +35,7 @@ pub const STOP: u32 = 6;
 
 pub const YIELD: u32 = 7;
 
-// The numbers of the editions.
+// The numbers of the editions, likewise.
 pub const FIRST_EDITION: u32 = 1;
 
 pub const SECOND_EDITION: u32 = 2;

@@ -26,6 +26,7 @@ fn fill<R: Read>(input: &mut R, buffer: &mut [u8]) -> (usize, io::Result<()>)
     ensures bytes { OnOk result.1 (IfSome (R.remaining input.old) (λ bytes. take result.0 buffer.new ≡ take (length buffer.old) bytes)) }
 {
     let mut filled = 0;
+    // No `for`: a read says itself how far it went, and on an error what came before counts.
     while filled < buffer.len() {
         match input.read(&mut buffer[filled..]) {
             Ok(0) => break,

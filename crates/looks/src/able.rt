@@ -48,6 +48,7 @@ impl<'p, 't, 'b> Look<'p, 't, 'b> {
     {
         let made = self.course.tally.made;
         let mut vertex = next_open(self.vertices, self.busy, shut, made, from);
+        // No `for`: which vertex is next is looked for anew, as each turn shuts one.
         while vertex < made {
             if self.can_step(vertex) {
                 return vertex;

@@ -6,7 +6,7 @@ ghost use Rattle.looks.specs.Looking.{is_free, is_open, FirstOpen};
 
 use graph::rows::{EXECUTING, IN_COUNT, RELEASED, STATUS, VERTEX_WORDS};
 
-// The first open vertex from `from` on, or `made` where there is none.
+// The first open vertex from `from` on, or `made` where there is none: with an `Option` each caller, which goes on up to `made`, would turn it into that.
 pub fn next_open(vertices: &[u32], busy: &[u32], shut: &[u32], made: u32, from: u32) -> u32
     requires { (vertex_words * made ≤ length vertices.now) × (made ≤ length shut.now) }
     ensures { FirstOpen vertices.now busy.now shut.now made from result }

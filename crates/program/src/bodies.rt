@@ -20,6 +20,7 @@ impl Reader {
         let mut reader = self;
         let mut here = inside;
         let mut from = 0;
+        // No `for`: each turn goes on behind the item that it read.
         while from < bytes.len() {
             if bytes[from] == END {
                 return Ok(reader.moved(1));
@@ -120,8 +121,8 @@ impl Reader {
             _ => seen,
         };
         Self {
-            place: self.place,
             seen: counted,
+            ..self
         }
     }
 }

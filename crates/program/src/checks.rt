@@ -24,6 +24,7 @@ pub(crate) fn check(program: &[u8], edition: Edition, marks: &mut [u16]) -> bool
         return false;
     }
     let vertices = [0, 0, 1, 2, fork_vertices(1, edition), 2, 1];
+    // Two arrays and a depth: the library has no stack of fixed size, and a pair takes eight bytes for five.
     let mut openers = [0u8; LEVEL_LIMIT as usize];
     let mut behind = [0u32; LEVEL_LIMIT as usize];
     let mut depth: usize = 0;

@@ -1,8 +1,8 @@
 // Reading programs: the bytes of a program to its items, their counts, and the refusals of its writer.
 //
 // `reading::read` reads a whole program, `items::item_at` tells what stands at a place of it. Neither asks anything of the bytes.
-// `ends::mark_ends` tells of every place at once where its body ends; with these ends `items::item_for_looks` and, for the loop of a walk alone,
-// `ends::item_by_ends` tell what stands at a place without a search. `mark_ends` and `item_at` need only know whether the program is read, which
+// `ends::mark_ends` tells of every place at once where its body ends; with these ends `MarkedProgram::item_for_looks` and, for the loop of a walk alone,
+// `MarkedProgram::item_by_ends` tell what stands at a place without a search. `mark_ends` and `item_at` need only know whether the program is read, which
 // `checks::check` tells in one pass.
 #![tactic(auto)]
 

@@ -17,7 +17,7 @@ impl Reader {
     {
         Self {
             place: self.place + bytes,
-            seen: self.seen,
+            ..self
         }
     }
 

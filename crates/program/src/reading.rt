@@ -31,7 +31,7 @@ pub fn edge_rows(items: ItemCounts) -> u64
         + items.forces as u64
 }
 
-// The vertices that so many forks make.
+// The vertices that so many forks make. It and `fork_steps` stand apart, as their definitions do: the paper gives each by itself.
 #[tactic(auto, unfolding(crate::specs::Encodings::fork_vertices))]
 pub(crate) fn fork_vertices(forks: u16, edition: Edition) -> u64
     ensures { (result ≡ fork_vertices edition * forks) × (result ≤ 3 * forks) }

@@ -22,7 +22,7 @@ const LAST_ROW: u32 = 2048;
 const STEPS: usize = ROW_LIMIT + USABLE_LIMIT;
 
 // In place of the next row of a vertex that was not found yet. An `Option` there, or an enum for a root or a row below, takes eight bytes for four, and
-// stack may not rise.
+// the lists lie on the stack (README.md has its size).
 const UNSEEN: u32 = 4294967295;
 
 // A root, with its vertex in the lower bits, stands where other vertices have the row by which they were found.

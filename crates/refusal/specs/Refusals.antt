@@ -1,6 +1,6 @@
 -- docs/ENGINE.md's "Refusals by who causes them", with the customer's words in quotation marks: the one list of their numbers and names.
--- The code's constants (src/lib.rt), the header and the wrappers in Rust and Python have the same names; contracts hold the code's to these,
--- and the hosts' tests compare the others with them.
+-- The cases of the code's `Reason` (src/lib.rt), the header and the wrappers in Rust and Python have the same names; `number` in Reasons holds the
+-- code's to these, and the hosts' tests compare the others with them.
 use Rattle.std.specs.Prelude.{ℕ}
 
 -- THE PROGRAM'S WRITER

@@ -61,7 +61,7 @@ pub struct Rested {
     pub any: bool,
 }
 
-// How a run ends. That, the last step and a dispatch's ending are enums with a case for each answer, as the customer wants them (docs/DECISIONS.md).
+// How a run ends. That, the last step and a dispatch's ending are enums with a case for each answer, as the customer's paper names them (docs/DECISIONS.md, "Form").
 #[derive(Clone, Copy)]
 pub enum Ending {
     Done,

@@ -46,7 +46,7 @@ impl<'a> WalkTables<'a> {
         self.do_due(course, vertex, next)
     }
 
-    // What is due at a step of a vertex that executes.
+    // What is due at a step of a vertex that executes: `ended_due` with the item reader of a walk (`item_by_ends` says why there are two).
     fn due(&self, program: &MarkedProgram, made: u32, vertex: u32) -> Due
         requires { (vertex < made) × (vertex_words * made ≤ length self.now.vertices.now) }
         ensures { DueThere program.now.edition program.now.bytes.now self.now.vertices.now made vertex (due_of result) }

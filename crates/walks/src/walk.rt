@@ -87,6 +87,7 @@ fn walk_on(
         skip: 0,
         shut: false,
     };
+    // No `for`: the count of turns is the count of steps, which is answered.
     while walked.taken < budget {
         if desk.is_full(walked.handed) {
             return walked;
@@ -136,6 +137,7 @@ impl<'a> WalkTables<'a> {
         }
         let mut vertex = self.first_open(desk, shut, made, candidates);
         let mut told = candidates.shut;
+        // No `for`: which vertex is next is looked for anew, as a turn may shut one.
         while vertex < made {
             let moved = self.step(program, course, vertex);
             let answer = moved.answer;
