@@ -24,12 +24,12 @@ fn main(rt: HostRuntime) {
 }
 
 fn all(out: &mut impl Write) -> io::Result<()> {
-    bare(out)?;
-    full(out)?;
-    twice(out)?;
+    script::titled(out, "bare", (3, 2), (4, 1), &script::BARE)?;
+    script::titled(out, "full", (4, 2), (3, 1), &script::FULL)?;
+    script::titled(out, "twice", (4, 0), (2, 1), &script::TWICE)?;
     cycle(out)?;
-    futures(out)?;
-    yields(out)?;
+    script::titled(out, "futures", (6, 2), (1, 0), &script::FUTURES)?;
+    script::titled(out, "yields", (5, 2), (4, 1), &script::YIELDS)?;
     counts::all(out)?;
     short(out)?;
     long(out)?;
@@ -44,27 +44,6 @@ fn all(out: &mut impl Write) -> io::Result<()> {
     all_drawn(out, 600, 1000, true)
 }
 
-fn bare(out: &mut impl Write) -> io::Result<()> {
-    let mut vertices = [77u32; 3 * VERTEX_WORDS + 2];
-    let mut edges = [77u32; 4 * EDGE_WORDS + 1];
-    writeln!(out, "bare")?;
-    script::run(out, &mut vertices, &mut edges, &script::BARE)
-}
-
-fn full(out: &mut impl Write) -> io::Result<()> {
-    let mut vertices = [77u32; 4 * VERTEX_WORDS + 2];
-    let mut edges = [77u32; 3 * EDGE_WORDS + 1];
-    writeln!(out, "full")?;
-    script::run(out, &mut vertices, &mut edges, &script::FULL)
-}
-
-fn twice(out: &mut impl Write) -> io::Result<()> {
-    let mut vertices = [77u32; 4 * VERTEX_WORDS];
-    let mut edges = [77u32; 2 * EDGE_WORDS + 1];
-    writeln!(out, "twice")?;
-    script::run(out, &mut vertices, &mut edges, &script::TWICE)
-}
-
 fn cycle(out: &mut impl Write) -> io::Result<()> {
     let mut vertices = [NEW; 6 * VERTEX_WORDS];
     let mut edges = [1u32, 2, 2, 1, 2, 3, 3, 3, 1, 4, 5, 1, 77, 77];
@@ -74,20 +53,6 @@ fn cycle(out: &mut impl Write) -> io::Result<()> {
     vertices[5 * VERTEX_WORDS + STATUS] = FINISHED;
     writeln!(out, "cycle")?;
     script::run(out, &mut vertices, &mut edges, &script::CYCLE)
-}
-
-fn futures(out: &mut impl Write) -> io::Result<()> {
-    let mut vertices = [77u32; 6 * VERTEX_WORDS + 2];
-    let mut edges = [77u32; EDGE_WORDS];
-    writeln!(out, "futures")?;
-    script::run(out, &mut vertices, &mut edges, &script::FUTURES)
-}
-
-fn yields(out: &mut impl Write) -> io::Result<()> {
-    let mut vertices = [77u32; 5 * VERTEX_WORDS + 2];
-    let mut edges = [77u32; 4 * EDGE_WORDS + 1];
-    writeln!(out, "yields")?;
-    script::run(out, &mut vertices, &mut edges, &script::YIELDS)
 }
 
 fn short(out: &mut impl Write) -> io::Result<()> {
@@ -135,6 +100,6 @@ fn drawn(out: &mut impl Write, seed: u32, repeats: bool) -> io::Result<()> {
     let d = d.next();
     let m = draw::length(d, edges.len(), 200);
     let command = draw::command(d, &edges, tally.held, repeats);
-    script::call(out, &mut vertices[..n], &mut edges[..m], tally, command)?;
+    script::command(out, &mut vertices[..n], &mut edges[..m], tally, command)?;
     Ok(())
 }

@@ -17,7 +17,7 @@ fn stop(out: &mut impl Write, vertices: &mut [u32], edges: &mut [u32]) -> io::Re
         held: USED as u32,
         steps: 0,
     };
-    script::call(out, vertices, edges, tally, Command::Stop { caller: 0 })?;
+    script::command(out, vertices, edges, tally, Command::Stop { caller: 0 })?;
     Ok(())
 }
 

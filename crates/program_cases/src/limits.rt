@@ -11,15 +11,15 @@ use std::io::Write;
 const ROOM: usize = 4097;
 
 pub(crate) fn all(out: &mut impl Write) -> io::Result<()> {
-    nested(out, 31, 63)?;
-    openers(out, 32)?;
-    nested(out, 32, 65)?;
-    nested_futures(out, 31, 63)?;
-    nested_futures(out, 32, 65)?;
-    asyncs(out, 1022, 2045)?;
-    asyncs(out, 1023, 2047)?;
-    futures(out, 511, 1023)?;
-    futures(out, 512, 1025)?;
+    repeated(out, "nested", ASYNC, 1, 31, 63)?;
+    repeated(out, "openers", ASYNC, 1, 32, 32)?;
+    repeated(out, "nested", ASYNC, 1, 32, 65)?;
+    repeated(out, "nested futures", FUTURE, 1, 31, 63)?;
+    repeated(out, "nested futures", FUTURE, 1, 32, 65)?;
+    repeated(out, "asyncs", ASYNC, 2, 1022, 2045)?;
+    repeated(out, "asyncs", ASYNC, 2, 1023, 2047)?;
+    repeated(out, "futures", FUTURE, 2, 511, 1023)?;
+    repeated(out, "futures", FUTURE, 2, 512, 1025)?;
     forces(out, 1020, 2043)?;
     forces(out, 1021, 2045)?;
     forks(out, 340, 0, 1020)?;
@@ -35,43 +35,21 @@ pub(crate) fn all(out: &mut impl Write) -> io::Result<()> {
     jobs(out, 4097)
 }
 
-// Openers of asyncs, and end bytes up to this length.
-fn nested(out: &mut impl Write, openers: usize, length: usize) -> io::Result<()> {
+// Openers of asyncs or of futures, each `step` bytes behind the one before it, and end bytes up to this length. Where `step` is 1 each holds
+// the next, and where it is 2 each has an empty body.
+fn repeated(
+    out: &mut impl Write,
+    title: &str,
+    opener: u8,
+    step: usize,
+    count: usize,
+    length: usize,
+) -> io::Result<()>
+    requires { 0 < step }
+{
     let mut bytes = [0u8; ROOM];
-    fill(&mut bytes, 1, openers, ASYNC);
-    write!(out, "nested {openers}")?;
-    part(out, &bytes, length)
-}
-
-// The same with futures.
-fn nested_futures(out: &mut impl Write, openers: usize, length: usize) -> io::Result<()> {
-    let mut bytes = [0u8; ROOM];
-    fill(&mut bytes, 1, openers, FUTURE);
-    write!(out, "nested futures {openers}")?;
-    part(out, &bytes, length)
-}
-
-// Openers of asyncs and nothing else.
-fn openers(out: &mut impl Write, count: usize) -> io::Result<()> {
-    let mut bytes = [0u8; ROOM];
-    fill(&mut bytes, 1, count, ASYNC);
-    write!(out, "openers {count}")?;
-    part(out, &bytes, count)
-}
-
-// Asyncs with an empty body.
-fn asyncs(out: &mut impl Write, count: usize, length: usize) -> io::Result<()> {
-    let mut bytes = [0u8; ROOM];
-    fill(&mut bytes, 2, count, ASYNC);
-    write!(out, "asyncs {count}")?;
-    part(out, &bytes, length)
-}
-
-// Futures with an empty body.
-fn futures(out: &mut impl Write, count: usize, length: usize) -> io::Result<()> {
-    let mut bytes = [0u8; ROOM];
-    fill(&mut bytes, 2, count, FUTURE);
-    write!(out, "futures {count}")?;
+    fill(&mut bytes, step, count, opener);
+    write!(out, "{title} {count}")?;
     part(out, &bytes, length)
 }
 
