@@ -3,8 +3,9 @@
 
 #![tactic(auto)]
 
-ghost use Rattle.std.specs.Prelude.{◌≡◌};
+ghost use Rattle.std.specs.Prelude.{◌≡◌, Some};
 ghost use Rattle.refusal.specs.Reasons.{number, at_no_place};
+ghost use Rattle.refusal.specs.Words.{reason_words};
 
 use std::error::Error;
 use std::fmt;
@@ -62,6 +63,8 @@ impl Reason {
 }
 
 impl fmt::Display for Reason {
+    ghost output = { λ r. Some (reason_words r) };
+
     fn fmt<W: fmt::Write>(&self, f: &mut fmt::Formatter<W>) -> fmt::Result {
         f.write_str(match self {
             Reason::LengthOutside => "the program has no bytes or more than 4,096",

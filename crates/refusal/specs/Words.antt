@@ -1,0 +1,37 @@
+-- The words that each reason is shown with.
+use Rattle.std.specs.Prelude.{ℕ, List, codes}
+use Rattle.refusal.specs.declared.Reason.{Reason}
+use Rattle.refusal.specs.declared.Reason.TheVariants.{LengthOutside, NumberMalformed, ByteUnknown, LevelTooDeep, BytesRunOut, BytesAfterEnd, JobTooLarge, TooManyVertices, NoSuchFuture, TooFewVertexRows, TooFewEdgeRows, UnsoundTables, NothingStarts, NoSuchVertex, EdgeLeadsIn, VertexIsNew, VertexIsFinished, VertexIsExecuting, CallerNotExecuting, NoVertexRow, NoEdgeRow, TargetNotWaiting, ClosesCycle, ReleaseNotNew, TransferNotNew, TransferHasEdgeOut, NoChain, ListTooShort, BusyTableTooShort, NoSuchEdition, NoSuchCommand}
+
+abbrev pub reason_words : Reason → List ℕ
+reason_words LengthOutside = codes "the program has no bytes or more than 4,096"
+reason_words NumberMalformed = codes "a number is longer than five bytes or not in its shortest form"
+reason_words ByteUnknown = codes "an item's first byte is above 6"
+reason_words LevelTooDeep = codes "a body is at level 33"
+reason_words BytesRunOut = codes "the bytes run out"
+reason_words BytesAfterEnd = codes "bytes come after the end"
+reason_words JobTooLarge = codes "a number is above 4,294,967,295"
+reason_words TooManyVertices = codes "the program makes more than 1,024 vertices"
+reason_words NoSuchFuture = codes "no such future is open"
+reason_words TooFewVertexRows = codes "too few vertex rows are lent"
+reason_words TooFewEdgeRows = codes "too few edge rows are lent"
+reason_words UnsoundTables = codes "tally and tables don't fit together, or 8,192 steps were taken"
+reason_words NothingStarts = codes "no item can be read at the vertex's place, its phase is past the item, or its words lead to no future"
+reason_words NoSuchVertex = codes "there is no such vertex"
+reason_words EdgeLeadsIn = codes "something must finish before this vertex starts"
+reason_words VertexIsNew = codes "the vertex is not released yet"
+reason_words VertexIsFinished = codes "the vertex is finished"
+reason_words VertexIsExecuting = codes "the vertex executes already"
+reason_words CallerNotExecuting = codes "the caller is not executing"
+reason_words NoVertexRow = codes "no vertex row is left"
+reason_words NoEdgeRow = codes "no edge row is left"
+reason_words TargetNotWaiting = codes "the edge's target executes or is finished"
+reason_words ClosesCycle = codes "this would close a cycle"
+reason_words ReleaseNotNew = codes "only a new vertex is released"
+reason_words TransferNotNew = codes "edges are handed to a new vertex only"
+reason_words TransferHasEdgeOut = codes "the vertex that would get the edges has one already"
+reason_words NoChain = codes "no chain of held edges leads from the target back to the source"
+reason_words ListTooShort = codes "the chain has more vertices than the list has words"
+reason_words BusyTableTooShort = codes "the table of marks has fewer words than the vertex table has rows"
+reason_words NoSuchEdition = codes "no edition has this number"
+reason_words NoSuchCommand = codes "no command has this number"
