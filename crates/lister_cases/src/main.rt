@@ -3,7 +3,7 @@
 #![tactic(auto)]
 
 use cases::program_line;
-use listing::out::list;
+use listing::out::try_list;
 use program::Edition;
 use program::format::PROGRAM_BYTES;
 use std::io;
@@ -51,12 +51,12 @@ fn all(out: &mut impl Write) -> io::Result<()> {
     for program in IN_THE_FIRST {
         write!(out, "edition 1 ")?;
         program_line(out, program)?;
-        list(out, program, Edition::First)?;
+        try_list(out, program, Edition::First)?;
     }
     for program in IN_THE_SECOND {
         write!(out, "edition 2 ")?;
         program_line(out, program)?;
-        list(out, program, Edition::Second)?;
+        try_list(out, program, Edition::Second)?;
     }
     let too_long = [0u8; PROGRAM_BYTES + 1];
     writeln!(out, "edition 2 program of {} bytes", too_long.len())?;

@@ -6,6 +6,18 @@ use lib.ListN.{length, length-append}
 use Rattle.machine.specs.Answers.{StepSaid}
 use Rattle.listing.specs.Text.{answer_text, step_words, step_text, refused_words, refusal_text, heading_words, heading_text}
 use Rattle.listing.proofs.NumeralLaws.{numeral_short, numeral_longer}
+use mathlib.Core.Path.{◌≡◌, sym, ap}
+use Rattle.std.specs.Prelude.{Result, Ok, Err, IsErrAnd}
+use Rattle.graph.specs.declared.Tally.{Tally}
+use Rattle.refusal.specs.declared.Reason.{Reason}
+use Rattle.refusal.specs.declared.Refusal.{Refusal}
+use Rattle.refusal.specs.Reasons.{number}
+use Rattle.listing.specs.declared.text.Heading.{Heading}
+use Rattle.program.specs.Trees.{Counts}
+use Rattle.program.specs.declared.Edition.{Edition}
+use Rattle.program.specs.declared.Edition.TheVariants.{First, Second}
+use Rattle.program.specs.Encodings.{vertex_formula, step_formula, fork_vertices, fork_steps}
+use Rattle.listing.specs.Lines.{first_text}
 
 -- every number of an answer is below 2 ^ 32
 abbrev pub Small : StepSaid → Type 0
@@ -45,3 +57,21 @@ refusal_short n p small few = simp length-append (omega (arith, refused_short n 
 pub heading_short : (v w n : ℕ) → v < 10 ^ 12 → w < 2 ^ 32 → n < 10 ^ 12 → length (heading_text v w n) ≤ 64
 unfolding heading_words
 heading_short v w n vertices jobs steps = simp length-append (omega (arith, numeral_longer v vertices, numeral_short w jobs, numeral_longer n steps))
+
+number_small : (r : Reason) → number r < 2 ^ 32
+number_small r = grind arith
+
+-- a first line that is a refusal
+pub refusal_line_short :
+    (line : Result (Heading × Tally) Refusal) (r : Refusal) → IsErrAnd line (λ (e : Refusal). e ≡ r) → r.place < 2 ^ 32
+    → length (first_text line) ≤ 64
+refusal_line_short (Ok x) r h few = absurd h
+refusal_line_short (Err e) r h few = refusal_short (number e.reason) e.place (number_small e.reason) (rw (ap (λ (x : Refusal). x.place) h) few)
+
+-- a heading of counts that fit their words
+pub counted_short :
+    (ed : Edition) (c : Counts) (v n : ℕ) → v ≡ vertex_formula ed c → n ≡ step_formula ed c → c.w < 65536 → c.a < 65536 → c.f < 65536
+    → c.k < 65536 → c.u < 65536 → c.x < 65536 → length (heading_text v c.w n) ≤ 64
+unfolding fork_vertices fork_steps
+counted_short First c v n made steps w a f k u x = heading_short v c.w n (omega (arith, made)) (omega (arith, w)) (omega (arith, steps))
+counted_short Second c v n made steps w a f k u x = heading_short v c.w n (omega (arith, made)) (omega (arith, w)) (omega (arith, steps))

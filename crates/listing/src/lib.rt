@@ -5,6 +5,7 @@
 pub mod out;
 mod text;
 
+ghost use Rattle.std.specs.Prelude.{◌≤◌, length};
 ghost use Rattle.graph.specs.Tables.{lent};
 ghost use Rattle.listing.specs.Lines.{first_text, next_text, unused, FirstLine, NextLine};
 
@@ -17,7 +18,7 @@ use program::Edition;
 use program::reading::read;
 use refusal::Refusal;
 
-// No line is longer, its end included (proofs/LineLengths.antt).
+// No line is longer, its end included.
 pub const LINE_BYTES: usize = 64;
 
 // Loads a program. The line is the heading, with the tally with which the next one is asked for, or the refusal.
@@ -27,7 +28,8 @@ pub fn first_line(
     edges: &mut [u32],
     edition: Edition,
 ) -> Result<(Heading, Tally), Refusal>
-    ensures { FirstLine edition program.now (unused vertices.old edges.old) result (first_text result) vertices.new edges.new }
+    ensures line { FirstLine edition program.now (unused vertices.old edges.old) result (first_text result) vertices.new edges.new }
+    ensures short { length (first_text result) ≤ LINE_BYTES }
 {
     let items = read(program, edition)?;
     let nothing = Tally {
@@ -49,12 +51,12 @@ pub fn next_line(
     tally: Tally,
     edition: Edition,
 ) -> Option<(Step, Tally)>
-    ensures { NextLine edition program.now (lent vertices.old edges.old tally) result (next_text result) vertices.new edges.new }
+    ensures line { NextLine edition program.now (lent vertices.old edges.old tally) result (next_text result) vertices.new edges.new }
+    ensures short { length (next_text result) ≤ LINE_BYTES }
 {
     let Ok(Some(vertex)) = lowest_vertex(program, vertices, edges, tally, edition) else {
         return None;
     };
     let done = step_by_value(program, vertices, edges, tally, edition, vertex);
-    let answer = done.answer;
-    Some((Step { vertex, answer }, done.tally))
+    Some((Step::of(vertex, done.answer), done.tally))
 }

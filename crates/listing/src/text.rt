@@ -1,12 +1,13 @@
 // The lister's lines: a heading, a step, and a refused program. Each is shown as specs/Text.antt has it, without
 // the line's end.
-ghost use Rattle.std.specs.Prelude.{◌≡◌, Some};
+ghost use Rattle.std.specs.Prelude.{◌≡◌, ◌≤◌, Some, length};
 ghost use Rattle.refusal.specs.Reasons.{number};
 ghost use Rattle.program.specs.Encodings.{vertex_formula, step_formula};
 ghost use Rattle.program.specs.Answers.{item_counts};
 ghost use Rattle.engine.specs.Answers.{said};
-ghost use Rattle.listing.specs.Text.{answer_text, heading_words, refused_words, step_words};
+ghost use Rattle.listing.specs.Text.{answer_text, heading_text, heading_words, refused_words, step_text, step_words};
 
+use crate::LINE_BYTES;
 use engine::Answer;
 use program::reading::{steps, vertices};
 use program::{Edition, ItemCounts};
@@ -27,6 +28,7 @@ impl Heading {
         ensures vertices { result.vertices ≡ vertex_formula edition (item_counts items) }
         ensures jobs { result.jobs ≡ items.jobs }
         ensures steps { result.steps ≡ step_formula edition (item_counts items) }
+        ensures short { length (heading_text result.vertices result.jobs result.steps) ≤ LINE_BYTES }
     {
         Self {
             vertices: vertices(items, edition),
@@ -55,6 +57,16 @@ impl fmt::Display for Heading {
 pub struct Step {
     pub vertex: u32,
     pub answer: Answer,
+}
+
+impl Step {
+    #[tactic(auto, using(crate::proofs::LineLengths::step_short))]
+    pub(crate) fn of(vertex: u32, answer: Answer) -> Self
+        ensures is { result ≡ record { vertex = vertex; answer = answer } }
+        ensures short { length (step_text vertex (said answer)) ≤ LINE_BYTES }
+    {
+        Self { vertex, answer }
+    }
 }
 
 impl fmt::Display for Step {

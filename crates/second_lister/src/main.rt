@@ -5,7 +5,6 @@ use listing::out::list_input;
 use program::Edition;
 use std::io;
 
-// It ends quietly where it cannot read or write.
 fn main(rt: HostRuntime) {
-    let _ = list_input(&mut rt.reader(), &mut io::writer(&rt), Edition::Second);
+    list_input(&mut rt.reader(), &mut io::writer(&rt), Edition::Second);
 }

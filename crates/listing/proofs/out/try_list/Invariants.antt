@@ -2,7 +2,7 @@
 use Prim.Native.Nat.{◌-◌}
 use Rattle.graph.specs.Tables.{lent}
 use Rattle.listing.proofs.ListingLaws.{Going}
-use Rattle.listing.proofs.out.list.Given as goal
+use Rattle.listing.proofs.out.try_list.Given as goal
 
 abbrev pub invariant-loop-step : goal.invariant-loop-step
 invariant-loop-step g l =
