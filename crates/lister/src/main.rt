@@ -6,5 +6,5 @@ use program::Edition;
 use std::io;
 
 fn main(rt: HostRuntime) {
-    list_input(&mut rt.reader(), &mut io::writer(&rt), Edition::First);
+    list_input(&mut rt.stdin(), &mut io::writer(&rt), Edition::First);
 }

@@ -6,5 +6,5 @@ use program::Edition;
 use std::io;
 
 fn main(rt: HostRuntime) {
-    list_input(&mut rt.reader(), &mut io::writer(&rt), Edition::Second);
+    list_input(&mut rt.stdin(), &mut io::writer(&rt), Edition::Second);
 }
