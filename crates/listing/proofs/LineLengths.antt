@@ -6,7 +6,7 @@ use lib.ListN.{length, length-append}
 use Rattle.machine.specs.Answers.{StepSaid}
 use Rattle.listing.specs.Text.{answer_text, step_words, step_text, refused_words, refusal_text, heading_words, heading_text}
 use Rattle.listing.proofs.NumeralLaws.{numeral_short, numeral_longer}
-use mathlib.Core.Path.{◌≡◌, sym, ap}
+use mathlib.Core.Path.{◌≡◌, ap}
 use Rattle.std.specs.Prelude.{Result, Ok, Err, IsErrAnd}
 use Rattle.graph.specs.declared.Tally.{Tally}
 use Rattle.refusal.specs.declared.Reason.{Reason}

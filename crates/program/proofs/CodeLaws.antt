@@ -1,5 +1,5 @@
 -- What each path through the small functions comes to: the end of a number, and one more item counted.
-use Prim.Native.Nat.{ℕ, ◌+◌, ◌^◌, ◌<◌, ◌≤◌}
+use Prim.Native.Nat.{ℕ, ◌+◌, ◌<◌, ◌≤◌}
 use mathlib.Core.Path.{◌≡◌, refl, sym, ◌∙◌, ap}
 use mathlib.Core.Bool.{Bool, true, false, cond}
 use mathlib.Core.Logic.{◌⊎◌, ⊎_elim}
@@ -7,12 +7,11 @@ use native.Mathlib.Omega.{arith}
 use lib.Dec.{eqb, ltb}
 use borrow.Author.Tests.{lt-ltb, le-ltb, le-leb, lt-leb, eq-eqb, ne_eqb}
 use Rattle.program.specs.declared.ItemCounts.{ItemCounts}
-use Rattle.program.specs.Limits.{job_limit, program_bytes}
+use Rattle.program.specs.Limits.{job_limit}
 use Rattle.program.specs.Trees.{Counts}
-use Rattle.program.specs.Bytes.{job_byte, async_byte, finish_byte, fork_byte, future_byte, force_byte}
 use Rattle.refusal.specs.Refusals.{number_malformed, job_too_large}
 use Rattle.program.specs.Answers.{item_counts}
-use Rattle.program.specs.Internal.Progress.{NumberProgress, value, number_ended, plus, one_of}
+use Rattle.program.specs.Internal.Progress.{NumberProgress, value, number_ended}
 
 -- what a test that holds chooses
 pub cond_yes : {A : Type 0} {b : Bool} (x y : A) → b ≡ true → x ≡ cond b x y

@@ -11,7 +11,7 @@ use Rattle.program.specs.declared.ItemCounts.{ItemCounts}
 use Rattle.program.specs.declared.Reader.{Reader}
 use Rattle.program.specs.Limits.{job_limit}
 use Rattle.program.specs.Trees.{Counts, Body, job, async, finish, fork, future, force}
-use Rattle.program.specs.Bytes.{end_byte, job_byte, async_byte, finish_byte, fork_byte, future_byte, force_byte}
+use Rattle.program.specs.Bytes.{end_byte, job_byte, async_byte, finish_byte, fork_byte, future_byte}
 use Rattle.program.specs.Bytes.{encode_number, encode, number_size, size}
 use Rattle.program.specs.Reader.{Read, took, refused, number}
 use Rattle.program.specs.Answers.{item_counts, Stands}

@@ -20,7 +20,7 @@ use Rattle.refusal.specs.Reasons.{number as number_of}
 use Rattle.program.specs.Limits.{level_limit}
 use Rattle.program.specs.Claims.{HasNumber}
 use Rattle.program.specs.Trees.{Kind, Body, Item, a_job, a_fork, a_force, with_first, Counts, counts, total, same}
-use Rattle.program.specs.Bytes.{end_byte, job_byte, async_byte, finish_byte, fork_byte, future_byte, force_byte, encode}
+use Rattle.program.specs.Bytes.{job_byte, async_byte, finish_byte, fork_byte, future_byte, force_byte, encode}
 use Rattle.refusal.specs.Refusals.{byte_unknown, level_too_deep, bytes_run_out, no_such_future}
 use Rattle.program.specs.Reader.{Read, took, refused, and_then, take_if, number, kind_of, job_of, force_of, item_of, item, body}
 use Rattle.program.specs.Answers.{item_counts}

@@ -6,8 +6,8 @@ use Rattle.program.specs.declared.Reader.{Reader}
 use Rattle.program.specs.Internal.Progress.{Ready}
 use Rattle.program.specs.Answers.{item_counts}
 use Rattle.program.proofs.ProgressLaws.{passed_on}
-use Rattle.program.proofs.BodyLoop.{along_none, along_ready, along_falls, along_end, along_out, along_stopped, along_room, along_more}
-use Rattle.program.proofs.ItemPaths.{path_out, path_unknown, of_no_kind, opened_falls, opened_ready, opened_few, path_numbered}
+use Rattle.program.proofs.BodyLoop.{along_end, along_out, along_stopped, along_more}
+use Rattle.program.proofs.ItemPaths.{path_out, path_unknown, of_no_kind, opened_falls, path_numbered}
 use Rattle.program.proofs.ItemPaths.{path_stopped, path_one, Opened, first_held, first_few, second_at, second_open, second_ready}
 use Rattle.program.proofs.ItemPaths.{path_second_stopped, second_few, path_two}
 use Rattle.program.proofs.Reader.+body_item.Goals as goal

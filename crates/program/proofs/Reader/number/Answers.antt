@@ -1,5 +1,5 @@
 use Rattle.std.proofs.Common.{arith, ◌∙◌}
-use Rattle.program.proofs.NumberLoop.{after_none, after_more, product_fits, sum_fits, weight_fits, run_out, over, found}
+use Rattle.program.proofs.NumberLoop.{after_none, after_more, run_out, over, found}
 use Rattle.program.proofs.Reader.number.Goals as goal
 
 pub loop-i-init : goal.loop-i-init

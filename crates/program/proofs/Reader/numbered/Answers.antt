@@ -1,5 +1,5 @@
 -- The number is refused, or a job's is counted, or a force's names no open future, or it is counted.
-use Rattle.std.proofs.Common.{ℕ, ◌≡◌, arith, sym}
+use Rattle.std.proofs.Common.{ℕ, ◌≡◌, arith}
 use mathlib.Core.Logic.{inl, inr}
 use Rattle.program.specs.Bytes.{job_byte, force_byte}
 use Rattle.program.specs.Claims.{HasNumber}

@@ -1,8 +1,7 @@
 -- What `position` finds is the number's last byte.
-use Rattle.std.proofs.Common.{ℕ, ◌≡◌, ◌+◌, length, MatchOption, Option, Some, None, subst, rules, tests}
+use Rattle.std.proofs.Common.{rules, tests}
 use Rattle.std.proofs.lemmas.Iterator.{YieldsList-from_slice}
 use Rattle.std.proofs.lemmas.Iterator.Search.{position_from_yields_List}
-use Rattle.program.specs.Internal.Progress.{number_end}
 use Rattle.program.proofs.NumberEnds.{is_last, end_by_position}
 use Rattle.program.proofs.numbers.number_end.Goals as goal
 

@@ -1,5 +1,5 @@
 use Rattle.std.proofs.Common.{arith, sym, ◌∙◌}
-use Rattle.program.proofs.NumberEnds.{told_here, told_before, told_other, told_first}
+use Rattle.program.proofs.NumberEnds.{told_before, told_other, told_first}
 use Rattle.program.proofs.starts.in_number.Goals as goal
 
 pub returns-then-not-opens_number : goal.returns-then-not-opens_number
