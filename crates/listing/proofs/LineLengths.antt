@@ -68,10 +68,23 @@ pub refusal_line_short :
 refusal_line_short (Ok x) r h few = absurd h
 refusal_line_short (Err e) r h few = refusal_short (number e.reason) e.place (number_small e.reason) (rw (ap (λ (x : Refusal). x.place) h) few)
 
--- a heading of counts that fit their words
+-- formulas of counts that fit their words
+vertices_short :
+    (ed : Edition) (c : Counts) → c.a < 65536 → c.f < 65536 → c.k < 65536 → c.u < 65536 → c.x < 65536 → vertex_formula ed c < 10 ^ 12
+unfolding fork_vertices
+vertices_short First c a f k u x = omega arith
+vertices_short Second c a f k u x = omega arith
+
+steps_short :
+    (ed : Edition) (c : Counts) → c.w < 65536 → c.a < 65536 → c.f < 65536 → c.k < 65536 → c.u < 65536 → c.x < 65536
+    → step_formula ed c < 10 ^ 12
+unfolding fork_steps
+steps_short First c w a f k u x = omega arith
+steps_short Second c w a f k u x = omega arith
+
+-- a heading of such counts, whichever edition each number goes by
 pub counted_short :
-    (ed : Edition) (c : Counts) (v n : ℕ) → v ≡ vertex_formula ed c → n ≡ step_formula ed c → c.w < 65536 → c.a < 65536 → c.f < 65536
+    (ed ed' : Edition) (c : Counts) (v n : ℕ) → v ≡ vertex_formula ed c → n ≡ step_formula ed' c → c.w < 65536 → c.a < 65536 → c.f < 65536
     → c.k < 65536 → c.u < 65536 → c.x < 65536 → length (heading_text v c.w n) ≤ 64
-unfolding fork_vertices fork_steps
-counted_short First c v n made steps w a f k u x = heading_short v c.w n (omega (arith, made)) (omega (arith, w)) (omega (arith, steps))
-counted_short Second c v n made steps w a f k u x = heading_short v c.w n (omega (arith, made)) (omega (arith, w)) (omega (arith, steps))
+counted_short ed ed' c v n made steps w a f k u x =
+    heading_short v c.w n (omega (arith, made, vertices_short ed c a f k u x)) (omega (arith, w)) (omega (arith, steps, steps_short ed' c w a f k u x))

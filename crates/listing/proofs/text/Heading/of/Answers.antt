@@ -6,5 +6,5 @@ use Rattle.listing.proofs.text.Heading.of.Goals as goal
 
 pub returns-clause-short : goal.returns-clause-short
 returns-clause-short c =
-    counted_short c.args.edition (item_counts c.args.items) _ _ c.vertices.ensures c.steps.ensures (search rules) (search rules) (search rules)
+    counted_short _ _ (item_counts c.args.items) _ _ c.vertices.ensures c.steps.ensures (search rules) (search rules) (search rules)
     (search rules) (search rules) (search rules)
