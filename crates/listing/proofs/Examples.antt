@@ -1,24 +1,19 @@
 -- Lines of the lister, evaluated.
-use mathlib.Core.Path.{◌≡◌, refl, sym, ◌∙◌}
+use mathlib.Core.Path.{◌≡◌, refl, sym}
 use mathlib.Core.List.{[], ◌∷◌}
 use native.Mathlib.Omega.{arith}
 use Rattle.machine.specs.Answers.{StepSaid}
 use Rattle.listing.specs.Text.{codes, numeral, numeral_by, answer_text, step_words, step_text, refused_words, refusal_text, heading_words, heading_text}
-use Rattle.std.specs.Fmt.{decimal}
-use Rattle.std.proofs.lemmas.Fmt.{decimal_digit, decimal_step}
-use Rattle.listing.proofs.NumeralLaws.{numeral_is}
+use Rattle.listing.proofs.NumeralLaws.{spelled}
 
 -- the codes themselves, once
 a_job : step_text 4 (StepSaid.job 5 3) ≡ 52 ∷ 32 ∷ 106 ∷ 111 ∷ 98 ∷ 32 ∷ 53 ∷ 10 ∷ []
 unfolding step_words answer_text numeral numeral_by
 a_job = refl
 
-largest_shown : decimal 4294967295 ≡ codes "4294967295"
-largest_shown = rw (decimal_step 4294967295 (omega arith) (omega arith), decimal_step 429496729 (omega arith) (omega arith), decimal_step 42949672 (omega arith) (omega arith), decimal_step 4294967 (omega arith) (omega arith), decimal_step 429496 (omega arith) (omega arith), decimal_step 42949 (omega arith) (omega arith), decimal_step 4294 (omega arith) (omega arith), decimal_step 429 (omega arith) (omega arith), decimal_step 42 (omega arith) (omega arith), decimal_digit 4 (omega arith)) refl
-
 -- the largest job number, by its ten digits: its turns are too many to evaluate
 largest_job : numeral 4294967295 ≡ codes "4294967295"
-largest_job = sym (numeral_is 4294967295 (omega arith)) ∙ largest_shown
+largest_job = sym (spelled 4294967295 10 (codes "4294967295") (omega arith, omega arith, λ _. omega arith) refl)
 
 a_heading : heading_text 5 2 21 ≡ codes "vertices 5 jobs 2 steps 21\n"
 unfolding heading_words numeral numeral_by
