@@ -60,5 +60,5 @@ fn all(out: &mut impl Write) -> io::Result<()> {
     }
     let too_long = [0u8; PROGRAM_BYTES + 1];
     writeln!(out, "edition 2 program of {} bytes", too_long.len())?;
-    list(out, &too_long, Edition::Second)
+    try_list(out, &too_long, Edition::Second)
 }
