@@ -8,6 +8,7 @@ import re
 import subprocess
 import sys
 
+LENGTHS = r'^\s*(held|used|made|count|length|tail|links|handed): (u32|usize)\s*$'
 KEYWORDS = set('as break const continue else enum false fn for if impl in let loop match mut pub return self Self struct true use while'.split())
 CODES = r'^\s*(pub(\(crate\))? )?const [A-Z_]+: (u8|u16|u32) = \d+;'
 LINES = {
@@ -104,6 +105,8 @@ def places(commit):
             if len(tokens) >= 20:
                 alike[(kind, tokens)].append((crate, f'{name}:{number}: {kind} {item}'))
         for number, function, parameters, clauses in functions(text):
+            if any(re.search(LENGTHS, it) for it in parameters) and any('&[' in it or '&mut [' in it for it in parameters):
+                yield '6 slices with a length beside them', crate, f'{name}:{number}: {function}'
             if len(parameters) >= 7:
                 yield '5 seven parameters or more', crate, f'{name}:{number}: {function} ({len(parameters)})'
             for clause in clauses:
