@@ -1,5 +1,6 @@
 // What a host may have altered between two calls.
-ghost use Rattle.std.specs.Prelude.{◌≡◌, Some, slice_set};
+ghost use Rattle.std.specs.Prelude.{◌≡◌, ◌<◌, Some, slice_set};
+ghost use Rattle.graph.specs.Tables.{vertex_words, edge_words};
 ghost use Rattle.cases.specs.Changes.{vertices_after, edges_after, tally_after, change_text};
 
 use graph::Tally;
@@ -12,6 +13,30 @@ pub enum Change {
     Vertex { row: u32, word: u32, to: u32 },
     Edge { row: u32, word: u32, to: u32 },
     Tally(Tally),
+}
+
+// A word of a vertex row.
+pub fn vertex(row: u32, word: usize, to: u32) -> Change
+    requires { word < vertex_words }
+    ensures { result ≡ Change.Vertex row word to }
+{
+    Change::Vertex {
+        row,
+        word: word as u32,
+        to,
+    }
+}
+
+// The source or the target of an edge row.
+pub fn edge(row: u32, end: usize, to: u32) -> Change
+    requires { end < edge_words }
+    ensures { result ≡ Change.Edge row end to }
+{
+    Change::Edge {
+        row,
+        word: end as u32,
+        to,
+    }
 }
 
 impl Change {

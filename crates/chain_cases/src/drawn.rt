@@ -92,6 +92,7 @@ fn each(
     requires { (length lists.old ≡ 810) × (length answers.old ≡ 81) }
 {
     let mut now = d;
+    // By number, since a pair's source, target, answer and list are all told by it.
     for k in 0..PAIRS {
         now = now.next();
         let words = now.below(WORDS_BELOW) as usize;

@@ -47,7 +47,7 @@ pub(crate) fn call(
     for word in list {
         write!(out, " {word}")?;
     }
-    writeln!(out, "")
+    writeln!(out)
 }
 
 // With a sum over the list.

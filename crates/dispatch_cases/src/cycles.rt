@@ -2,9 +2,10 @@
 // done.
 use crate::hosts::{Ends, until_done};
 use crate::lent::{Lent, NOTHING};
-use crate::moments::{Desk, LIST, MARKS, both, edge};
+use crate::moments::{Desk, LIST, MARKS, both};
 use crate::programs::{INNER_ASYNC, TWO_ASYNCS};
 use crate::show::Which;
+use cases::changes::edge;
 use graph::rows::{EDGE_WORDS, SOURCE, TARGET, VERTEX_WORDS};
 use program::Edition;
 use std::io;

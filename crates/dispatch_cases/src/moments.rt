@@ -1,11 +1,9 @@
 // Moments of a program, behind a dispatch of so many steps: a word or the tally is altered, vertices are marked, and there is a dispatch with so
 // many words of marks and of the list, and with a budget; then no vertex is marked, and there is another one.
-ghost use Rattle.std.specs.Prelude.{◌<◌};
-
 use crate::lent::{ENOUGH, Lent, NOTHING};
 use crate::programs::{ASYNC, EMPTY, FORK};
 use crate::show::Which;
-use cases::changes::Change;
+use cases::changes::{Change, edge, vertex};
 use graph::Tally;
 use graph::rows::{
     EDGE_WORDS, EXECUTING, FINISHED, IN_COUNT, MADE, NEW, PHASE, PLACE, RELEASED, SOURCE, STATUS,
@@ -290,26 +288,6 @@ fn lends(marked: u32, marks: usize, list: usize, budget: u32) -> Desk {
         marks,
         list,
         budget,
-    }
-}
-
-fn vertex(row: u32, word: usize, to: u32) -> Change
-    requires { word < 9 }
-{
-    Change::Vertex {
-        row,
-        word: word as u32,
-        to,
-    }
-}
-
-pub(crate) fn edge(row: u32, word: usize, to: u32) -> Change
-    requires { word < 2 }
-{
-    Change::Edge {
-        row,
-        word: word as u32,
-        to,
     }
 }
 

@@ -1,10 +1,8 @@
 // The number of edges into each vertex: whether it is true; and moments of a program at which the host has altered such a number, or another
 // word. Then a step of a released vertex looks at the tally and its own row, and any other step, a run and a look at everything.
-ghost use Rattle.std.specs.Prelude.{◌<◌};
-
-use crate::examples::{ASYNC, FORK, edge, loaded, vertex};
+use crate::examples::{ASYNC, FORK, loaded};
 use crate::lent::{Lent, NOTHING};
-use cases::changes::Change;
+use cases::changes::{Change, edge, vertex};
 use graph::Tally;
 use graph::rows::{
     EDGE_WORDS, EXECUTING, FINISHED, IN_COUNT, MADE, NEW, PHASE, RELEASED, SCOPE, SOURCE, STATUS,

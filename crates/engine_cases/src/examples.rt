@@ -5,7 +5,7 @@ ghost use Rattle.std.specs.Prelude.{◌<◌, ◌≤◌};
 use crate::lent::{Lent, NOTHING};
 use crate::show::Which;
 use crate::turns::turned;
-use cases::changes::Change;
+use cases::changes::{Change, edge, vertex};
 use graph::Tally;
 use graph::rows::{
     EDGE_TABLE, EDGE_WORDS, FUTURE, PLACE, SOURCE, TARGET, VERTEX_TABLE, VERTEX_WORDS,
@@ -119,26 +119,6 @@ fn changed(
         lent.alter(change);
     }
     turned(out, &mut lent)
-}
-
-pub(crate) fn vertex(row: u32, word: usize, to: u32) -> Change
-    requires { word < 9 }
-{
-    Change::Vertex {
-        row,
-        word: word as u32,
-        to,
-    }
-}
-
-pub(crate) fn edge(row: u32, word: usize, to: u32) -> Change
-    requires { word < 2 }
-{
-    Change::Edge {
-        row,
-        word: word as u32,
-        to,
-    }
 }
 
 // In `01 01 00` nothing starts at 1.

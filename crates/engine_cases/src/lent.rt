@@ -19,6 +19,7 @@ pub(crate) const NOTHING: Tally = Tally {
     steps: 0,
 };
 
+// `dispatch_cases` has one of its own: in `cases` it would have the programs that need no engine stand on the engine.
 #[derive(Drop)]
 pub(crate) struct Lent<'a> {
     pub program: &'a [u8],

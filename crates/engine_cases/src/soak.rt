@@ -198,6 +198,7 @@ fn groups(program: &mut [u8], at: usize, number: u32) -> usize
     ensures { (at < result) × (result ≤ at + 5) }
 {
     let mut left = number;
+    // By number, since where it ends is the answer.
     for i in 0..5 {
         if left < 128 {
             program[at + i] = left as u8;

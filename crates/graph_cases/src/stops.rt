@@ -28,6 +28,7 @@ fn stretches(out: &mut impl Write, stretch: usize, ahead: usize) -> io::Result<(
     let mut vertices = [NEW; ROWS * VERTEX_WORDS];
     let mut edges = [1u32; ROWS * EDGE_WORDS];
     vertices[STATUS] = EXECUTING;
+    // By number, since both ends of a row are made from it.
     for row in 0..ROWS {
         edges[EDGE_WORDS * row + SOURCE] = ((row / stretch % 2 + ahead) % 2) as u32;
         edges[EDGE_WORDS * row + TARGET] = (row % USED) as u32;

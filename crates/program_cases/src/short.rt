@@ -42,7 +42,7 @@ fn last_bytes(out: &mut impl Write, program: &mut [u8]) -> io::Result<()>
         }
     }
     alike(out, since, u8::MAX, before)?;
-    writeln!(out, "")
+    writeln!(out)
 }
 
 fn alike(out: &mut impl Write, first: u8, last: u8, answer: (u32, u32)) -> io::Result<()> {
