@@ -9,16 +9,6 @@ use program::format::PROGRAM_BYTES;
 use std::io;
 use std::io::{Read, Write};
 
-// Lists the program that the input holds, and ends quietly where it cannot read or write.
-pub fn list_input<R: Read, W: Write>(input: &mut R, out: &mut W, edition: Edition) {
-    let _ = try_list_input(input, out, edition);
-}
-
-// Lists a program, and ends quietly where it cannot write.
-pub fn list<W: Write>(out: &mut W, program: &[u8], edition: Edition) {
-    let _ = try_list(out, program, edition);
-}
-
 // Lists the program that the input holds. One byte more is read than a program may have, so that a longer input is refused. Where reading
 // fails, what was read until then is listed, and the error is handed on.
 pub fn try_list_input<R: Read, W: Write>(
@@ -51,7 +41,7 @@ fn fill<R: Read>(input: &mut R, buffer: &mut [u8]) -> (usize, io::Result<()>)
     (filled, Ok(()))
 }
 
-// The tables have all the rows that any program can need.
+// Lists a program. The tables have all the rows that any program can need.
 pub fn try_list<W: Write>(out: &mut W, program: &[u8], edition: Edition) -> io::Result<()>
     ensures { OnOk result (Lists edition program.now (W.contents out.old) (W.contents out.new)) }
 {
