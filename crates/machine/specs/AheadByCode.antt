@@ -6,14 +6,14 @@ use Rattle.std.specs.Prelude.{ℕ, ◌≡◌, ◌⊎◌}
 use Rattle.program.specs.Located.{Code, end_byte_at, job_at, async_at, finish_at, fork_at, future_at, force_at}
 
 -- the job at p is written in this code
-unfoldable pub Job : Code → ℕ → Type 0
-Job (end_byte_at o) p = ⊥
-Job (job_at o n r) p = (p ≡ o) ⊎ Job r p
-Job (async_at o b r) p = Job b p ⊎ Job r p
-Job (finish_at o b r) p = Job b p ⊎ Job r p
-Job (fork_at o b c r) p = Job b p ⊎ (Job c p ⊎ Job r p)
-Job (future_at o b r) p = Job b p ⊎ Job r p
-Job (force_at o n b r) p = Job r p
+unfoldable pub HasJob : Code → ℕ → Type 0
+HasJob (end_byte_at o) p = ⊥
+HasJob (job_at o n r) p = (p ≡ o) ⊎ HasJob r p
+HasJob (async_at o b r) p = HasJob b p ⊎ HasJob r p
+HasJob (finish_at o b r) p = HasJob b p ⊎ HasJob r p
+HasJob (fork_at o b c r) p = HasJob b p ⊎ (HasJob c p ⊎ HasJob r p)
+HasJob (future_at o b r) p = HasJob b p ⊎ HasJob r p
+HasJob (force_at o n b r) p = HasJob r p
 
 -- all but the bodies of futures, and at a force what a finish around its future's body waits for
 unfoldable pub InA : Code → ℕ → Type 0
@@ -36,9 +36,9 @@ InS (force_at o n b r) p = InA b p ⊎ InS r p
 
 unfoldable pub Pre : Code → ℕ → ℕ → Type 0
 Pre (end_byte_at o) p q = ⊥
-Pre (job_at o n r) p q = ((p ≡ o) × Job r q) ⊎ Pre r p q
+Pre (job_at o n r) p q = ((p ≡ o) × HasJob r q) ⊎ Pre r p q
 Pre (async_at o b r) p q = Pre b p q ⊎ Pre r p q
-Pre (finish_at o b r) p q = (InA b p × Job r q) ⊎ (Pre b p q ⊎ Pre r p q)
-Pre (fork_at o b c r) p q = ((InS b p ⊎ InS c p) × Job r q) ⊎ (Pre b p q ⊎ (Pre c p q ⊎ Pre r p q))
+Pre (finish_at o b r) p q = (InA b p × HasJob r q) ⊎ (Pre b p q ⊎ Pre r p q)
+Pre (fork_at o b c r) p q = ((InS b p ⊎ InS c p) × HasJob r q) ⊎ (Pre b p q ⊎ (Pre c p q ⊎ Pre r p q))
 Pre (future_at o b r) p q = Pre b p q ⊎ Pre r p q
-Pre (force_at o n b r) p q = (InA b p × Job r q) ⊎ Pre r p q
+Pre (force_at o n b r) p q = (InA b p × HasJob r q) ⊎ Pre r p q

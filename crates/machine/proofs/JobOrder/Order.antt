@@ -6,7 +6,7 @@ use mathlib.Core.Option.{Option, none, some}
 use Rattle.program.specs.Located.{Code}
 use Rattle.machine.proofs.GhostMachine.Ghost.{Control, draft, fresh, ready, busy, joining, over, State}
 use Rattle.machine.proofs.GhostMachine.Invariant.{In, Settled, Way}
-unfoldable pub use Rattle.machine.specs.AheadByCode.{Job, InA, InS, Pre}
+unfoldable pub use Rattle.machine.specs.AheadByCode.{HasJob as Job, InA, InS, Pre}
 
 -- the code that a vertex answers for; a draft's is still its maker's
 unfoldable pub holds : Control → Option Code
