@@ -1,4 +1,5 @@
-// The listing of a program in an edition, written into a sink: all of its lines, in order, and nothing else.
+// The listing of a program in an edition, written into a sink or to standard output: all of its lines, in order, and nothing else. What standard
+// input gives and standard output takes no contract can say.
 ghost use Rattle.std.specs.Prelude.{◌≡◌, ◌+◌, ◌≤◌, ◌++◌, IfSome, OnOk, length, take};
 ghost use Rattle.std.specs.Io.KnownBytes.{Appends};
 ghost use Rattle.listing.specs.Listing.{Lists};
@@ -74,8 +75,8 @@ pub fn try_list<W: Write>(out: &mut W, program: &[u8], edition: Edition) -> Resu
     Ok(())
 }
 
-// Writes a line and its end, by one write, so that whoever reads meanwhile sees whole lines. Only a line that is longer than the lister's are
-// would go out in parts.
+// Writes a line and its end by one write, so that whoever reads meanwhile sees whole lines. A line that is longer than any of the lister's would
+// go out in parts.
 fn write_line<W: Write, D: Display>(out: &mut W, line: &D) -> Result<()>
     ensures { OnOk result (IfSome (D.output line.now) (λ bytes. Appends (W.contents out.old) (W.contents out.new) (bytes ++ codes "\n"))) }
 {

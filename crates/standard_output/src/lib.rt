@@ -1,5 +1,5 @@
-// Standard output as a sink, by the same calls of the C library that the crate `io` makes: all that a write is handed goes out by one call of
-// `write`, or by as many as the system asks for. What reaches the reader no contract can say.
+// Standard output as a sink, over the library `io`: what a write is handed goes out by one call of the C library's `write`, or by more where the
+// system takes only a part. No contract can say what reaches whoever reads.
 #![tactic(auto)]
 
 ghost use Rattle.std.specs.Prelude.{◌≡◌, ◌≢◌, IfOk, IfErr, length};
@@ -15,7 +15,7 @@ const STDOUT_FILENO: i32 = 1;
 pub struct StandardOutput;
 
 impl std::io::Write for StandardOutput {
-    // It takes all of the bytes. The error does not say why they were not written, but what failed is not tried again.
+    // It takes all of the bytes, or answers an error. That does not say why, and is none after which `write_all` tries again.
     fn write(&mut self, buf: &[u8]) -> Result<usize>
         ensures bound { WritesAtMost result buf.now }
         ensures whole { IfOk result (λ n. n ≡ length buf.now) }
