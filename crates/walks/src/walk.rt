@@ -16,9 +16,8 @@ ghost use Rattle.walks.specs.Internal.Handing.{SameDesk, SameTables};
 ghost use Rattle.walks.specs.Internal.Walking.{Covers, ShutAsTold, StillCovers, Settles, keeps_shut, Reopens, AttemptedOn};
 ghost use Rattle.walks.specs.Internal.Walking.{WalkedTo, RestsBy, RestsAt};
 
-pub use crate::desk::JOB_WORDS;
-
 use crate::desk::Desk;
+pub use crate::desk::JOB_WORDS;
 use crate::onindex::WalkTables;
 use crate::{Candidates, LastStep, Rested, Taken, Walked};
 use engine::Answer;

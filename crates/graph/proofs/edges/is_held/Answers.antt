@@ -20,8 +20,8 @@ loop-row-preserved c =
     let rows = c.first_rows-row-items.ensures in
     let lt : c.loop-row.row-index < c.args.held = omega (arith, rows.count, c.loop-row-test.true) in
     elim c.else-row-source.branch [
-      else-row-source-via-then-row-source+else-row-target w ↦
+      | else-row-source-via-then-row-source+else-row-target w ↦
           held_other_target _ _ _ _ c.loop-row.invariant (λ e. w.if-row-target.false (rows.word c.loop-row.row-index 1 lt (omega arith) ∙ e))
-    | else-row-source-via-else-row-source w ↦
+      | else-row-source-via-else-row-source w ↦
           held_other_source _ _ _ _ c.loop-row.invariant (λ e. w.if-row-source.false (rows.word c.loop-row.row-index 0 lt (omega arith) ∙ e))
     ]
