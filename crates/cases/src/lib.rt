@@ -12,7 +12,7 @@ ghost use Rattle.cases.specs.Sums.{table_sum};
 
 use graph::Tally;
 use refusal::Refusal;
-use standard_output::StandardOutput;
+use standard_streams::StandardOutput;
 use std::{fmt, io};
 
 // Each byte of a program in two hex digits, with a space before it.

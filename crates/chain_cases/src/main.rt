@@ -12,7 +12,7 @@ ghost use Rattle.std.specs.Prelude.{◌≤◌};
 
 use graph::Tally;
 use graph::rows::{NEW, STATUS, VERTEX_WORDS};
-use standard_output::StandardOutput;
+use standard_streams::StandardOutput;
 use std::io;
 use std::io::Write;
 

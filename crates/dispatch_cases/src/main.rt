@@ -15,7 +15,7 @@ mod moments;
 mod programs;
 mod show;
 
-use standard_output::StandardOutput;
+use standard_streams::StandardOutput;
 use std::io;
 use std::io::Write;
 

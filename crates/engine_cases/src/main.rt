@@ -19,7 +19,7 @@ mod show;
 mod soak;
 mod turns;
 
-use standard_output::StandardOutput;
+use standard_streams::StandardOutput;
 use std::io;
 use std::io::Write;
 

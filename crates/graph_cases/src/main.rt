@@ -15,7 +15,7 @@ use cases::draw::begin;
 use graph::rows::{
     EDGE_TABLE, EDGE_WORDS, EXECUTING, FINISHED, NEW, RELEASED, STATUS, VERTEX_TABLE, VERTEX_WORDS,
 };
-use standard_output::StandardOutput;
+use standard_streams::StandardOutput;
 use std::io;
 use std::io::Write;
 

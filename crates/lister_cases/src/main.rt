@@ -6,7 +6,7 @@ use cases::try_program_line;
 use listing::out::try_list;
 use program::Edition;
 use program::format::PROGRAM_BYTES;
-use standard_output::StandardOutput;
+use standard_streams::StandardOutput;
 use std::io;
 use std::io::Write;
 

@@ -9,19 +9,14 @@ use crate::{LINE_BYTES, Refused, first_line, next_line};
 use graph::rows::{EDGE_TABLE, VERTEX_TABLE};
 use program::Edition;
 use program::format::PROGRAM_BYTES;
-use standard_output::StandardOutput;
+use standard_streams::{StandardInput, StandardOutput};
 use std::fmt::{Display, InlineText, Write as _};
 use std::io::{Read, Result, Write};
 
-// The number of standard input.
-const STDIN_FILENO: i32 = 0;
-
-// Lists the program that standard input holds, to standard output. One byte more is read than a program may have, so that a longer input is
-// refused. Where reading fails, what was read until then is listed.
+// Lists the program that standard input holds, to standard output. Where reading fails, what was read until then is listed, and it ends
+// quietly where it cannot write.
 pub fn list_input(edition: Edition) {
-    let mut input = [0u8; PROGRAM_BYTES + 1];
-    let n = io::read_full(STDIN_FILENO, &mut input);
-    list(&input[..n], edition);
+    let _ = try_list_input(&mut StandardInput::new(), &mut StandardOutput, edition);
 }
 
 // Lists a program to standard output. It ends quietly where it cannot write.

@@ -9,7 +9,7 @@ mod limits;
 mod short;
 mod show;
 
-use standard_output::StandardOutput;
+use standard_streams::StandardOutput;
 use std::io;
 use std::io::Write;
 
