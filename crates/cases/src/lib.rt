@@ -12,6 +12,7 @@ ghost use Rattle.cases.specs.Sums.{table_sum};
 
 use graph::Tally;
 use refusal::Refusal;
+use standard_streams::StandardOutput;
 use std::{fmt, io};
 
 // Each byte of a program in two hex digits, with a space before it.
@@ -62,8 +63,13 @@ impl<'a> fmt::Display for Left<'a> {
     }
 }
 
+// The line with a program's bytes, to standard output. It ends quietly where it cannot write.
+pub fn program_line(program: &[u8]) {
+    let _ = try_program_line(&mut StandardOutput, program);
+}
+
 // The line with a program's bytes.
-pub fn program_line<W: io::Write>(out: &mut W, program: &[u8]) -> io::Result<()>
+pub fn try_program_line<W: io::Write>(out: &mut W, program: &[u8]) -> io::Result<()>
     ensures { OnOk result (Appends (W.contents out.old) (W.contents out.new) (codes "program" ++ bytes_text program.now ++ codes "\n")) }
 {
     writeln!(out, "program{}", Bytes(program))

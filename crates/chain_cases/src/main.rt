@@ -12,6 +12,7 @@ ghost use Rattle.std.specs.Prelude.{◌≤◌};
 
 use graph::Tally;
 use graph::rows::{NEW, STATUS, VERTEX_WORDS};
+use standard_streams::StandardOutput;
 use std::io;
 use std::io::Write;
 
@@ -29,8 +30,8 @@ pub(crate) fn tally(made: u32, held: u32) -> Tally {
 }
 
 // It ends quietly where it cannot write.
-fn main(rt: HostRuntime) {
-    let _ = all(&mut io::writer(&rt));
+fn main() {
+    let _ = all(&mut StandardOutput);
 }
 
 fn all(out: &mut impl Write) -> io::Result<()> {

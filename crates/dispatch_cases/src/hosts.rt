@@ -2,7 +2,7 @@
 use crate::lent::{ENOUGH, Lent, NOTHING};
 use crate::programs;
 use crate::show::{JOB_WORDS, Which};
-use cases::program_line;
+use cases::try_program_line;
 use graph::rows::{EDGE_WORDS, VERTEX_WORDS};
 use program::Edition;
 use std::io;
@@ -43,7 +43,7 @@ pub(crate) fn all(out: &mut impl Write) -> io::Result<()> {
 // On lists of one row, of two rows and a word more, and of five rows. With a list of one row the last job is the only one.
 fn of_program(out: &mut impl Write, program: &[u8], edition: Edition) -> io::Result<()> {
     write!(out, "{} ", Which(edition))?;
-    program_line(out, program)?;
+    try_program_line(out, program)?;
     host(out, program, edition, &mut [9; JOB_WORDS], Ends::All)?;
     host(
         out,

@@ -19,12 +19,13 @@ mod show;
 mod soak;
 mod turns;
 
+use standard_streams::StandardOutput;
 use std::io;
 use std::io::Write;
 
 // It ends quietly where it cannot write.
-fn main(rt: HostRuntime) {
-    let _ = all(&mut io::writer(&rt));
+fn main() {
+    let _ = all(&mut StandardOutput);
 }
 
 fn all(out: &mut impl Write) -> io::Result<()> {

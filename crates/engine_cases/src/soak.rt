@@ -7,7 +7,7 @@ use crate::counts::are_true;
 use crate::editions::other;
 use crate::lent::{Lent, NOTHING};
 use crate::show::Which;
-use cases::program_line;
+use cases::try_program_line;
 use engine::Answer;
 use graph::rows::{EDGE_WORDS, VERTEX_WORDS};
 use program::Edition;
@@ -57,7 +57,7 @@ fn in_each_order(out: &mut impl Write, program: &[u8], seed: u64) -> io::Result<
         Edition::Second
     };
     write!(out, "{} ", Which(edition))?;
-    program_line(out, program)?;
+    try_program_line(out, program)?;
     let needed = match read(program, edition) {
         Ok(items) => steps(items, edition),
         Err(_) => 0,

@@ -2,7 +2,7 @@
 // were answered goes into one sum.
 use crate::lent::Lent;
 use crate::show::{Said, Which};
-use cases::program_line;
+use cases::try_program_line;
 use engine::Answer;
 use graph::Tally;
 use program::Edition;
@@ -19,7 +19,7 @@ pub(crate) fn run(
     edition: Edition,
 ) -> io::Result<()> {
     write!(out, "{} ", Which(edition))?;
-    program_line(out, program)?;
+    try_program_line(out, program)?;
     let mut lent = Lent {
         program,
         edition,

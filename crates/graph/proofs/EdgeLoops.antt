@@ -2,7 +2,7 @@
 -- lowered the in-counts of the others' targets.
 use Prim.Native.Nat.{ℕ, zero, suc, ◌+◌, ◌-◌, ◌*◌, ◌<◌, ◌≤◌}
 use mathlib.Core.Path.{◌≡◌, refl, sym, ◌∙◌, ap, subst}
-use mathlib.Core.Bool.{true, false, ◌&&◌}
+use mathlib.Core.Bool.{true, false}
 use mathlib.Core.List.{List, [], ◌∷◌, ◌++◌, append_assoc}
 use native.Mathlib.Numerals.{add-one}
 use native.Mathlib.Omega.{arith}
@@ -10,11 +10,9 @@ use lib.ListN.{length, get_or, take, drop, set, replicate, length-set}
 use lib.Seq.{take-suc-set, drop-set-lt, drop-drop, get_or-drop, set-get_or}
 use borrow.Author.Tests.{eq-eqb, ne_eqb, eqb-false}
 use Rattle.std.specs.Prelude.{Option, None, Some, MatchOption}
-use Rattle.std.specs.List.{AllWithin, HoldsAt, list_any}
-use lib.Dec.{eqb}
-use Rattle.graph.proofs.FirstRowLaws.{any_of_rows}
+use Rattle.std.specs.List.{AllWithin, HoldsAt}
 use Rattle.std.specs.Option.{unwrap_or}
-use Rattle.graph.specs.Tests.{both, any}
+use Rattle.graph.specs.Tests.{any}
 use Rattle.graph.specs.Internal.FirstRows.{FirstRows}
 use Rattle.graph.specs.Tables.{usable_limit, vertex_words, edge_words, source_word, target_word, source, target, set_edge_word, clear}
 use Rattle.graph.specs.Paths.{holds, leads_out_of}
@@ -22,13 +20,21 @@ use Rattle.graph.specs.Commands.{moved_row, moved, kept, kept_rows, without_edge
 use Rattle.graph.specs.Internal.Gather.{FirstOutOf, Gathered, TargetsFit}
 use Rattle.graph.proofs.TableLaws.{kept_rows_drop, kept_rows_keep, kept_rows_le, kept_drop, kept_keep, lowered_drop, lowered_keep}
 use Rattle.graph.proofs.ClearLaws.{clear_is}
-use Rattle.graph.proofs.TestLaws.{any_none, any_empty, any_at, at_end, both_of, both_true}
+use Rattle.graph.proofs.TestLaws.{any_none, any_empty, any_more, any_at, at_end, both_true, both-false_left, both-false_right}
 use Rattle.graph.proofs.TestLaws.{either-false_left, either-false_right}
 
--- among no rows there is none, and one is found where it stands
+-- among no rows there is none; a row with another source or target is not it; and it is found where it stands
 pub held_none : (e : List ℕ) (a b : ℕ) → holds e 0 a b ≡ false
 unfolding holds
 held_none e a b = any_empty _
+
+pub held_other_source : (e : List ℕ) (i a b : ℕ) → holds e i a b ≡ false → (source e i ≡ a → ⊥) → holds e (i + 1) a b ≡ false
+unfolding holds
+held_other_source e i a b h p = any_more _ i h (both-false_left _ (ne_eqb (source e i) a p))
+
+pub held_other_target : (e : List ℕ) (i a b : ℕ) → holds e i a b ≡ false → (target e i ≡ b → ⊥) → holds e (i + 1) a b ≡ false
+unfolding holds
+held_other_target e i a b h p = any_more _ i h (both-false_right _ (ne_eqb (target e i) b p))
 
 pub held_found : (e : List ℕ) (n i a b : ℕ) → i < n → source e i ≡ a → target e i ≡ b → true ≡ holds e n a b
 unfolding holds
@@ -37,15 +43,6 @@ held_found e n i a b lt p q = sym (any_at _ n i lt (both_true (eq-eqb (source e 
 pub out_none : (e : List ℕ) (t : ℕ) → leads_out_of e 0 t ≡ false
 unfolding leads_out_of
 out_none e t = any_empty _
-
--- an edge, found among the rows
-pub held_of_rows :
-    (e : List ℕ) (n : ℕ) (rows : List (List ℕ)) (a b : ℕ) → FirstRows edge_words e n rows
-    → list_any (λ (row : List ℕ). eqb (get_or row 0 0) a && eqb (get_or row 1 0) b) rows ≡ holds e n a b
-unfolding holds
-held_of_rows e n rows a b are =
-    any_of_rows _ (λ i. both (eqb (source e i) a) (eqb (target e i) b)) rows n
-    (λ i lt. rw (are.word i 0 lt (omega arith), are.word i 1 lt (omega arith)) (both_of (eqb (source e i) a) (eqb (target e i) b))) are.count
 
 -- the first edge out of t, found among the rows
 pub first_of_rows :

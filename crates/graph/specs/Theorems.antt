@@ -3,12 +3,13 @@ use Rattle.std.specs.Prelude.{◌≡◌, true, false, ℕ, ◌<◌, ◌⊎◌, �
 use Rattle.refusal.specs.Refusals.{too_few_vertex_rows, edge_leads_in, closes_cycle}
 use Rattle.graph.specs.declared.Command.{Command}
 use Rattle.graph.specs.declared.Command.TheVariants.{NewEdge, Transfer, Start}
+use Rattle.graph.specs.Tests.{both}
 use Rattle.graph.specs.Tables.{Lent, NEW, RELEASED, EXECUTING, vertex_rows}
 use Rattle.graph.specs.Answers.{CommandSaid, accepted, opening_refused}
 use Rattle.graph.specs.Sound.{sound}
 use Rattle.graph.specs.Paths.{Leads, CycleFree, holds, reaches}
 use Rattle.graph.specs.Commands.{opening, command, start, target_reaches}
-use Rattle.graph.specs.Rules.{Graph, Printed}
+use Rattle.graph.specs.Rules.{Graph, Printed, Unguarded, out_of, resourced, ◌∖◌}
 use Rattle.graph.specs.InCounts.{CountTrue, CountsTrue, ReadsTrue, Commanded, full_search}
 use Rattle.graph.specs.Demand2.{graph, HasStatus, EdgeHeld, EdgeInto, SameBut, UsableOnly, VertexWordOf, EdgeWordOf, Effect, RowFree, NoneTwice, RefusalDue, NoneBefore, NewEdgeCycle, TransferCycle, reasons}
 
@@ -56,6 +57,14 @@ CommandByTheRule =
     → CycleFree (graph s).edge
     → accepted (command c s).answer ≡ true
     → Printed c (graph s) (graph (command c s).after)
+
+-- of the plain union in a transfer's rule the two sets are disjoint, also without the premise "E' cycle-free"
+abbrev pub TransferDisjoint : Type 0
+TransferDisjoint =
+    (G : Graph) (t t' : ℕ) (G' : Graph)
+    → Unguarded (Transfer t t') G G'
+    → (a b : ℕ)
+    → both ((G.edge ∖ out_of G t) a b) (resourced G t t' a b) ≡ false
 
 -- whatever the word that start reads holds, and refused or not, a command changes the words of its rows alone and not the steps
 abbrev pub CommandWordsStay : Type 0

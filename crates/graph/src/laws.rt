@@ -1,5 +1,5 @@
 // The theorems of single commands, each as what a function promises that does nothing: one in proofs/ that no promise named could go unnoticed.
-ghost use Rattle.graph.specs.Theorems.{OpeningRefusedExactly, RefusedOpeningKeeps, OpeningUsableOnly, CommandEffect, CommandAcceptance, CommandByTheRule, CommandWordsStay, CommandRefusedExactly, RefusedCommandKeeps, CommandPlace, CommandNever34, NewEdgeCycleExactly, TransferCycleExactly, StartEdgeInExactly, StaysAcyclic, NoneHeldTwice, StaysSound, HeldAlready, CommandedCountsTrue, StaysTrue, CommandedStart, ReachesDecides, TransferTest};
+ghost use Rattle.graph.specs.Theorems.{OpeningRefusedExactly, RefusedOpeningKeeps, OpeningUsableOnly, CommandEffect, CommandAcceptance, CommandByTheRule, TransferDisjoint, CommandWordsStay, CommandRefusedExactly, RefusedCommandKeeps, CommandPlace, CommandNever34, NewEdgeCycleExactly, TransferCycleExactly, StartEdgeInExactly, StaysAcyclic, NoneHeldTwice, StaysSound, HeldAlready, CommandedCountsTrue, StaysTrue, CommandedStart, ReachesDecides, TransferTest};
 
 // An opening is refused for want of a vertex row alone, and changes nothing then; no word past the usable rows changes.
 pub fn openings()
@@ -9,11 +9,12 @@ pub fn openings()
 {}
 
 // An accepted command changes the graph by its rule and no other word, and on a graph without a cycle a command is accepted exactly where the rule,
-// as it is printed, has a step and any row that it needs is free.
+// as it is printed, has a step and any row that it needs is free. Of the union in a transfer's rule the two sets are disjoint.
 pub fn commands_follow_the_rules()
     ensures effect { CommandEffect }
     ensures acceptance { CommandAcceptance }
     ensures rule { CommandByTheRule }
+    ensures disjoint { TransferDisjoint }
     ensures words { CommandWordsStay }
 {}
 

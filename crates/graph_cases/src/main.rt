@@ -15,12 +15,13 @@ use cases::draw::begin;
 use graph::rows::{
     EDGE_TABLE, EDGE_WORDS, EXECUTING, FINISHED, NEW, RELEASED, STATUS, VERTEX_TABLE, VERTEX_WORDS,
 };
+use standard_streams::StandardOutput;
 use std::io;
 use std::io::Write;
 
 // It ends quietly where it cannot write.
-fn main(rt: HostRuntime) {
-    let _ = all(&mut io::writer(&rt));
+fn main() {
+    let _ = all(&mut StandardOutput);
 }
 
 fn all(out: &mut impl Write) -> io::Result<()> {

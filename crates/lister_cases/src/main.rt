@@ -2,10 +2,11 @@
 // computes the same lines from a model of its own; `stdout` holds them.
 #![tactic(auto)]
 
-use cases::program_line;
+use cases::try_program_line;
 use listing::out::try_list;
 use program::Edition;
 use program::format::PROGRAM_BYTES;
+use standard_streams::StandardOutput;
 use std::io;
 use std::io::Write;
 
@@ -43,19 +44,19 @@ const IN_THE_SECOND: [&[u8]; 6] = [
 ];
 
 // It ends quietly where it cannot write.
-fn main(rt: HostRuntime) {
-    let _ = all(&mut io::writer(&rt));
+fn main() {
+    let _ = all(&mut StandardOutput);
 }
 
 fn all(out: &mut impl Write) -> io::Result<()> {
     for program in IN_THE_FIRST {
         write!(out, "edition 1 ")?;
-        program_line(out, program)?;
+        try_program_line(out, program)?;
         try_list(out, program, Edition::First)?;
     }
     for program in IN_THE_SECOND {
         write!(out, "edition 2 ")?;
-        program_line(out, program)?;
+        try_program_line(out, program)?;
         try_list(out, program, Edition::Second)?;
     }
     let too_long = [0u8; PROGRAM_BYTES + 1];

@@ -2,14 +2,18 @@
 use Prim.Native.Nat.{ℕ, ◌+◌, ◌-◌, ◌≤◌, ◌<◌}
 use mathlib.Core.Path.{◌≡◌, refl, sym, ap, subst, ◌∙◌}
 use mathlib.Core.Bool.{true}
-use mathlib.Core.List.{List, [], ◌++◌, append_assoc, append-nil}
+use mathlib.Core.List.{List, [], ◌∷◌, ◌++◌, append_assoc, append-nil}
 use native.Mathlib.Omega.{arith}
-use Rattle.std.specs.Prelude.{Option, Some, None, Ok, Err}
+use Rattle.std.specs.Prelude.{Option, Some, None, Ok, Err, IfSome}
 use lib.ListN.{length, take}
 use borrow.Rule.Slice.PartMut.{put_mid, post_of}
 use Rattle.std.proofs.Math.Seq.{take-append-add}
 use Rattle.std.proofs.lemmas.List.{length-take-le, take-append-le}
 use Rattle.std.specs.Io.KnownBytes.{Appends, Consumes}
+use Rattle.std.specs.List.{concat, FoldsTo}
+use Rattle.std.specs.Fmt.{WritesText, with_newline}
+use Rattle.std.specs.Fmt.InlineText.{inline_text, IsIntact, AppendsIfIntact}
+use Rattle.std.specs.declared.fmt.InlineText.{InlineText}
 use Rattle.graph.specs.declared.Tally.{Tally}
 use Rattle.graph.specs.Tables.{Lent, lent}
 use Rattle.program.specs.declared.Edition.{Edition}
@@ -21,6 +25,7 @@ use Rattle.listing.specs.declared.text.Step.{Step}
 use Rattle.refusal.specs.declared.Refusal.{Refusal}
 use Rattle.listing.specs.Lines.{first_text, next_text, FirstLine, NextLine}
 use Rattle.listing.proofs.LineLaws.{chosen_counts}
+use Rattle.listing.specs.Text.{codes}
 use Rattle.listing.specs.Listing.{StepLines, no_step, a_step, Lines, refused, listed, all_rows, Lists}
 
 -- What is written so far, and that the lines of the steps from s on complete it.
@@ -120,3 +125,28 @@ filled_more (Some x) (Some y) (Some z) at k n buffer part le few p q =
     let front : take (at + n) (put_mid at k buffer part) ≡ take at buffer ++ take n part = taken_mid at k n buffer part le few in
     p ∙ ap (λ (l : List ℕ). take at buffer ++ l) q ∙ sym (append_assoc (take at buffer) (take n part) z)
     ∙ ap (λ (l : List ℕ). l ++ z) (sym front)
+
+-- A LINE
+-- what is written into a text in parts stands there as a whole
+text_of_parts :
+    {n : ℕ} (s : InlineText n) (parts : List (List ℕ)) (t : InlineText n) → FoldsTo AppendsIfIntact s parts t → AppendsIfIntact s (concat parts) t
+text_of_parts s [] t same intact = (subst IsIntact same intact, ap inline_text (sym same) ∙ sym (append-nil (inline_text s)))
+text_of_parts s (x ∷ parts) t calls intact =
+    let first = calls.1 intact in
+    let rest = text_of_parts calls.0 parts t calls.2 first.0 in
+    (rest.0, rest.1 ∙ ap (λ (l : List ℕ). l ++ concat parts) first.1 ∙ append_assoc (inline_text s) x (concat parts))
+
+-- an empty text that a line and its end were written into
+pub line_shown :
+    {n : ℕ} (s t : InlineText n) (line : Option (List ℕ)) → inline_text s ≡ [] → IsIntact s
+    → WritesText AppendsIfIntact s (with_newline line) t → IfSome line (λ bytes. inline_text t ≡ bytes ++ codes "\n")
+line_shown s t None empty intact wrote = tt
+line_shown s t (Some bytes) empty intact wrote =
+    (text_of_parts s wrote.parts t wrote.calls intact).1 ∙ ap (λ (l : List ℕ). l ++ concat wrote.parts) empty ∙ wrote.whole
+
+-- what a sink holds behind a write of it
+pub line_written :
+    (old new line : Option (List ℕ)) (text handed : List ℕ) → IfSome line (λ bytes. text ≡ bytes ++ codes "\n") → handed ≡ text
+    → Appends old new handed → IfSome line (λ bytes. Appends old new (bytes ++ codes "\n"))
+line_written old new None text handed is same wrote = tt
+line_written old new (Some bytes) text handed is same wrote = subst (Appends old new) (same ∙ is) wrote

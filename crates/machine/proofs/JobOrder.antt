@@ -1,5 +1,5 @@
 -- The order of jobs:
---     Order           which jobs come ahead, by recursion on code, and the invariant of their order
+--     Order           who waits for which jobs, and the invariant of their order
 --     OrderLaws       the laws of this recursion
 --     WaitLaws        what a vertex waits for, and that a job is answered in order
 --     AtHand          where jobs are all that can be done next, a job of which nothing ahead is left is one of them

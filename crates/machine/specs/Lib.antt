@@ -7,6 +7,7 @@
 --     Dispatching "dispatch steps the lowest vertex that can step and is not busy, again and again"
 --     Demand2    the words in which demand 2 is stated of loading, of steps, of runs and of dispatch
 --     Ahead      "Which job comes ahead"
+--     AheadByCode the same by recursion on code
 --     Reached    what can be reached from a loading, and lists of calls
 --     Demand3    demand 3
 --     Traces     traces of an engine, as the contracts of its calls tie them
@@ -21,6 +22,7 @@ pub mod Running
 pub mod Dispatching
 pub mod Demand2
 pub mod Ahead
+pub mod AheadByCode
 pub mod Reached
 pub mod Demand3
 pub mod Traces

@@ -6,12 +6,13 @@ use Rattle.graph.specs.Demand2.{EdgeHeld, UsableOnly}
 use Rattle.graph.specs.InCounts.{CountsTrue, full_search}
 use Rattle.refusal.specs.Refusals.{unsound_tables}
 use Rattle.program.specs.declared.Edition.{Edition}
-use Rattle.program.specs.Trees.{Body, counts}
-use Rattle.program.specs.Located.{located}
+use Rattle.program.specs.Trees.{Body, Kind, counts}
+use Rattle.program.specs.Located.{Code, located}
 use Rattle.program.specs.Reader.{program, reading}
 use Rattle.program.specs.Encodings.{step_formula}
 use Rattle.machine.specs.Answers.{StepSaid, accepted, is_loaded, loading_refused}
-use Rattle.machine.specs.Ahead.{Ahead}
+use Rattle.machine.specs.Ahead.{Way, Apart, Stand, Ahead}
+use Rattle.machine.specs.AheadByCode.{Pre}
 use Rattle.machine.specs.Loading.{load}
 use Rattle.machine.specs.Stepping.{due, step}
 use Rattle.machine.specs.Running.{run, refused as run_refused}
@@ -32,19 +33,60 @@ ReachedDemand3 =
     → (q : Reached ed bytes s₀ answers s)
     → Demand3 ed bytes t q
 
--- of every list of calls, runs and dispatches among them
+-- what a list of calls, runs and dispatches among them, reaches from the loading of these bytes onto s₀
+abbrev pub ReachedByCalls : Edition → List ℕ → Lent → List Call → Type 0
+ReachedByCalls ed bytes s₀ cs =
+    Reached ed bytes s₀ (answers_of ed bytes (load ed bytes s₀).after cs) (leaves_of ed bytes (load ed bytes s₀).after cs)
+
+-- of every such list: it reaches this, and by whatever steps one takes this to be reached, demand 3 holds
 abbrev pub CallsDemand3 : Type 0
 CallsDemand3 =
     (ed : Edition) (bytes : List ℕ) (s₀ : Lent) (cs : List Call)
     → is_loaded (load ed bytes s₀).answer ≡ true
-    → (t : Body) × (reading ed bytes ≡ program t) × (q : Reached ed bytes s₀ (answers_of ed bytes (load ed bytes s₀).after cs) (leaves_of ed bytes (load ed bytes s₀).after cs)) × Demand3 ed bytes t q
+    → (t : Body) × (reading ed bytes ≡ program t) × ReachedByCalls ed bytes s₀ cs × ((q : ReachedByCalls ed bytes s₀ cs) → Demand3 ed bytes t q)
 
--- of every trace of an engine that is tied to the definitions call by call
+-- of every trace of an engine that is tied to the definitions call by call, likewise
 abbrev pub TraceDemand3 : Type 0
 TraceDemand3 =
     (ed : Edition) (bytes : List ℕ) (s₀ : Lent) (cs : List Call) (answers : List StepSaid) (s : Lent)
     → Trace ed bytes s₀ cs answers s
-    → (t : Body) × (reading ed bytes ≡ program t) × (q : Reached ed bytes s₀ answers s) × Demand3 ed bytes t q
+    → (t : Body) × (reading ed bytes ≡ program t) × Reached ed bytes s₀ answers s × ((q : Reached ed bytes s₀ answers s) → Demand3 ed bytes t q)
+
+-- from whatever was reached a list of calls reaches what it answers and leaves
+abbrev pub CallsReached : Type 0
+CallsReached =
+    (ed : Edition) (bytes : List ℕ) (s₀ : Lent) (cs : List Call) (answers : List StepSaid) (s : Lent)
+    → Reached ed bytes s₀ answers s
+    → Reached ed bytes s₀ (answers ++ answers_of ed bytes s cs) (leaves_of ed bytes s cs)
+
+-- and what an engine answers and leaves in a trace is what its calls do
+abbrev pub TraceAnswers : Type 0
+TraceAnswers =
+    (ed : Edition) (bytes : List ℕ) (s₀ : Lent) (cs : List Call) (answers : List StepSaid) (s : Lent)
+    → Trace ed bytes s₀ cs answers s
+    → (answers ≡ answers_of ed bytes (load ed bytes s₀).after cs) × (s ≡ leaves_of ed bytes (load ed bytes s₀).after cs)
+
+-- two bodies of a program with p and q in different items, p in the earlier, are the same from p's item on, and so are the kinds on the way down to p
+abbrev pub ApartOnce : Type 0
+ApartOnce =
+    (t : Body) (p q : ℕ) (c d : Code) (ks ls : List Kind)
+    → Apart Way (located t) p q c ks
+    → Apart Way (located t) p q d ls
+    → (c ≡ d) × (ks ≡ ls)
+
+-- two written jobs are in such a body, in one order or the other, or in two branches of a fork, or they are one
+abbrev pub JobsStand : Type 0
+JobsStand =
+    (t : Body) (p q n n' : ℕ)
+    → Written t p n
+    → Written t q n'
+    → Stand (located t) p q
+
+-- the order of jobs is the one by recursion on code
+abbrev pub AheadIsPre : Type 0
+AheadIsPre =
+    (m : Code) (p q : ℕ)
+    → Ahead m p q ↔ Pre m p q
 
 -- a loading that is refused changes nothing
 abbrev pub RefusedLoadKeeps : Type 0

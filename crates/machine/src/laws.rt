@@ -1,11 +1,27 @@
 // The theorems of the machine, each as what a function promises that does nothing: one in proofs/ that no promise named could go unnoticed.
-ghost use Rattle.machine.specs.Theorems.{ReachedDemand3, CallsDemand3, TraceDemand3, RefusedLoadKeeps, LoadPlace, LoadUsableOnly, StepDoes, StepRefusedExactly, RefusedStepKeeps, StepNever34, StepPlace, EdgesAreNew, RunRan, RunStands, RunPlace, DispatchRan, DispatchStands, HandedAreJobs, MarksOnlySet, NothingWaitsNeedlessly, ReachedCountsTrue, CallsCountsTrue, TraceCountsTrue, ReachedStart, EveryFairOrder, OnwardAnswers, TraceFair, TraceInOrder, NothingWaits, ExamplesComeTrue};
+ghost use Rattle.machine.specs.Theorems.{ReachedDemand3, CallsDemand3, TraceDemand3, CallsReached, TraceAnswers, ApartOnce, JobsStand, AheadIsPre, RefusedLoadKeeps, LoadPlace, LoadUsableOnly, StepDoes, StepRefusedExactly, RefusedStepKeeps, StepNever34, StepPlace, EdgesAreNew, RunRan, RunStands, RunPlace, DispatchRan, DispatchStands, HandedAreJobs, MarksOnlySet, NothingWaitsNeedlessly, ReachedCountsTrue, CallsCountsTrue, TraceCountsTrue, ReachedStart, EveryFairOrder, OnwardAnswers, TraceFair, TraceInOrder, NothingWaits, ExamplesComeTrue};
 
-// Demand 3, of whatever was reached from an accepted loading, of every list of calls, and of every trace of an engine.
+// Demand 3, of whatever was reached from an accepted loading, and so of every list of calls and of every trace of an engine, by whatever steps one takes
+// these to be reached.
 pub fn demand_3()
     ensures reached { ReachedDemand3 }
     ensures calls { CallsDemand3 }
     ensures traces { TraceDemand3 }
+{}
+
+// From whatever was reached a list of calls, runs and dispatches among them, reaches what it answers and leaves, and a trace of an engine answers and
+// leaves what its calls do.
+pub fn calls_are_reached()
+    ensures calls { CallsReached }
+    ensures traces { TraceAnswers }
+{}
+
+// Which job comes ahead: of two jobs one body at most has them in different items, the first in the earlier; two written jobs are in such a body, or
+// in two branches of a fork, or they are one; and the order is the one by recursion on code.
+pub fn which_job_comes_ahead()
+    ensures once { ApartOnce }
+    ensures stand { JobsStand }
+    ensures recursion { AheadIsPre }
 {}
 
 // A loading that is refused changes nothing, and only the refusals of the program's bytes have a place; no word past the usable rows changes.

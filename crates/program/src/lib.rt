@@ -48,7 +48,7 @@ pub struct Reader {
 
 // What a reader carries along into a body, and from item to item: the level of that body, and how many futures are open.
 #[derive(Clone, Copy)]
-pub(crate) struct Inside {
+pub struct Inside {
     pub level: u32,
     pub opened: u32,
 }

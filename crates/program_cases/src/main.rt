@@ -9,12 +9,13 @@ mod limits;
 mod short;
 mod show;
 
+use standard_streams::StandardOutput;
 use std::io;
 use std::io::Write;
 
 // It ends quietly where it cannot write.
-fn main(rt: HostRuntime) {
-    let _ = all(&mut io::writer(&rt));
+fn main() {
+    let _ = all(&mut StandardOutput);
 }
 
 fn all(out: &mut impl Write) -> io::Result<()> {

@@ -17,6 +17,7 @@ ghost use Rattle.walks.specs.Internal.Walking.{Covers, ShutAsTold, StillCovers, 
 ghost use Rattle.walks.specs.Internal.Walking.{WalkedTo, RestsBy, RestsAt};
 
 use crate::desk::Desk;
+pub use crate::desk::JOB_WORDS;
 use crate::onindex::WalkTables;
 use crate::{Candidates, LastStep, Rested, Taken, Walked};
 use engine::Answer;

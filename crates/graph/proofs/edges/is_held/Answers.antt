@@ -1,12 +1,27 @@
--- A row passes the test where it holds the edge.
-use Rattle.std.proofs.Common.{◌∙◌, ◌&&◌, eqb, get_or, rules, tests}
-use Rattle.std.proofs.lemmas.Iterator.{YieldsList-from_slice}
-use Rattle.std.proofs.lemmas.Iterator.Search.{any_from_yields_List}
-use Rattle.graph.proofs.EdgeLoops.{held_of_rows}
+use native.Mathlib.Omega.{arith}
+use Prim.Native.Nat.{◌<◌}
+use mathlib.Core.Path.{sym, ◌∙◌}
+use Rattle.graph.proofs.EdgeLoops.{held_none, held_other_source, held_other_target, held_found}
+use Rattle.graph.proofs.edges.is_held.Goals.{else-row-source-via-then-row-source+else-row-target, else-row-source-via-else-row-source}
 use Rattle.graph.proofs.edges.is_held.Goals as goal
 
-pub returns : goal.returns
-returns c =
-    any_from_yields_List (λ row. eqb (get_or row 0 0) c.args.source && eqb (get_or row 1 0) c.args.target) _ _ _ c.any.ensures.ran
-    (YieldsList-from_slice c.first_rows.result.now cc) (λ x b q k. search (rules, tests))
-    ∙ held_of_rows _ _ c.first_rows.result.now _ _ c.first_rows.ensures
+pub loop-row-init : goal.loop-row-init
+loop-row-init c = held_none _ _ _
+
+pub returns-then-row-target : goal.returns-then-row-target
+returns-then-row-target c =
+    let rows = c.first_rows-row-items.ensures in
+    let lt : c.loop-row.row-index < c.args.held = omega (arith, rows.count, c.loop-row-test.true) in
+    held_found _ _ _ _ _ lt (sym (rows.word c.loop-row.row-index 0 lt (omega arith)) ∙ c.if-row-source.true)
+    (sym (rows.word c.loop-row.row-index 1 lt (omega arith)) ∙ c.if-row-target.true)
+
+pub loop-row-preserved : goal.loop-row-preserved
+loop-row-preserved c =
+    let rows = c.first_rows-row-items.ensures in
+    let lt : c.loop-row.row-index < c.args.held = omega (arith, rows.count, c.loop-row-test.true) in
+    elim c.else-row-source.branch [
+      | else-row-source-via-then-row-source+else-row-target w ↦
+          held_other_target _ _ _ _ c.loop-row.invariant (λ e. w.if-row-target.false (rows.word c.loop-row.row-index 1 lt (omega arith) ∙ e))
+      | else-row-source-via-else-row-source w ↦
+          held_other_source _ _ _ _ c.loop-row.invariant (λ e. w.if-row-source.false (rows.word c.loop-row.row-index 0 lt (omega arith) ∙ e))
+    ]

@@ -11,5 +11,8 @@ returns-clause-acceptance c = Demand2.acceptance
 pub returns-clause-rule : goal.returns-clause-rule
 returns-clause-rule c = Demand2.by_the_rule
 
+pub returns-clause-disjoint : goal.returns-clause-disjoint
+returns-clause-disjoint c = Demand2.transfer_disjoint (λ E. Unit {0})
+
 pub returns-clause-words : goal.returns-clause-words
 returns-clause-words c = Demand2.words_stay

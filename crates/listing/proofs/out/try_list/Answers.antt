@@ -4,16 +4,16 @@ use Rattle.listing.proofs.ListingLaws.{going_first, lists_refusal, going_on, lis
 use Rattle.listing.proofs.out.try_list.Goals as goal
 
 pub returns-in-Err : goal.returns-in-Err
-returns-in-Err g c = on_ok_weaker c.writeln.result (λ wrote. lists_refusal _ _ c.in-Err.refusal c.in-Err.ensures.line wrote) c.writeln.ensures.bytes
+returns-in-Err g c = on_ok_weaker c.write_line.result (λ wrote. lists_refusal _ _ c.in-Err.refusal c.in-Err.ensures.line wrote) c.write_line.ensures
 
 pub loop-step-init : goal.loop-step-init
-loop-step-init g c = going_first _ _ _ _ c.in-Ok.ensures.line c.in_ok-writeln.ensures.bytes
+loop-step-init g c = going_first _ _ _ _ c.in-Ok.ensures.line c.in_ok-write_line.ensures
 
 pub loop-step-smaller : goal.loop-step-smaller
 loop-step-smaller g c = fewer_left _ _ _ c.in-Some.step c.in-Some.after c.in-Some.ensures.line
 
 pub loop-step-preserved : goal.loop-step-preserved
-loop-step-preserved g c = going_on _ c.in-Some.step c.in-Some.after c.loop-step.invariant c.in-Some.ensures.line c.in_ok-writeln-2.ensures.bytes
+loop-step-preserved g c = going_on _ c.in-Some.step c.in-Some.after c.loop-step.invariant c.in-Some.ensures.line c.in_ok-write_line-2.ensures
 
 pub returns : goal.returns
 returns g c = lists_all c.loop-step.invariant c.in_default.ensures.line

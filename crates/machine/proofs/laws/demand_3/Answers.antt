@@ -11,7 +11,9 @@ pub returns-clause-reached : goal.returns-clause-reached
 returns-clause-reached c ed bytes t s₀ answers s r q = demand3 ed bytes t r q
 
 pub returns-clause-calls : goal.returns-clause-calls
-returns-clause-calls c ed bytes s₀ cs h = let (t, r, d) = list_demand3 ed bytes s₀ h cs in (t, r, calls_reached ed bytes s₀ cs (load ed bytes s₀).after (begun h), d)
+returns-clause-calls c ed bytes s₀ cs h =
+    let (t, r, _) = list_demand3 ed bytes s₀ h cs in
+    (t, r, calls_reached ed bytes s₀ cs (load ed bytes s₀).after (begun h), demand3 ed bytes t r)
 
 pub returns-clause-traces : goal.returns-clause-traces
-returns-clause-traces c ed bytes s₀ cs answers s tr = let (t, r, d) = trace_demand3 tr in (t, r, trace_reached tr, d)
+returns-clause-traces c ed bytes s₀ cs answers s tr = let (t, r, _) = trace_demand3 tr in (t, r, trace_reached tr, demand3 ed bytes t r)
