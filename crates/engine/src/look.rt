@@ -1,6 +1,6 @@
 // Looking for the lowest vertex whose step would be accepted. Nothing is stored here.
 ghost use Rattle.std.specs.Prelude.{◌≡◌, true, is_ok, length, ◌+◌, ◌*◌, ◌<◌, ◌≤◌};
-ghost use Rattle.graph.specs.Tables.{lent, vertex_words};
+ghost use Rattle.graph.specs.Tables.{lent, vertex_words, status, EXECUTING};
 ghost use Rattle.graph.specs.OfTables.{lent_of};
 ghost use Rattle.graph.specs.Commands.{command};
 ghost use Rattle.graph.specs.Answers as of_graph;
@@ -66,11 +66,18 @@ fn can_step(program: &MarkedProgram, tables: &SoundTables, vertex: u32) -> bool
     if may_start(vertices, vertex as usize) {
         return true;
     }
-    // Tried as `&&`: room for what is due is then cleared for each vertex, and a look takes a quarter longer.
-    if vertices[VERTEX_WORDS * (vertex as usize) + STATUS] != EXECUTING {
-        return false;
-    }
-    let next = ended_due(program, vertices, tables.tally.made, vertex);
+    vertices[VERTEX_WORDS * (vertex as usize) + STATUS] == EXECUTING
+        && can_go_on(program, tables, vertex)
+}
+
+// A vertex that executes can step: what is due would be accepted. It is called, since as a part of the look's loop it has room for what is due cleared
+// for each vertex, also for those that do not execute: a look at finished ones then takes a third longer.
+#[inline(never)]
+fn can_go_on(program: &MarkedProgram, tables: &SoundTables, vertex: u32) -> bool
+    requires { (tables.now.tally.steps < step_limit) × (vertex < tables.now.tally.made) × (status tables.now.vertices.now vertex ≡ EXECUTING) }
+    ensures { result ≡ can_step program.now.edition program.now.bytes.now (lent_of tables.now) vertex }
+{
+    let next = ended_due(program, tables.vertices, tables.tally.made, vertex);
     would_take(tables, next)
 }
 
