@@ -1,9 +1,10 @@
 -- Each path through the item's reader is a law of ItemPaths.
-use Rattle.std.proofs.Common.{rules, ℕ, List, ◌≡◌, ◌≤◌, ◌+◌, ◌-◌, ◌==◌, false, sym, arith, length}
+use Rattle.std.proofs.Common.{rules, ℕ, List, ◌≡◌, ◌≤◌, ◌+◌, ◌-◌, ◌==◌, false, sym, refl, arith, length, get_or}
+use mathlib.Core.Path.{◌∙◌, ap}
 use mathlib.Core.Logic.{inl, inr}
 use borrow.Author.Tests.{eqb-true, eqb-false}
 use Rattle.program.specs.declared.Reader.{Reader}
-use Rattle.program.specs.Internal.Progress.{Ready}
+use Rattle.program.specs.Internal.Progress.{Ready, plus, one_of}
 use Rattle.program.specs.Answers.{item_counts}
 use Rattle.program.proofs.ProgressLaws.{passed_on}
 use Rattle.program.proofs.BodyLoop.{along_end, along_out, along_stopped, along_more}
@@ -11,7 +12,7 @@ use Rattle.program.proofs.ItemPaths.{path_out, path_unknown, of_no_kind, opened_
 use Rattle.program.proofs.ItemPaths.{path_stopped, path_one, Opened, first_held, first_few, second_at, second_open, second_ready}
 use Rattle.program.proofs.ItemPaths.{path_second_stopped, second_few, path_two}
 use Rattle.program.proofs.Reader.+body_item.Goals as goal
-use Rattle.program.proofs.Reader.+body_item.Goals.{body-then-bytes-from-eq-FUTURE, body-else-bytes-from-eq-FUTURE}
+use Rattle.program.proofs.Reader.+body_item.Goals.{body-then-bytes-from-eq-FUTURE, body-else-bytes-from-eq-FUTURE, item-then-first-eq-FORK+in_ok-behind-in-2-2, item-else-first-eq-FORK}
 
 -- the reader behind an item's first byte
 opens : (level opened : ℕ) (xs : List ℕ) (r o : Reader) → false ≡ (length xs == 0) → Ready r xs × (opened ≤ r.place)
@@ -69,12 +70,13 @@ item-returns-then-is_empty t c =
 
 pub item-returns-in-1 : goal.item-returns-in-1
 item-returns-in-1 t c =
-    let at = opens c.args.inside.level _ _ _ _ c.if-is_empty.ensures c.requires c.moved-behind_first.ensures in
+    let at = opens c.args.inside.level _ _ _ _ c.if-is_empty.ensures c.requires c.moved.ensures in
     path_numbered at (search rules) c.numbered.ensures
 
 pub item-returns-in_default : goal.item-returns-in_default
 item-returns-in_default t c =
-    let at = opens c.args.inside.level _ _ _ _ c.if-is_empty.ensures c.requires c.moved-behind_first.ensures in
+    let behind_first : Reader = record { place = c.args.self.place + 1; seen = c.args.self.seen } in
+    let at = opens c.args.inside.level _ _ _ behind_first c.if-is_empty.ensures c.requires (refl, refl) in
     rw c.refused-in_default.ensures
     (path_unknown at
     (of_no_kind _ (search rules) (search rules) (search rules) (search rules) (search rules) (search rules)))
@@ -89,12 +91,10 @@ pub item-counting-requires : goal.item-counting-requires
 item-counting-requires t c =
     let at = opens c.args.inside.level _ _ _ _ c.if-is_empty.ensures c.requires c.moved-behind_first.ensures in
     let first = first_held at c.in_ok-behind-in-2.behind c.in_ok-behind-in-2.was c.body.ensures in
-    first_few at first
-
-pub item-returns-then-first-ne-FORK : goal.item-returns-then-first-ne-FORK
-item-returns-then-first-ne-FORK t c =
-    let at = opens c.args.inside.level _ _ _ _ c.if-is_empty.ensures c.requires c.moved-behind_first.ensures in
-    path_one at (search rules) (search rules) c.if-first-ne-FORK.true (omega arith) c.in_ok-behind-in-2.was c.body.ensures c.counting.ensures
+    elim c.if-first-eq-FORK.branch [
+      | item-then-first-eq-FORK+in_ok-behind-in-2-2 w ↦ rw w.behind-is (second_few at first w.in_ok-behind-in-2-2.was w.body-then-first-eq-FORK.ensures)
+      | item-else-first-eq-FORK w ↦ rw w.behind-is (first_few at first)
+    ]
 
 pub item-overflow_sub-from : goal.item-overflow_sub-from
 item-overflow_sub-from t c =
@@ -102,20 +102,20 @@ item-overflow_sub-from t c =
     let first = first_held at c.in_ok-behind-in-2.behind c.in_ok-behind-in-2.was c.body.ensures in
     omega (arith, (second_at at first).0)
 
-pub item-slice_bounds-body-count-in-2 : goal.item-slice_bounds-body-count-in-2
-item-slice_bounds-body-count-in-2 t c =
+pub item-slice_bounds-body-count-then-first-eq-FORK : goal.item-slice_bounds-body-count-then-first-eq-FORK
+item-slice_bounds-body-count-then-first-eq-FORK t c =
     let at = opens c.args.inside.level _ _ _ _ c.if-is_empty.ensures c.requires c.moved-behind_first.ensures in
     let first = first_held at c.in_ok-behind-in-2.behind c.in_ok-behind-in-2.was c.body.ensures in
     (second_at at first).1
 
-pub item-slice_bounds-body-start-in-2 : goal.item-slice_bounds-body-start-in-2
-item-slice_bounds-body-start-in-2 t c =
+pub item-slice_bounds-body-start-then-first-eq-FORK : goal.item-slice_bounds-body-start-then-first-eq-FORK
+item-slice_bounds-body-start-then-first-eq-FORK t c =
     let at = opens c.args.inside.level _ _ _ _ c.if-is_empty.ensures c.requires c.moved-behind_first.ensures in
     let first = first_held at c.in_ok-behind-in-2.behind c.in_ok-behind-in-2.was c.body.ensures in
     (second_at at first).1
 
-pub item-body-requires-in-2 : goal.item-body-requires-in-2
-item-body-requires-in-2 t c =
+pub item-body-requires-then-first-eq-FORK : goal.item-body-requires-then-first-eq-FORK
+item-body-requires-then-first-eq-FORK t c =
     let at = opens c.args.inside.level _ _ _ _ c.if-is_empty.ensures c.requires c.moved-behind_first.ensures in
     let first = first_held at c.in_ok-behind-in-2.behind c.in_ok-behind-in-2.was c.body.ensures in (
       opened_falls c.args.bytes.now (c.in_ok-behind-in-2.behind.place - c.args.self.place) _ (omega (arith, (second_at at first).0))
@@ -123,22 +123,28 @@ item-body-requires-in-2 t c =
       (second_ready at first, second_open at first),
     )
 
-pub item-returns-in_err-past-in-2 : goal.item-returns-in_err-past-in-2
-item-returns-in_err-past-in-2 t c =
+pub item-returns-in_err-behind-in-2-2 : goal.item-returns-in_err-behind-in-2-2
+item-returns-in_err-behind-in-2-2 t c =
     let at = opens c.args.inside.level _ _ _ _ c.if-is_empty.ensures c.requires c.moved-behind_first.ensures in
     let first = first_held at c.in_ok-behind-in-2.behind c.in_ok-behind-in-2.was c.body.ensures in
-    rw (passed_on _ _ c.from_residual-in_err-past-in-2.ensures)
-    (path_second_stopped at c.in_err-past-in-2.field-0.0 first c.if-first-ne-FORK.false (omega arith) c.in_err-past-in-2.was
-    c.body-in-2.ensures)
+    rw (passed_on _ _ c.from_residual-in_err-behind-in-2-2.ensures)
+    (path_second_stopped at c.in_err-behind-in-2-2.field-0.0 first c.if-first-eq-FORK.true (omega arith) c.in_err-behind-in-2-2.was
+    c.body-then-first-eq-FORK.ensures)
 
-pub item-counting-requires-in-2 : goal.item-counting-requires-in-2
-item-counting-requires-in-2 t c =
+pub item-returns-after-first-eq-FORK : goal.item-returns-after-first-eq-FORK
+item-returns-after-first-eq-FORK t c =
     let at = opens c.args.inside.level _ _ _ _ c.if-is_empty.ensures c.requires c.moved-behind_first.ensures in
     let first = first_held at c.in_ok-behind-in-2.behind c.in_ok-behind-in-2.was c.body.ensures in
-    second_few at first c.in_ok-past-in-2.was c.body-in-2.ensures
-
-pub item-returns-in_ok-past-in-2 : goal.item-returns-in_ok-past-in-2
-item-returns-in_ok-past-in-2 t c =
-    let at = opens c.args.inside.level _ _ _ _ c.if-is_empty.ensures c.requires c.moved-behind_first.ensures in
-    let first = first_held at c.in_ok-behind-in-2.behind c.in_ok-behind-in-2.was c.body.ensures in
-    path_two at first c.if-first-ne-FORK.false (omega arith) c.in_ok-past-in-2.was c.body-in-2.ensures c.counting-in-2.ensures
+    elim c.if-first-eq-FORK.branch [
+      | item-then-first-eq-FORK+in_ok-behind-in-2-2 w ↦
+          path_two at first w.if-first-eq-FORK.true (omega arith) w.in_ok-behind-in-2-2.was w.body-then-first-eq-FORK.ensures (
+            c.counting.ensures.0 ∙ ap (λ (b : Reader). b.place) w.behind-is,
+            c.counting.ensures.1 ∙ ap (λ (b : Reader). plus (item_counts b.seen) (one_of (get_or c.args.bytes.now 0 0))) w.behind-is
+                ∙ ap (λ (k : ℕ). plus (item_counts w.in_ok-behind-in-2-2.behind.seen) (one_of k)) w.if-first-eq-FORK.true,
+          )
+      | item-else-first-eq-FORK w ↦
+          path_one at (search rules) (search rules) w.if-first-eq-FORK.false (omega arith) c.in_ok-behind-in-2.was c.body.ensures (
+            c.counting.ensures.0 ∙ ap (λ (b : Reader). b.place) w.behind-is,
+            c.counting.ensures.1 ∙ ap (λ (b : Reader). plus (item_counts b.seen) (one_of (get_or c.args.bytes.now 0 0))) w.behind-is,
+          )
+    ]
